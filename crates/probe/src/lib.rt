@@ -1,0 +1,123 @@
+// The cursor's steps for the comparison with the Rust: the record goes in and comes out as plain numbers. No host links this.
+use utf8::cursor::Cursor;
+use utf8::literal;
+use utf8::step;
+ghost use mathlib.Core.Path.{_≡_};
+ghost use Rattle.utf8.specs.Steps.{previousChar, nextChar, eqSB, eqS};
+ghost use Rattle.probe.specs.Flat.{flatStep, flatLiteral, cursorOf};
+
+// A step's answer, laid out flat; ch is 0 for a literal.
+#[repr(C)]
+pub struct ProbeStep {
+    pub moved: bool,
+    pub ch: u32,
+    pub cursor: usize,
+    pub limit: usize,
+    pub limit_backward: usize,
+}
+
+fn flat_step(s: step::Step) -> ProbeStep
+    ensures { λ r. ⌜ r ≡ flatStep s ⌝ }
+{
+    let n = s.next;
+    ProbeStep {
+        moved: s.moved,
+        ch: s.ch,
+        cursor: n.cursor,
+        limit: n.limit,
+        limit_backward: n.limit_backward,
+    }
+}
+
+fn flat_literal(s: literal::Literal) -> ProbeStep
+    ensures { λ r. ⌜ r ≡ flatLiteral s ⌝ }
+{
+    let n = s.next;
+    ProbeStep {
+        moved: s.moved,
+        ch: 0,
+        cursor: n.cursor,
+        limit: n.limit,
+        limit_backward: n.limit_backward,
+    }
+}
+
+#[no_mangle]
+pub extern "C" fn probe_previous_char(
+    w: &[u8],
+    cursor: usize,
+    limit: usize,
+    backward: usize,
+) -> ProbeStep
+    ensures { λ r. ⌜ r ≡ flatStep (previousChar (now (w .entry)) (cursorOf cursor limit backward)) ⌝ }
+{
+    flat_step(step::previous_char(
+        w,
+        Cursor {
+            cursor,
+            limit,
+            limit_backward: backward,
+        },
+    ))
+}
+
+#[no_mangle]
+pub extern "C" fn probe_next_char(
+    w: &[u8],
+    cursor: usize,
+    limit: usize,
+    backward: usize,
+) -> ProbeStep
+    ensures { λ r. ⌜ r ≡ flatStep (nextChar (now (w .entry)) (cursorOf cursor limit backward)) ⌝ }
+{
+    flat_step(step::next_char(
+        w,
+        Cursor {
+            cursor,
+            limit,
+            limit_backward: backward,
+        },
+    ))
+}
+
+#[no_mangle]
+pub extern "C" fn probe_eq_s_b(
+    w: &[u8],
+    s: &[u8],
+    cursor: usize,
+    limit: usize,
+    backward: usize,
+) -> ProbeStep
+    ensures { λ r. ⌜ r ≡ flatLiteral (eqSB (now (w .entry)) (now (s .entry)) (cursorOf cursor limit backward)) ⌝ }
+{
+    flat_literal(literal::eq_s_b(
+        w,
+        s,
+        Cursor {
+            cursor,
+            limit,
+            limit_backward: backward,
+        },
+    ))
+}
+
+#[no_mangle]
+pub extern "C" fn probe_eq_s(
+    w: &[u8],
+    s: &[u8],
+    cursor: usize,
+    limit: usize,
+    backward: usize,
+) -> ProbeStep
+    ensures { λ r. ⌜ r ≡ flatLiteral (eqS (now (w .entry)) (now (s .entry)) (cursorOf cursor limit backward)) ⌝ }
+{
+    flat_literal(literal::eq_s(
+        w,
+        s,
+        Cursor {
+            cursor,
+            limit,
+            limit_backward: backward,
+        },
+    ))
+}

@@ -1,0 +1,42 @@
+-- The UTF-8 check accepts exactly the encodings of scalar values: no surrogate, nothing above U+10FFFF.
+-- Assumes nothing.
+use Prim.Native.Nat.{ℕ, _<_}
+use mathlib.Core.Path.{_≡_, refl, sym, ap, _∙_}
+use mathlib.Core.Bool.{Bool, true, false, _&&_}
+use mathlib.Core.List.{List, [], _∷_, _++_}
+use mathlib.Core.Logic.{_↔_}
+use Rattle.utf8.specs.Scalar.{surrogate, scalar, scalars}
+use Rattle.utf8.specs.Encoding.{encode, encodeAll}
+use Rattle.utf8.specs.Text.{TextOf}
+use Rattle.utf8.specs.Validity.{due, accepts, isText}
+use Rattle.utf8.proofs.Laws.Scalar.{surrogate-not-scalar, above-not-scalar}
+use Rattle.utf8.proofs.Laws.CheckEncoded.{isText-encode}
+use Rattle.utf8.proofs.Laws.CheckAccepted.{isText-encoded}
+
+-- the check on an encoding says whether all its characters are scalar values
+pub isText-encodeAll : (cs : List ℕ) → isText (encodeAll cs) ≡ scalars cs
+unfolding encodeAll scalars isText accepts due
+isText-encodeAll [] = refl
+isText-encodeAll (c ∷ cs) = isText-encode c (encodeAll cs) ∙ ap (λ (t : Bool). scalar c && t) (isText-encodeAll cs)
+
+-- the encoding of scalar values is accepted
+pub encodes-isText : (cs : List ℕ) → scalars cs ≡ true → isText (encodeAll cs) ≡ true
+encodes-isText cs e = isText-encodeAll cs ∙ e
+
+-- what is accepted is the encoding of scalar values
+pub isText-encodes : (w : List ℕ) → isText w ≡ true → TextOf w
+isText-encodes w e =
+    let t = isText-encoded w e in
+    record { chars = t .0; valid = sym (isText-encodeAll (t .0)) ∙ ap isText (t .1) ∙ e; encoded = t .1 }
+
+-- the check accepts exactly the texts
+pub isText-iff : (w : List ℕ) → (isText w ≡ true) ↔ TextOf w
+isText-iff w = (isText-encodes w, λ t. ap isText (sym (t .encoded)) ∙ encodes-isText (t .chars) (t .valid))
+
+-- no surrogate passes, whatever follows its three bytes
+pub surrogate-refused : (c : ℕ) (rest : List ℕ) → surrogate c ≡ true → isText (encode c ++ rest) ≡ false
+surrogate-refused c rest e = isText-encode c rest ∙ rw (surrogate-not-scalar c e)
+
+-- nothing above U+10FFFF passes, whatever follows
+pub above-refused : (c : ℕ) (rest : List ℕ) → 0x10FFFF < c → isText (encode c ++ rest) ≡ false
+above-refused c rest h = isText-encode c rest ∙ rw (above-not-scalar c h)

@@ -1,0 +1,22 @@
+-- What a passed test says of its parts, and how its parts make it pass or fail, for the whole repository. Assumes nothing.
+use mathlib.Core.Path.{_≡_, refl}
+use mathlib.Core.Bool.{Bool, true, false, _&&_, false≢true}
+
+pub and-left : (a b : Bool) → a && b ≡ true → a ≡ true
+and-left true b e = refl
+and-left false b e = e
+
+pub and-right : (a b : Bool) → a && b ≡ true → b ≡ true
+and-right true b e = e
+and-right false b e = absurd (false≢true e)
+
+-- a test that fails on the right fails
+pub and-false : (a : Bool) → a && false ≡ false
+and-false true = refl
+and-false false = refl
+
+-- three tests that pass together pass each
+pub and-each : (a b c : Bool) → a && b && c ≡ true → (a ≡ true) × (b ≡ true) × (c ≡ true)
+and-each true true c e = (refl, refl, e)
+and-each true false c e = absurd (false≢true e)
+and-each false b c e = absurd (false≢true e)

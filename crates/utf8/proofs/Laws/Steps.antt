@@ -1,0 +1,183 @@
+-- The steps' answers, by the tests that decide them. Assumes nothing.
+use Prim.Native.Nat.{ℕ, zero, suc, _+_, _-_, _≤_, _<_}
+use mathlib.Core.Path.{_≡_, refl, sym, ap, ap₂, _∙_}
+use mathlib.Core.Bool.{Bool, true, false, _&&_}
+use mathlib.Core.List.{List, [], _∷_}
+use native.Mathlib.Nat.{add-assoc, add-zero}
+use native.Mathlib.Numerals.{add-one}
+use lib.ListN.{length, take, drop, getD, drop-of-length-le}
+use lib.Seq.{drop-cons}
+use lib.Dec.{leb, ltb, eqb}
+use borrow.Author.Tests.{leb-true, le-leb, lt-leb, lt-ltb, le-ltb, eq-eqb, ne-eqb}
+use Rattle.utf8.specs.declared.cursor.Cursor.{Cursor}
+use Rattle.utf8.specs.declared.step.Step.{Step}
+use Rattle.utf8.specs.declared.literal.Literal.{Literal}
+use Rattle.utf8.specs.Characters.{lastWidth, lastChar, firstWidth, firstChar, charAt}
+use Rattle.utf8.specs.Steps.{stands, moveTo, stay, previousChar, nextChar, same, standsAt, eqSB, eqS}
+use Rattle.utf8.proofs.Laws.CharAt.{take-drop-cons}
+use Rattle.utf8.proofs.Laws.Booleans.{and-left, and-right, and-false}
+
+-- ---- stands ----
+
+-- what it says of a record that it lies within the word
+pub record Within (w : List ℕ) (r : Cursor) : Type 0 where
+  pub low : r .«limit_backward» ≤ r .cursor
+  pub high : r .cursor ≤ r .limit
+  pub end : r .limit ≤ length w
+
+pub stands-within : (w : List ℕ) (r : Cursor) → stands w r ≡ true → Within w r
+unfolding stands
+stands-within w r e =
+    let l : Bool = leb (r .«limit_backward») (r .cursor) in
+    let h : Bool = leb (r .cursor) (r .limit) in
+    record {
+      low = leb-true _ _ (and-left l h (and-left (l && h) (leb (r .limit) (length w)) e));
+      high = leb-true _ _ (and-right l h (and-left (l && h) (leb (r .limit) (length w)) e));
+      end = leb-true _ _ (and-right (l && h) (leb (r .limit) (length w)) e);
+    }
+
+pub stands-low : (w : List ℕ) (r : Cursor) → r .cursor < r .«limit_backward» → stands w r ≡ false
+unfolding stands
+stands-low w r h = rw (lt-leb (r .«limit_backward») (r .cursor) h)
+
+pub stands-high : (w : List ℕ) (r : Cursor) → r .limit < r .cursor → stands w r ≡ false
+unfolding stands
+stands-high w r h = rw (lt-leb (r .cursor) (r .limit) h, and-false (leb (r .«limit_backward») (r .cursor)))
+
+pub stands-end : (w : List ℕ) (r : Cursor) → r .«limit_backward» ≤ r .cursor → r .cursor ≤ r .limit → stands w r ≡ leb (r .limit) (length w)
+unfolding stands
+stands-end w r l h = rw (le-leb (r .«limit_backward») (r .cursor) l, le-leb (r .cursor) (r .limit) h)
+
+-- a record whose places are in order lies within the word
+pub stands-ordered : (w : List ℕ) (r : Cursor) → r .«limit_backward» ≤ r .cursor → r .cursor ≤ r .limit → r .limit ≤ length w → stands w r ≡ true
+unfolding stands
+stands-ordered w r h k l = rw (le-leb (r .«limit_backward») (r .cursor) h, le-leb (r .cursor) (r .limit) k, le-leb (r .limit) (length w) l)
+
+-- ---- previousChar ----
+
+pub previousChar-out : (w : List ℕ) (r : Cursor) → stands w r ≡ false → previousChar w r ≡ stay r
+unfolding previousChar
+previousChar-out w r e = rw e
+
+pub previousChar-stays : (w : List ℕ) (r : Cursor) → r .cursor < r .«limit_backward» + lastWidth w (r .cursor) → previousChar w r ≡ stay r
+unfolding previousChar
+previousChar-stays w r h = rw (lt-leb (r .«limit_backward» + lastWidth w (r .cursor)) (r .cursor) h, and-false (stands w r))
+
+pub previousChar-moves : (w : List ℕ) (r : Cursor) → stands w r ≡ true → r .«limit_backward» + lastWidth w (r .cursor) ≤ r .cursor
+    → previousChar w r ≡ record { moved = true; ch = lastChar w (r .cursor); next = moveTo r (r .cursor - lastWidth w (r .cursor)) }
+unfolding previousChar
+previousChar-moves w r e h = rw (e, le-leb (r .«limit_backward» + lastWidth w (r .cursor)) (r .cursor) h)
+
+-- ---- nextChar ----
+
+pub nextChar-out : (w : List ℕ) (r : Cursor) → stands w r ≡ false → nextChar w r ≡ stay r
+unfolding nextChar
+nextChar-out w r e = rw e
+
+pub nextChar-stays : (w : List ℕ) (r : Cursor) → r .limit < r .cursor + firstWidth w (r .cursor) → nextChar w r ≡ stay r
+unfolding nextChar
+nextChar-stays w r h = rw (lt-leb (r .cursor + firstWidth w (r .cursor)) (r .limit) h, and-false (stands w r))
+
+pub nextChar-moves : (w : List ℕ) (r : Cursor) → stands w r ≡ true → r .cursor + firstWidth w (r .cursor) ≤ r .limit
+    → nextChar w r ≡ record { moved = true; ch = firstChar w (r .cursor); next = moveTo r (r .cursor + firstWidth w (r .cursor)) }
+unfolding nextChar
+nextChar-moves w r e h = rw (e, le-leb (r .cursor + firstWidth w (r .cursor)) (r .limit) h)
+
+-- ---- standsAt ----
+
+-- one byte of the literal, and the rest of it one place on
+standsAt-cons : (w : List ℕ) (j b : ℕ) (s : List ℕ) → j < length w → standsAt w j (b ∷ s) ≡ eqb (getD w j 0) b && standsAt w (j + 1) s
+unfolding standsAt same
+standsAt-cons w j b s h = rw (take-drop-cons w j (length s) h)
+
+-- the same at the literal's k-th byte
+standsAt-at : (w : List ℕ) (i k : ℕ) (s : List ℕ) → k < length s → i + k < length w
+    → standsAt w (i + k) (drop k s) ≡ eqb (getD w (i + k) 0) (getD s k 0) && standsAt w (i + (k + 1)) (drop (k + 1) s)
+standsAt-at w i k s l h =
+    ap (standsAt w (i + k)) (drop-cons s k 0 l) ∙ standsAt-cons w (i + k) (getD s k 0) (drop (suc k) s) h
+    ∙ ap₂ (λ (m n : ℕ). eqb (getD w (i + k) 0) (getD s k 0) && standsAt w m (drop n s)) (add-assoc i k 1) (sym (add-one k))
+
+pub standsAt-differs : (w : List ℕ) (i k : ℕ) (s : List ℕ) → k < length s → i + k < length w → (getD w (i + k) 0 ≡ getD s k 0 → ⊥)
+    → standsAt w (i + k) (drop k s) ≡ false
+standsAt-differs w i k s l h d = standsAt-at w i k s l h ∙ rw (ne-eqb (getD w (i + k) 0) (getD s k 0) d)
+
+pub standsAt-next : (w : List ℕ) (i k : ℕ) (s : List ℕ) → k < length s → i + k < length w → getD w (i + k) 0 ≡ getD s k 0
+    → standsAt w (i + (k + 1)) (drop (k + 1) s) ≡ standsAt w (i + k) (drop k s)
+standsAt-next w i k s l h e = sym (standsAt-at w i k s l h ∙ rw (eq-eqb (getD w (i + k) 0) (getD s k 0) e))
+
+pub standsAt-start : (w : List ℕ) (i : ℕ) (s : List ℕ) → standsAt w (i + 0) (drop 0 s) ≡ standsAt w i s
+standsAt-start w i s = ap (λ (j : ℕ). standsAt w j s) (add-zero i)
+
+pub standsAt-end : (w : List ℕ) (i k : ℕ) (s : List ℕ) → length s ≤ k → standsAt w (i + k) (drop k s) ≡ true
+unfolding standsAt same
+standsAt-end w i k s h = rw (drop-of-length-le s {i = k} h)
+
+-- ---- eqSB ----
+
+abbrev pub passed : Cursor → ℕ → Literal
+passed r c = record { moved = true; next = moveTo r c }
+
+abbrev pub notPassed : Cursor → Literal
+notPassed r = record { moved = false; next = r }
+
+pub eqSB-out : (w s : List ℕ) (r : Cursor) → stands w r ≡ false → eqSB w s r ≡ notPassed r
+unfolding eqSB
+eqSB-out w s r e = rw e
+
+pub eqSB-short : (w s : List ℕ) (r : Cursor) → r .cursor < r .«limit_backward» + length s → eqSB w s r ≡ notPassed r
+unfolding eqSB
+eqSB-short w s r h = rw (lt-leb (r .«limit_backward» + length s) (r .cursor) h, and-false (stands w r))
+
+pub eqSB-differs : (w s : List ℕ) (r : Cursor) → standsAt w (r .cursor - length s) s ≡ false → eqSB w s r ≡ notPassed r
+unfolding eqSB
+eqSB-differs w s r e = rw (e, and-false (stands w r && leb (r .«limit_backward» + length s) (r .cursor)))
+
+pub eqSB-moves : (w s : List ℕ) (r : Cursor) → stands w r ≡ true → r .«limit_backward» + length s ≤ r .cursor
+    → standsAt w (r .cursor - length s) s ≡ true → eqSB w s r ≡ passed r (r .cursor - length s)
+unfolding eqSB
+eqSB-moves w s r e h f = rw (e, le-leb (r .«limit_backward» + length s) (r .cursor) h, f)
+
+-- ---- eqS ----
+
+pub eqS-out : (w s : List ℕ) (r : Cursor) → stands w r ≡ false → eqS w s r ≡ notPassed r
+unfolding eqS
+eqS-out w s r e = rw e
+
+pub eqS-edge : (w s : List ℕ) (r : Cursor) → r .limit ≤ r .cursor → eqS w s r ≡ notPassed r
+unfolding eqS
+eqS-edge w s r h = rw (le-ltb (r .cursor) (r .limit) h, and-false (stands w r))
+
+pub eqS-short : (w s : List ℕ) (r : Cursor) → r .limit < r .cursor + length s → eqS w s r ≡ notPassed r
+unfolding eqS
+eqS-short w s r h = rw (lt-leb (r .cursor + length s) (r .limit) h, and-false (stands w r && ltb (r .cursor) (r .limit)))
+
+pub eqS-differs : (w s : List ℕ) (r : Cursor) → standsAt w (r .cursor) s ≡ false → eqS w s r ≡ notPassed r
+unfolding eqS
+eqS-differs w s r e = rw (e, and-false (stands w r && ltb (r .cursor) (r .limit) && leb (r .cursor + length s) (r .limit)))
+
+pub eqS-moves : (w s : List ℕ) (r : Cursor) → stands w r ≡ true → r .cursor < r .limit → r .cursor + length s ≤ r .limit
+    → standsAt w (r .cursor) s ≡ true → eqS w s r ≡ passed r (r .cursor + length s)
+unfolding eqS
+eqS-moves w s r e l h f = rw (e, lt-ltb (r .cursor) (r .limit) l, le-leb (r .cursor + length s) (r .limit) h, f)
+
+-- ---- the steps that move, as the code makes them ----
+
+lastChar-charAt : (w : List ℕ) (c : ℕ) → lastChar w c ≡ charAt w (c - lastWidth w c) (lastWidth w c)
+unfolding lastChar
+lastChar-charAt w c = refl
+
+firstChar-charAt : (w : List ℕ) (c : ℕ) → firstChar w c ≡ charAt w c (firstWidth w c)
+unfolding firstChar
+firstChar-charAt w c = refl
+
+pub previousChar-made : (w : List ℕ) (r next : Cursor) (n ch : ℕ) → stands w r ≡ true → n ≡ lastWidth w (r .cursor) → r .«limit_backward» + n ≤ r .cursor
+    → ch ≡ charAt w (r .cursor - n) n → next ≡ moveTo r (r .cursor - n) → _≡_ {A = Step} (record { moved = true; ch = ch; next = next }) (previousChar w r)
+previousChar-made w r next n ch e en h ec ex =
+    let h′ : r .«limit_backward» + lastWidth w (r .cursor) ≤ r .cursor = rw (← en) h in
+    cc (previousChar-moves w r e h′, lastChar-charAt w (r .cursor))
+
+pub nextChar-made : (w : List ℕ) (r next : Cursor) (n ch : ℕ) → stands w r ≡ true → n ≡ firstWidth w (r .cursor) → r .cursor + n ≤ r .limit
+    → ch ≡ charAt w (r .cursor) n → next ≡ moveTo r (r .cursor + n) → _≡_ {A = Step} (record { moved = true; ch = ch; next = next }) (nextChar w r)
+nextChar-made w r next n ch e en h ec ex =
+    let h′ : r .cursor + firstWidth w (r .cursor) ≤ r .limit = rw (← en) h in
+    cc (nextChar-moves w r e h′, firstChar-charAt w (r .cursor))

@@ -1,0 +1,85 @@
+-- How a first byte finds its row of table 3-7: past the rows that end below it, into the row that has it, or before the rows
+-- that begin above it. Assumes nothing.
+use Prim.Native.Nat.{ℕ, zero, suc, _≤_, _<_}
+use mathlib.Core.Path.{_≡_, refl, _∙_, ap}
+use mathlib.Core.Bool.{Bool, true, false, cond, _&&_}
+use mathlib.Core.List.{List, [], _∷_}
+use lib.ListN.{length, drop, getD}
+use lib.Seq.{drop-cons}
+use lib.Dec.{leb}
+use borrow.Author.Tests.{le-leb, lt-leb, leb-true}
+use Rattle.utf8.specs.declared.validity.Due.{Due}
+use Rattle.utf8.specs.Validity.{Row, row, due, refused, leadIn, lead, table37}
+
+-- the first k rows end below b
+abbrev pub Past : ℕ → List Row → ℕ → Type 0
+Past zero rs b = Unit {0}
+Past (suc k) [] b = ⊥
+Past (suc k) (r ∷ rs) b = (r .upto < b) × Past k rs b
+
+-- every row begins above b
+abbrev pub Before : List Row → ℕ → Type 0
+Before [] b = Unit {0}
+Before (r ∷ rs) b = (b < r .from) × Before rs b
+
+-- row k of the table
+abbrev pub rowAt : ℕ → Row
+rowAt k = getD table37 k (row 0 0 0 0 0)
+
+-- what row k asks for
+abbrev pub asked : Row → Due
+asked r = due (r .more) (r .low) (r .high)
+
+above-row : (r : Row) (rs : List Row) (b : ℕ) (t : Bool) → r .upto < b → cond (t && leb b (r .upto)) (asked r) (leadIn rs b) ≡ leadIn rs b
+above-row r rs b true h = rw (lt-leb b (r .upto) h)
+above-row r rs b false h = refl
+
+past-rows : (k : ℕ) (rs : List Row) (b : ℕ) → Past k rs b → leadIn rs b ≡ leadIn (drop k rs) b
+unfolding leadIn
+past-rows zero rs b h = refl
+past-rows (suc k) [] b h = refl
+past-rows (suc k) (r ∷ rs) b h = above-row r rs b (leb (r .from) b) (h .0) ∙ past-rows k rs b (h .1)
+
+in-row : (r : Row) (rs : List Row) (b : ℕ) → r .from ≤ b → b ≤ r .upto → leadIn (r ∷ rs) b ≡ asked r
+unfolding leadIn
+in-row r rs b f u = rw (le-leb (r .from) b f, le-leb b (r .upto) u)
+
+before-rows : (rs : List Row) (b : ℕ) → Before rs b → leadIn rs b ≡ refused
+unfolding leadIn
+before-rows [] b h = refl
+before-rows (r ∷ rs) b h = rw (lt-leb (r .from) b (h .0)) (before-rows rs b (h .1))
+
+-- a byte past the first k rows and in the next one has that row
+pub lead-in : (k b : ℕ) → k < length table37 → Past k table37 b → rowAt k .from ≤ b → b ≤ rowAt k .upto → lead b ≡ asked (rowAt k)
+unfolding lead
+lead-in k b l p f u = past-rows k table37 b p ∙ ap (λ (rs : List Row). leadIn rs b) (drop-cons table37 k (row 0 0 0 0 0) l) ∙ in-row (rowAt k) (drop (suc k) table37) b f u
+
+-- a byte past the first k rows and before all others has none
+pub lead-none : (k b : ℕ) → Past k table37 b → Before (drop k table37) b → lead b ≡ refused
+unfolding lead
+lead-none k b p q = past-rows k table37 b p ∙ before-rows (drop k table37) b q
+
+-- b lies in row k and in none above it
+abbrev pub InRow : ℕ → ℕ → Type 0
+InRow k b = (k < length table37) × Past k table37 b × (rowAt k .from ≤ b) × (b ≤ rowAt k .upto)
+
+-- Q holds of each row
+abbrev pub Each : (Row → Type 0) → List Row → Type 0
+Each Q [] = Unit {0}
+Each Q (r ∷ rs) = Q r × Each Q rs
+
+-- the same as `lead-elim` for any rows
+leadIn-elim : (P : Due → Type 0) (Q : Row → Type 0) (rs : List Row) (b : ℕ) → Each Q rs → ((r : Row) → Q r → r .from ≤ b → b ≤ r .upto → P (asked r)) → P refused → P (leadIn rs b)
+unfolding leadIn
+leadIn-elim P Q [] b q f z = z
+leadIn-elim P Q (r ∷ rs) b q f z = go (leb (r .from) b) (leb b (r .upto)) refl refl (leadIn-elim P Q rs b (q .1) f z)
+  where
+    go : (s t : Bool) → leb (r .from) b ≡ s → leb b (r .upto) ≡ t → P (leadIn rs b) → P (cond (s && t) (asked r) (leadIn rs b))
+    go true true l h p = f r (q .0) (leb-true (r .from) b l) (leb-true b (r .upto) h)
+    go true false l h p = p
+    go false t l h p = p
+
+-- what holds of a refusal and of what b's row asks for, given what holds of each row, holds of what b asks for
+pub lead-elim : (P : Due → Type 0) (Q : Row → Type 0) (b : ℕ) → Each Q table37 → ((r : Row) → Q r → r .from ≤ b → b ≤ r .upto → P (asked r)) → P refused → P (lead b)
+unfolding lead
+lead-elim P Q b = leadIn-elim P Q table37 b
