@@ -1,0 +1,2 @@
+-- The theorems, and the laws that they rest on.
+pub mod Laws

@@ -1,0 +1,61 @@
+-- The terms of document 01, "Words of demand 3": a word's end and front, fronts that agree in their vowels, the text that reaches
+-- the postlude, and the pass's result. Assumes nothing.
+use Prim.Native.Nat.{ℕ}
+use Prim.Native.String.{String}
+use mathlib.Core.Path.{_≡_}
+use mathlib.Core.Bool.{Bool, true, false, _&&_, _||_}
+use mathlib.Core.List.{List, [], _∷_, _++_, map}
+use lib.ListN.{length, take, drop}
+use lib.Dec.{leb}
+use Rattle.utf8.specs.Encoding.{encodeAll}
+use Rattle.utf8.specs.Characters.{back}
+use Rattle.utf8.specs.Steps.{same}
+use Rattle.turkish.specs.Letters.{text, among}
+use Rattle.turkish.specs.Harmony.{vowel, lastVowel, beyond, syllables}
+use Rattle.turkish.specs.Stage.{stage, kept}
+use Rattle.turkish.specs.Postlude.{reserved}
+use Rattle.turkish.specs.Calls.{chars, accepted, passCall, passOut}
+
+-- the characters of a shared end
+unfoldable pub endLength : ℕ
+endLength = 16
+
+-- a word with fewer characters belongs to no pair
+unfoldable pub long : List ℕ → Bool
+long w = leb endLength (length (chars w))
+
+-- the front: all that stands before the last 16 characters; the end: those
+unfoldable pub front : List ℕ → List ℕ
+front w = take (back w (length w) endLength) w
+
+unfoldable pub end : List ℕ → List ℕ
+end w = drop (back w (length w) endLength) w
+
+-- two fronts agree in their last vowel, or both have none, and in the set of the vowels before it
+pub record Alike (f g : List ℕ) : Type 0 where
+  pub last : lastVowel (chars f) ≡ lastVowel (chars g)
+  pub others : (v : ℕ) → vowel v ≡ true → among (beyond (chars f)) v ≡ among (beyond (chars g)) v
+
+-- two words of demand 3: accepted, long, one end for both, fronts alike
+pub record Pair (u v : List ℕ) : Type 0 where
+  pub accepts : (accepted u ≡ true) × (accepted v ≡ true)
+  pub longs : (long u ≡ true) × (long v ≡ true)
+  pub ends : end u ≡ end v
+  pub fronts : Alike (front u) (front v)
+
+-- the text that reaches the postlude is `ad` or `soyad`
+unfoldable pub reachesReserved : List ℕ → Bool
+reachesReserved w = syllables (chars w) && stage (chars w) .flag && reserved (kept (chars w))
+
+-- the pass's result: the output's bytes below the length that it gives
+unfoldable pub result : List ℕ → List ℕ → List ℕ
+result w out = take (passCall w (length out) .length) (passOut w out)
+
+-- the words of which the stage leaves nothing
+unfoldable pub leftEmpty : List (List ℕ)
+leftEmpty = map (λ (s : String). encodeAll (text s)) ("" ∷ "siniz" ∷ "sunuz" ∷ "sınız" ∷ "sünüz" ∷ [])
+
+-- w is one of the words
+unfoldable pub oneOf : List (List ℕ) → List ℕ → Bool
+oneOf [] w = false
+oneOf (x ∷ xs) w = same w x || oneOf xs w

@@ -1,0 +1,2 @@
+-- The words in which the theorems are stated.
+pub mod Fronts

@@ -1,0 +1,122 @@
+-- What each call gives for a word of bytes, refused calls included, and what its lent output holds after it (document 01, "Whose
+-- fault a refusal is" and "Syllable check, postlude, folding, word pass"). The contracts cite these. Assumes nothing.
+use Prim.Native.Nat.{ℕ, _+_}
+use mathlib.Core.Bool.{Bool, true, false, cond}
+use mathlib.Core.List.{List, [], _++_, reverse}
+use lib.ListN.{length, take, drop}
+use lib.Dec.{ltb, eqb}
+use Rattle.utf8.specs.Encoding.{encodeAll}
+use Rattle.utf8.specs.Validity.{isText}
+use Rattle.utf8.specs.Characters.{before, back}
+use Rattle.turkish.specs.declared.answer.SyllableAnswer.{SyllableAnswer}
+use Rattle.turkish.specs.declared.answer.StageAnswer.{StageAnswer}
+use Rattle.turkish.specs.declared.answer.PostludeAnswer.{PostludeAnswer}
+use Rattle.turkish.specs.declared.answer.FoldAnswer.{FoldAnswer}
+use Rattle.turkish.specs.declared.answer.PassAnswer.{PassAnswer}
+use Rattle.turkish.specs.Harmony.{syllables}
+use Rattle.turkish.specs.Stage.{stage}
+use Rattle.turkish.specs.Postlude.{postlude, postludeAnswer}
+use Rattle.turkish.specs.WordPass.{fold, pass}
+
+-- ---- a word as characters ----
+
+-- the characters of a word of bytes, the last one first, and the bytes of such characters
+unfoldable pub chars : List ℕ → List ℕ
+chars w = before w (length w)
+
+unfoldable pub bytes : List ℕ → List ℕ
+bytes cs = encodeAll (reverse cs)
+
+-- ---- refusals ----
+
+-- the longest word, in bytes
+unfoldable pub limit : ℕ
+limit = 1024
+
+-- the word's author: 1 over the limit, 2 not UTF-8; 0 where neither applies
+unfoldable pub refusal : List ℕ → ℕ
+refusal w = cond (ltb limit (length w)) 1 (cond (isText w) 0 2)
+
+-- the host program: 3 where the output is shorter than the call needs
+unfoldable pub refusalInto : List ℕ → ℕ → ℕ → ℕ
+refusalInto w need room = cond (eqb (refusal w) 0) (cond (ltb room need) 3 0) (refusal w)
+
+-- a word is accepted when neither number 1 nor number 2 applies to it
+unfoldable pub accepted : List ℕ → Bool
+accepted w = eqb (refusal w) 0
+
+-- an output after a text was written to its front: the bytes past the text stay
+unfoldable pub written : List ℕ → List ℕ → List ℕ
+written s out = s ++ drop (length s) out
+
+-- ---- syllable check ----
+
+unfoldable pub syllableCall : List ℕ → SyllableAnswer
+syllableCall w = cond (accepted w) (record { refusal = 0; yes = syllables (chars w) }) (record { refusal = refusal w; yes = false })
+
+-- ---- suffix stage ----
+
+-- the place in the word before which the text kept stands
+unfoldable pub keptLength : List ℕ → ℕ
+keptLength w = back w (length w) (stage (chars w) .removed)
+
+-- the part of the word handed back
+unfoldable pub stagePart : List ℕ → List ℕ
+stagePart w = cond (accepted w) (take (keptLength w) w) []
+
+unfoldable pub stageCall : List ℕ → StageAnswer
+stageCall w =
+    cond (accepted w)
+    (record { refusal = 0; length = keptLength w; yes = stage (chars w) .answer; flag = stage (chars w) .flag })
+    (record { refusal = refusal w; length = 0; yes = false; flag = false })
+
+-- ---- postlude: an output of n + 2 bytes ----
+
+unfoldable pub postludeText : List ℕ → List ℕ
+postludeText w = bytes (postlude (chars w))
+
+unfoldable pub postludeRefusal : List ℕ → ℕ → ℕ
+postludeRefusal w room = refusalInto w (length w + 2) room
+
+unfoldable pub postludeCall : List ℕ → ℕ → PostludeAnswer
+postludeCall w room =
+    cond (eqb (postludeRefusal w room) 0)
+    (record { refusal = 0; length = length (postludeText w); yes = postludeAnswer (chars w) })
+    (record { refusal = postludeRefusal w room; length = 0; yes = false })
+
+unfoldable pub postludeOut : List ℕ → List ℕ → List ℕ
+postludeOut w out = cond (eqb (postludeRefusal w (length out)) 0) (written (postludeText w) out) out
+
+-- ---- fold: an output of n bytes ----
+
+unfoldable pub foldText : List ℕ → List ℕ
+foldText w = bytes (fold (chars w))
+
+unfoldable pub foldRefusal : List ℕ → ℕ → ℕ
+foldRefusal w room = refusalInto w (length w) room
+
+unfoldable pub foldCall : List ℕ → ℕ → FoldAnswer
+foldCall w room =
+    cond (eqb (foldRefusal w room) 0)
+    (record { refusal = 0; length = length (foldText w) })
+    (record { refusal = foldRefusal w room; length = 0 })
+
+unfoldable pub foldOut : List ℕ → List ℕ → List ℕ
+foldOut w out = cond (eqb (foldRefusal w (length out)) 0) (written (foldText w) out) out
+
+-- ---- word pass: an output of n + 2 bytes ----
+
+unfoldable pub passText : List ℕ → List ℕ
+passText w = bytes (pass (chars w) .text)
+
+unfoldable pub passRefusal : List ℕ → ℕ → ℕ
+passRefusal w room = refusalInto w (length w + 2) room
+
+unfoldable pub passCall : List ℕ → ℕ → PassAnswer
+passCall w room =
+    cond (eqb (passRefusal w room) 0)
+    (record { refusal = 0; length = length (passText w); syllable = pass (chars w) .syllable; yes = pass (chars w) .answer; flag = pass (chars w) .flag })
+    (record { refusal = passRefusal w room; length = 0; syllable = false; yes = false; flag = false })
+
+unfoldable pub passOut : List ℕ → List ℕ → List ℕ
+passOut w out = cond (eqb (passRefusal w (length out)) 0) (written (passText w) out) out

@@ -1,0 +1,78 @@
+-- Snowball's commands as far as the suffix stage uses them, and their one interpreter. A command reads the characters before the
+-- cursor and answers how many it takes, or that it fails. Assumes nothing.
+use Prim.Native.Nat.{ℕ, _+_}
+use mathlib.Core.Bool.{Bool, true, false, cond, not, _&&_, _||_}
+use mathlib.Core.List.{List, [], _∷_}
+use lib.ListN.{length, drop}
+use lib.Dec.{eqb}
+use Rattle.turkish.specs.Letters.{starts}
+use Rattle.turkish.specs.Harmony.{vowel, harmony}
+
+-- a command's answer: it fails, or takes so many characters and leaves `continue_stemming_noun_suffixes` (the flag) so
+pub data Out : Type 0 where
+  fail : Out
+  took : ℕ → Bool → Out
+
+-- one command, then another on what is left of it; the flag is down where either took it down
+unfoldable pub more : ℕ → Bool → Out → Out
+more k f fail = fail
+more k f (took j g) = took (k + j) (f && g)
+
+unfoldable pub after : Out → (ℕ → Out) → Out
+after fail q = fail
+after (took k f) q = more k f (q k)
+
+-- the first that does not fail
+unfoldable pub first : Out → Out → Out
+first fail q = q
+first (took k f) q = took k f
+
+-- a test before a command
+unfoldable pub asking : Bool → Out → Out
+asking true q = q
+asking false q = fail
+
+-- the characters as far as a key goes, from the table's first key that ends the text (`among`; `find_among_b`)
+unfoldable pub key : List (List ℕ) → List ℕ → Out
+key [] cs = fail
+key (k ∷ ks) cs = cond (starts k cs) (took (length k) true) (key ks cs)
+
+-- an optional y (`mark_suffix_with_optional_y_consonant`, lines 153 to 156): a y is taken if a vowel stands before it; without a y
+-- the second character back must be a vowel. Either way the second character back is a vowel.
+unfoldable pub optionalY : ℕ → List ℕ → Out
+optionalY y [] = fail
+optionalY y (c ∷ []) = fail
+optionalY y (c ∷ v ∷ cs) = cond (vowel v) (took (cond (eqb c y) 1 0) true) fail
+
+-- a mark: whether it tests harmony, its keys from their ends, and whether an optional y stands before the key
+pub record Mark : Type 0 where
+  pub harmonic : Bool
+  pub keys : List (List ℕ)
+  pub joins : Bool
+
+-- the mark routines' common form: harmony is tested before the key, the optional y after it
+unfoldable pub markOf : Mark → List ℕ → Out
+markOf m cs =
+    asking (not (m .harmonic) || harmony cs)
+    (after (key (m .keys) cs) (λ k. cond (m .joins) (optionalY 0x79 (drop k cs)) (took 0 true)))
+
+-- Snowball's commands: a mark; one after the other; the first of two that fits; `true`; and `unset` of the flag.
+-- A `delete` stands nowhere: nothing that follows one can fail, so all that a branch takes is deleted.
+infixr 35 _then_
+infixr 30 _or_
+pub data Command : Type 0 where
+  mark : Mark → Command
+  _then_ : Command → Command → Command
+  _or_ : Command → Command → Command
+  nothing : Command
+  unset : Command
+
+unfoldable pub try : Command → Command
+try p = p or nothing
+
+unfoldable pub run : Command → List ℕ → Out
+run (mark m) cs = markOf m cs
+run (p then q) cs = after (run p cs) (λ k. run q (drop k cs))
+run (p or q) cs = first (run p cs) (run q cs)
+run nothing cs = took 0 true
+run unset cs = took 0 false

@@ -1,0 +1,10 @@
+-- What the stages mean, from Snowball's turkish.sbl as the Rust's comments carry it and from document 01, in reading order.
+-- A word is read from its end: a list of characters (code points) has the one nearest the cursor first.
+pub mod Letters
+pub mod Harmony
+pub mod Grammar
+pub mod Marks
+pub mod Stage
+pub mod Postlude
+pub mod WordPass
+pub mod Calls

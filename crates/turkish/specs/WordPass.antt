@@ -1,0 +1,38 @@
+-- The two additions to turkish.sbl (document 01, "Fold" and "Word pass"). Assumes nothing.
+use Prim.Native.Nat.{ℕ, _+_}
+use Prim.Native.Char.{code}
+use mathlib.Core.Bool.{Bool, true, false, cond, _&&_}
+use mathlib.Core.List.{List, map}
+use lib.Dec.{eqb, leb}
+use Rattle.turkish.specs.Harmony.{syllables}
+use Rattle.turkish.specs.Stage.{Staged, stage, kept}
+use Rattle.turkish.specs.Postlude.{postlude}
+
+-- one character folded: A to Z, and Ç Ğ Ö Ş Ü; every other one stays
+unfoldable pub foldChar : ℕ → ℕ
+foldChar c =
+    cond (leb (code "A") c && leb c (code "Z")) (c + 0x20)
+    (cond (eqb c (code "Ç")) (code "ç")
+    (cond (eqb c (code "Ğ")) (code "ğ")
+    (cond (eqb c (code "Ö")) (code "ö")
+    (cond (eqb c (code "Ş")) (code "ş")
+    (cond (eqb c (code "Ü")) (code "ü") c)))))
+
+unfoldable pub fold : List ℕ → List ℕ
+fold cs = map foldChar cs
+
+-- the pass: its text, the syllable answer, the stage's answer and the flag
+pub record Passed : Type 0 where
+  pub text : List ℕ
+  pub syllable : Bool
+  pub answer : Bool
+  pub flag : Bool
+
+-- the stage, and where its flag is true the postlude of what it keeps
+unfoldable pub passStage : List ℕ → Passed
+passStage cs =
+    record { text = cond (stage cs .flag) (postlude (kept cs)) (kept cs); syllable = true; answer = stage cs .answer; flag = stage cs .flag }
+
+-- a word of one syllable or none is copied
+unfoldable pub pass : List ℕ → Passed
+pass cs = cond (syllables cs) (passStage cs) (record { text = cs; syllable = false; answer = false; flag = true })

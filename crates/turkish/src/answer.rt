@@ -1,0 +1,42 @@
+// What the calls answer. `refusal` is document 01's number, 0 where the call was not refused; a refused call has 0 and no elsewhere.
+
+// The syllable check: two or more vowels.
+#[repr(C)]
+pub struct SyllableAnswer {
+    pub refusal: u32,
+    pub yes: bool,
+}
+
+// The suffix stage: the kept text's length in bytes, whether an ending was removed, and whether the postlude is due.
+#[repr(C)]
+pub struct StageAnswer {
+    pub refusal: u32,
+    pub length: usize,
+    pub yes: bool,
+    pub flag: bool,
+}
+
+// The postlude: its text's length, and no where the word is reserved.
+#[repr(C)]
+pub struct PostludeAnswer {
+    pub refusal: u32,
+    pub length: usize,
+    pub yes: bool,
+}
+
+// The fold: its text's length.
+#[repr(C)]
+pub struct FoldAnswer {
+    pub refusal: u32,
+    pub length: usize,
+}
+
+// The word pass: its text's length, the syllable answer, the stage's answer and the flag.
+#[repr(C)]
+pub struct PassAnswer {
+    pub refusal: u32,
+    pub length: usize,
+    pub syllable: bool,
+    pub yes: bool,
+    pub flag: bool,
+}

@@ -1,0 +1,2 @@
+// The Turkish stages. Their meaning stands in specs/.
+pub mod answer;
