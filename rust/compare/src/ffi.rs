@@ -1,0 +1,55 @@
+//! The exports of the proved archives. Nothing checks these lines against the Rattle source: a
+//! slice passes as a pointer, never null, and then a length.
+
+/// What a step of the cursor answers: whether it moved, the code point met (0 where none was), and
+/// the cursor record after it.
+#[repr(C)]
+#[derive(Clone, Copy, Debug, PartialEq)]
+pub struct ProbeStep {
+    pub moved: bool,
+    pub ch: u32,
+    pub cursor: usize,
+    pub limit: usize,
+    pub limit_backward: usize,
+}
+
+// libfannavy.a
+extern "C" {
+    pub fn fannavy_is_utf8(w: *const u8, n: usize) -> bool;
+}
+
+// libprobe.a
+extern "C" {
+    pub fn probe_previous_char(
+        w: *const u8,
+        n: usize,
+        cursor: usize,
+        limit: usize,
+        limit_backward: usize,
+    ) -> ProbeStep;
+    pub fn probe_next_char(
+        w: *const u8,
+        n: usize,
+        cursor: usize,
+        limit: usize,
+        limit_backward: usize,
+    ) -> ProbeStep;
+    pub fn probe_eq_s_b(
+        w: *const u8,
+        n: usize,
+        s: *const u8,
+        m: usize,
+        cursor: usize,
+        limit: usize,
+        limit_backward: usize,
+    ) -> ProbeStep;
+    pub fn probe_eq_s(
+        w: *const u8,
+        n: usize,
+        s: *const u8,
+        m: usize,
+        cursor: usize,
+        limit: usize,
+        limit_backward: usize,
+    ) -> ProbeStep;
+}

@@ -1,0 +1,69 @@
+//! The endings that the stages search for, spelled out of turkish.sbl's own notation.
+
+// A is a or e, U is ı, i, u or ü, I is ı or i, all in harmony within one ending; D is d or t.
+const SUFFIXES: [&str; 22] = [
+    "Um", "sUn", "Uz", "sUnUz", "lAr", "nUz", "DUr", "cAsInA", "DU", "DUm", "DUn", "DUk", "sA",
+    "sAm", "sAn", "sAk", "mUş", "b", "c", "d", "ğ", "ken",
+];
+// What U, A and I stand for together.
+const HARMONIES: [[char; 3]; 4] = [
+    ['ı', 'a', 'ı'],
+    ['i', 'e', 'i'],
+    ['u', 'a', 'ı'],
+    ['ü', 'e', 'i'],
+];
+
+/// Every key that the suffix stage and the postlude search for, and the literal `ken`.
+pub fn endings() -> Vec<String> {
+    let mut endings = Vec::new();
+    for suffix in SUFFIXES {
+        for harmony in HARMONIES {
+            for d in ['d', 't'] {
+                let ending = spell(suffix, harmony, d);
+                if !endings.contains(&ending) {
+                    endings.push(ending);
+                }
+            }
+        }
+    }
+    endings
+}
+
+fn spell(suffix: &str, [u, a, i]: [char; 3], d: char) -> String {
+    let letter = |ch| match ch {
+        'U' => u,
+        'A' => a,
+        'I' => i,
+        'D' => d,
+        other => other,
+    };
+    suffix.chars().map(letter).collect()
+}
+
+#[cfg(test)]
+mod tests {
+    use super::endings;
+
+    #[cfg(feature = "oracle")]
+    #[test]
+    fn endings_are_the_keys_of_the_crate_and_ken() {
+        let mut keys: Vec<String> = oracle::keys()
+            .concat()
+            .iter()
+            .map(|key| key.to_string())
+            .collect();
+        keys.push("ken".to_string());
+        keys.sort();
+        let mut endings = endings();
+        endings.sort();
+        assert_eq!(endings, keys);
+    }
+
+    #[test]
+    fn endings_keep_harmony() {
+        let endings = endings();
+        assert!(endings.contains(&"casına".to_string()));
+        assert!(!endings.contains(&"casina".to_string()));
+        assert_eq!(endings.len(), 81);
+    }
+}

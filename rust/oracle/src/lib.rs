@@ -1,0 +1,131 @@
+//! The Turkish module of rust-stemmers 1.2.0 as an oracle: three of its stages by themselves, and
+//! its whole run. The crate's files are read at build time and are not part of this repository.
+
+include!(concat!(env!("OUT_DIR"), "/snowball.rs"));
+
+use snowball::algorithms::turkish;
+use std::borrow::Cow;
+
+pub use snowball::algorithms::turkish::keys;
+pub use snowball::SnowballEnv;
+
+/// What the suffix stage leaves: the text, whether an ending was removed, and whether noun
+/// suffixes may follow.
+#[derive(Clone, Debug, PartialEq)]
+pub struct Stage<'a> {
+    pub text: Cow<'a, str>,
+    pub answer: bool,
+    pub flag: bool,
+}
+
+/// What the postlude leaves: the text, and no for a reserved word only.
+#[derive(Clone, Debug, PartialEq)]
+pub struct Postlude<'a> {
+    pub text: Cow<'a, str>,
+    pub answer: bool,
+}
+
+/// The suffix stage, entered at the word's end with nothing before it cut off.
+pub fn stem_nominal_verb_suffixes(word: &str) -> Stage<'_> {
+    let mut env = SnowballEnv::create(word);
+    // What `backwards` does at the word's start.
+    env.limit_backward = env.cursor;
+    env.cursor = env.limit;
+    let (answer, flag) = turkish::enter_stem_nominal_verb_suffixes(&mut env);
+    Stage {
+        text: env.get_current(),
+        answer,
+        flag,
+    }
+}
+
+/// The syllable check, entered at the word's start.
+pub fn more_than_one_syllable_word(word: &str) -> bool {
+    turkish::enter_more_than_one_syllable_word(&mut SnowballEnv::create(word))
+}
+
+/// The postlude, entered at the word's start; it goes to the end by itself.
+pub fn postlude(word: &str) -> Postlude<'_> {
+    let mut env = SnowballEnv::create(word);
+    let answer = turkish::enter_postlude(&mut env);
+    Postlude {
+        text: env.get_current(),
+        answer,
+    }
+}
+
+/// The crate's whole Turkish run; like the crate's own call it gives the text alone.
+pub fn stem(word: &str) -> Cow<'_, str> {
+    let mut env = SnowballEnv::create(word);
+    turkish::stem(&mut env);
+    env.get_current()
+}
+
+#[cfg(test)]
+mod tests {
+    use super::*;
+
+    fn stage(word: &str) -> (String, bool, bool) {
+        let s = stem_nominal_verb_suffixes(word);
+        (s.text.into_owned(), s.answer, s.flag)
+    }
+
+    fn kept(text: &str, answer: bool, flag: bool) -> (String, bool, bool) {
+        (text.to_string(), answer, flag)
+    }
+
+    #[test]
+    fn stage_gives_text_answer_and_flag() {
+        assert_eq!(stage(""), kept("", false, true));
+        assert_eq!(stage("siniz"), kept("", true, true));
+        assert_eq!(stage("sinizdir"), kept("siniz", true, true));
+        assert_eq!(stage("evler"), kept("ev", true, false));
+        assert_eq!(stage("lar"), kept("lar", false, true));
+        assert_eq!(stage("kalemlar"), kept("kalem", true, false));
+        assert_eq!(stage("saatler"), kept("saatler", false, true));
+        assert_eq!(stage("arabayken"), kept("araba", true, true));
+        assert_eq!(stage("evyken"), kept("evyken", false, true));
+        assert_eq!(stage("abken"), kept("ab", true, true));
+        assert_eq!(stage("aken"), kept("aken", false, true));
+        assert_eq!(stage("doktorsunuz"), kept("doktor", true, true));
+        assert_eq!(stage("evcesine"), kept("evcesine", false, true));
+    }
+
+    #[test]
+    fn syllable_check_asks_for_two_vowels() {
+        assert!(!more_than_one_syllable_word(""));
+        assert!(!more_than_one_syllable_word("lar"));
+        assert!(more_than_one_syllable_word("evler"));
+    }
+
+    #[test]
+    fn postlude_mends_the_last_consonant() {
+        for &(word, text, answer) in &[
+            ("", "", true),
+            ("ad", "ad", false),
+            ("soyad", "soyad", false),
+            ("kanad", "kanad\u{131}", true),
+            ("bd", "bt", true),
+            ("bg", "bg", true),
+            ("aya\u{11f}", "ayak", true),
+            ("a\u{11f}ac", "a\u{11f}a\u{e7}", true),
+        ] {
+            let p = postlude(word);
+            assert_eq!((&*p.text, p.answer), (text, answer), "{}", word);
+        }
+    }
+
+    #[test]
+    fn whole_run_ends_after_the_plural() {
+        assert_eq!(stem("evler"), "ev");
+        assert_eq!(stem("siniz"), "");
+        assert_eq!(stem("lar"), "lar");
+    }
+
+    #[test]
+    fn twelve_tables_have_eighty_keys() {
+        let keys = keys();
+        assert_eq!(keys.len(), 12);
+        assert_eq!(keys.iter().map(|table| table.len()).sum::<usize>(), 80);
+    }
+}
