@@ -8,3 +8,6 @@ pub mod Stage
 pub mod Postlude
 pub mod WordPass
 pub mod Calls
+-- the terms in which the theorems are stated
+pub mod Fronts
+pub mod FareAlike

@@ -1,14 +1,14 @@
 -- What holds of a command's answer, carried through the interpreter: a statement about each mark goes over to every command.
 -- Assumes nothing.
-use Prim.Native.Nat.{ℕ, _+_, _≤_, max}
+use Prim.Native.Nat.{ℕ, _+_}
 use mathlib.Core.Path.{_≡_, refl}
 use mathlib.Core.Bool.{Bool, true, false, cond, not, _&&_, _||_}
 use mathlib.Core.List.{List, [], _∷_}
 use native.Mathlib.Omega.{arith}
 use lib.ListN.{length, drop}
 use Rattle.turkish.specs.Letters.{starts}
 use Rattle.turkish.specs.Harmony.{harmony}
 use Rattle.turkish.specs.Grammar.{Out, fail, took, more, after, first, asking, key, optionalY, Mark, markOf, Command, mark, _then_, _or_, nothing, unset, run}
 
 -- an answer that fails, or takes a number of characters of which P holds
 pub data Post (P : ℕ → Type 0) : Out → Type 0 where
@@ -48,3 +48,15 @@ pub post-after : {P Q R : ℕ → Type 0} {o : Out} {q : ℕ → Out}
 unfolding after
 post-after g unfit h = unfit
 post-after g (fits k {f} p) h = post-more k f (λ j. g k j p) (h k p)
+
+-- an answer behind a test, which may be taken to pass
+pub post-asked : {P : ℕ → Type 0} (t : Bool) {o : Out} → (t ≡ true → Post P o) → Post P (asking t o)
+unfolding asking
+post-asked true h = h refl
+post-asked false h = unfit
+
+-- one answer after another, where the first one's number has a say in what holds of the second's
+pub post-then : {P R : ℕ → Type 0} {o : Out} {q : ℕ → Out} → Post P o → ((k : ℕ) → P k → Post (λ j. R (k + j)) (q k)) → Post R (after o q)
+unfolding after
+post-then unfit h = unfit
+post-then {R} (fits k {f} p) h = post-more {Q = R} k f (λ j r. r) (h k p)

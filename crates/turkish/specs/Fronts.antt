@@ -10,15 +10,19 @@ use lib.Dec.{leb}
 use Rattle.utf8.specs.Encoding.{encodeAll}
 use Rattle.utf8.specs.Characters.{back}
 use Rattle.utf8.specs.Steps.{same}
 use Rattle.turkish.specs.Letters.{text, among}
 use Rattle.turkish.specs.Harmony.{vowel, lastVowel, beyond, syllables}
 use Rattle.turkish.specs.Stage.{stage, kept}
 use Rattle.turkish.specs.Postlude.{reserved}
 use Rattle.turkish.specs.Calls.{chars, accepted, passCall, passOut}
 
 -- the characters of a shared end
 unfoldable pub endLength : ℕ
 endLength = 16
+
+-- the most characters that the suffix stage removes
+unfoldable pub mostRemoved : ℕ
+mostRemoved = 15
 
 -- a word with fewer characters belongs to no pair
 unfoldable pub long : List ℕ → Bool

@@ -1,2 +1,0 @@
--- The theorems, and the laws that they rest on.
-pub mod Laws

@@ -1,2 +1,0 @@
--- The words in which the theorems are stated.
-pub mod Fronts

@@ -1,0 +1,146 @@
+-- How many characters a command takes: bounds that are computed from the command, and never more than there are; and with them
+-- what the stage removes. Assumes nothing.
+use Prim.Native.Nat.{ℕ, _+_, _≤_, _<_, min, max}
+use mathlib.Core.Path.{_≡_, refl, sym}
+use mathlib.Core.Bool.{Bool, true, false, cond, not, _||_, false≢true}
+use mathlib.Core.List.{List, [], _∷_}
+use native.Mathlib.Omega.{arith}
+use lib.ListN.{length, drop, length-drop}
+use lib.Dec.{eqb}
+use Rattle.utf8.proofs.Laws.Booleans.{and-right}
+use Rattle.turkish.specs.Letters.{text, back, starts}
+use Rattle.turkish.specs.Harmony.{vowel, harmony}
+use Rattle.turkish.specs.Grammar.{Out, fail, took, after, key, optionalY, markOf, Command, mark, _then_, _or_, nothing, unset, try, run}
+use Rattle.turkish.specs.Marks.{marked, yUm, sUn, yUz, sUnUz, lAr, nUz, DUr, cAsInA, yDU, ysA, ymUs, yken}
+use Rattle.turkish.specs.Stage.{person, branch1, branch2, branch3, branch4, branch5, branch6, stem, staged, stage}
+use Rattle.turkish.proofs.Laws.Outcome.{Post, unfit, fits, post-map, post-first, post-asking, post-cond, post-then}
+use Rattle.turkish.proofs.Laws.Tests.{cond-test}
+
+-- ---- the bounds ----
+
+-- the characters of a table's longest key; and of its shortest, counted up to one
+unfoldable pub longest : List (List ℕ) → ℕ
+longest [] = 0
+longest (k ∷ ks) = max (length k) (longest ks)
+
+shortest : List (List ℕ) → ℕ
+shortest [] = 1
+shortest (k ∷ ks) = min (length k) (shortest ks)
+
+-- a command takes at most so many characters
+unfoldable pub most : Command → ℕ
+unfolding longest
+most (mark m) = longest (m .keys) + cond (m .joins) 1 0
+most (p then q) = most p + most q
+most (p or q) = max (most p) (most q)
+most nothing = 0
+most unset = 0
+
+-- and at least so many: one for each mark, if its table has no empty key
+unfoldable pub least : Command → ℕ
+unfolding shortest
+least (mark m) = shortest (m .keys)
+least (p then q) = least p + least q
+least (p or q) = min (least p) (least q)
+least nothing = 0
+least unset = 0
+
+-- ---- a command ----
+
+-- a number within what is computed and what is there
+abbrev Between : ℕ → ℕ → ℕ → ℕ → Type 0
+Between low high size k = (low ≤ k) × (k ≤ high) × (k ≤ size)
+
+-- characters that begin with a key are no fewer
+pub starts-length : (k cs : List ℕ) → starts k cs ≡ true → length k ≤ length cs
+unfolding starts
+starts-length [] cs e = omega arith
+starts-length (k ∷ ks) [] e = absurd (false≢true e)
+starts-length (k ∷ ks) (c ∷ cs) e = omega (arith, starts-length ks cs (and-right (eqb k c) (starts ks cs) e))
+
+-- a table takes as many as one of its keys has
+key-between : (ks : List (List ℕ)) (cs : List ℕ) → Post (Between (shortest ks) (longest ks) (length cs)) (key ks cs)
+unfolding key shortest longest
+key-between [] cs = unfit
+key-between (k ∷ ks) cs =
+    cond-test (Post _) (starts k cs)
+    (λ e. fits (length k) (omega (arith, starts-length k cs e)))
+    (post-map (λ j h. omega arith) (key-between ks cs))
+
+-- no more than its longest
+pub key-most : (ks : List (List ℕ)) (cs : List ℕ) → Post (λ k. k ≤ longest ks) (key ks cs)
+key-most ks cs = post-map (λ k h. h .1) (key-between ks cs)
+
+-- a test counts at most one
+one-at-most : (t : Bool) → cond t 1 0 ≤ 1
+one-at-most true = omega arith
+one-at-most false = omega arith
+
+-- an optional y takes at most one character
+optionalY-between : (y : ℕ) (cs : List ℕ) → Post (Between 0 1 (length cs)) (optionalY y cs)
+unfolding optionalY
+optionalY-between y [] = unfit
+optionalY-between y (c ∷ []) = unfit
+optionalY-between y (c ∷ v ∷ cs) = post-cond (vowel v) (fits (cond (eqb c y) 1 0) (omega (arith, one-at-most (eqb c y)))) unfit
+
+-- and a mark that does not join takes none
+joins-between : (j : Bool) (cs : List ℕ) → Post (Between 0 (cond j 1 0) (length cs)) (cond j (optionalY 0x79 cs) (took 0 true))
+joins-between true cs = optionalY-between 0x79 cs
+joins-between false cs = fits 0 (omega arith)
+
+-- a command takes what is computed for it, and no more than there is
+run-between : (p : Command) (cs : List ℕ) → Post (Between (least p) (most p) (length cs)) (run p cs)
+unfolding run markOf least most
+run-between (mark m) cs =
+    post-asking (not (m .harmonic) || harmony cs)
+    (post-then (key-between (m .keys) cs) (λ k h. post-map (λ j i. omega (arith, length-drop k cs)) (joins-between (m .joins) (drop k cs))))
+run-between (p then q) cs = post-then (run-between p cs) (λ k h. post-map (λ j i. omega (arith, length-drop k cs)) (run-between q (drop k cs)))
+run-between (p or q) cs = post-first (post-map (λ k h. omega arith) (run-between p cs)) (post-map (λ k h. omega arith) (run-between q cs))
+run-between nothing cs = fits 0 (omega arith)
+run-between unset cs = fits 0 (omega arith)
+
+-- a command takes at most what is computed for it
+pub run-most : (p : Command) (cs : List ℕ) → Post (λ k. k ≤ most p) (run p cs)
+run-most p cs = post-map (λ k h. h .1) (run-between p cs)
+
+-- never more than there is
+pub run-within : (p : Command) (cs : List ℕ) → Post (λ k. k ≤ length cs) (run p cs)
+run-within p cs = post-map (λ k h. h .2) (run-between p cs)
+
+-- ---- the stage ----
+
+-- the stage's command takes at least one character and at most 15
+stem-between : (least stem ≡ 1) × (most stem ≡ 15)
+unfolding least most stem branch1 branch2 branch3 branch4 branch5 branch6 person try marked yUm sUn yUz sUnUz lAr nUz DUr cAsInA yDU ysA ymUs yken back text
+stem-between = (refl, refl)
+
+-- so does the stage where it says yes, and no more than there is
+staged-between : {n : ℕ} {o : Out} → Post (Between (least stem) (most stem) n) o
+    → (staged o .removed ≤ 15) × (staged o .removed ≤ n) × (staged o .answer ≡ true → 0 < staged o .removed)
+unfolding staged
+staged-between unfit = (omega arith, omega arith, λ e. absurd (false≢true e))
+staged-between (fits k h) = (omega (arith, stem-between), omega arith, λ e. omega (arith, stem-between))
+
+-- at most 15 characters are removed
+pub stage-most : (cs : List ℕ) → stage cs .removed ≤ 15
+unfolding stage
+stage-most cs = staged-between (run-between stem cs) .0
+
+-- never more than there is
+pub stage-within : (cs : List ℕ) → stage cs .removed ≤ length cs
+unfolding stage
+stage-within cs = staged-between (run-between stem cs) .1
+
+-- where the stage says yes it removes something
+pub stage-yes : (cs : List ℕ) → stage cs .answer ≡ true → 0 < stage cs .removed
+unfolding stage
+stage-yes cs = staged-between (run-between stem cs) .2
+
+-- where it says no it removes nothing and the flag is true
+pub stage-no : (cs : List ℕ) → stage cs .answer ≡ false → (stage cs .removed ≡ 0) × (stage cs .flag ≡ true)
+unfolding stage staged
+stage-no cs = go (run stem cs)
+  where
+    go : (o : Out) → staged o .answer ≡ false → (staged o .removed ≡ 0) × (staged o .flag ≡ true)
+    go fail e = (refl, refl)
+    go (took k f) e = absurd (false≢true (sym e))

@@ -1,0 +1,23 @@
+-- What tests say: of what one of them chooses, and of the members of a list that all pass one.
+-- Assumes nothing.
+use mathlib.Core.Path.{_≡_, refl, ap, _∙_}
+use mathlib.Core.Bool.{Bool, true, false, cond, _&&_}
+use mathlib.Core.List.{List, [], _∷_, List·Memᴰ, List·Memᴰ·head, List·Memᴰ·tail}
+use Rattle.utf8.proofs.Laws.Booleans.{and-left, and-right}
+
+module _ {A : Type 0} where
+  -- what holds of both, of the first because the test passes, holds of the one that the test chooses
+  pub cond-test : (P : A → Type 0) (t : Bool) {x y : A} → (t ≡ true → P x) → P y → P (cond t x y)
+  cond-test P true p q = p refl
+  cond-test P false p q = q
+
+  -- every member passes
+  unfoldable pub every : (A → Bool) → List A → Bool
+  every f [] = true
+  every f (x ∷ xs) = f x && every f xs
+
+  -- so each does
+  pub every-at : (f : A → Bool) {xs : List A} {x : A} → every f xs ≡ true → List·Memᴰ x xs → f x ≡ true
+  unfolding every
+  every-at f e (List·Memᴰ·head {x} {xs} p) = ap f p ∙ and-left (f x) (every f xs) e
+  every-at f e (List·Memᴰ·tail {x} {xs} m) = every-at f (and-right (f x) (every f xs) e) m

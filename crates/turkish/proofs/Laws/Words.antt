@@ -1,0 +1,83 @@
+-- An accepted word as characters: it is a text, and its end and its front are those characters' two parts, encoded.
+-- Assumes nothing.
+use Prim.Native.Nat.{ℕ, _≤_}
+use mathlib.Core.Path.{_≡_, refl, sym, _∙_}
+use mathlib.Core.Bool.{Bool, true, false, cond, _&&_, false≢true}
+use mathlib.Core.List.{List, [], _++_, reverse, append-nil, reverse-append, reverse-reverse, append-cancel-left}
+use native.Mathlib.Omega.{arith}
+use lib.ListN.{length, take, drop, take-append-drop, length-take}
+use lib.Dec.{ltb, eqb}
+use borrow.Author.Tests.{leb-true}
+use Rattle.utf8.specs.Scalar.{scalars}
+use Rattle.utf8.specs.Text.{TextOf}
+use Rattle.utf8.specs.Validity.{isText}
+use Rattle.utf8.specs.Characters.{back}
+use Rattle.utf8.proofs.Laws.Booleans.{and-left, and-right}
+use Rattle.utf8.proofs.CheckExact.{isText-encodes}
+use Rattle.utf8.proofs.TextCharacters.{encodeAll-append, scalars-append, before-text, encode-before, take-back}
+use Rattle.turkish.specs.Calls.{chars, bytes, limit, refusal, accepted}
+use Rattle.turkish.specs.Fronts.{endLength, long, front, end}
+
+-- the bytes of two parts of a word told nearest first: the farther part comes first
+pub bytes-append : (e f : List ℕ) → bytes (e ++ f) ≡ bytes f ++ bytes e
+unfolding bytes
+bytes-append e f = rw (reverse-append, encodeAll-append)
+
+-- scalar values encoded have themselves for characters
+chars-bytes : (cs : List ℕ) → scalars (reverse cs) ≡ true → chars (bytes cs) ≡ cs
+unfolding chars bytes
+chars-bytes cs h = rw (append-nil, reverse-reverse) at (before-text (reverse cs) [] h)
+
+-- a text's characters are scalar values
+scalars-chars : (w : List ℕ) → TextOf w → scalars (reverse (chars w)) ≡ true
+unfolding chars
+scalars-chars w t = rw (← t .encoded, rw append-nil at (before-text (t .chars) [] (t .valid)), reverse-reverse) (t .valid)
+
+-- so are those of two parts
+scalars-parts : (e f : List ℕ) → scalars (reverse (e ++ f)) ≡ true → (scalars (reverse e) ≡ true) × (scalars (reverse f) ≡ true)
+scalars-parts e f h =
+    let p : scalars (reverse f) && scalars (reverse e) ≡ true = rw (reverse-append, scalars-append) at h in
+    (and-right (scalars (reverse f)) (scalars (reverse e)) p, and-left (scalars (reverse f)) (scalars (reverse e)) p)
+
+module _ (w : List ℕ) (t : TextOf w) where
+  -- the bytes of a text's characters are its own
+  bytes-chars : bytes (chars w) ≡ w
+  unfolding bytes chars
+  bytes-chars = encode-before w t
+
+  -- the front is the encoding of all but the last 16 characters
+  front-encoded : front w ≡ bytes (drop endLength (chars w))
+  unfolding front chars bytes
+  front-encoded = take-back w t endLength
+
+  -- and the end the encoding of those
+  end-encoded : end w ≡ bytes (take endLength (chars w))
+  unfolding front end
+  end-encoded =
+      let s : front w ++ bytes (take endLength (chars w)) ≡ w = rw (front-encoded, ← bytes-append, take-append-drop) bytes-chars in
+      append-cancel-left (front w) (end w) (bytes (take endLength (chars w))) (take-append-drop (back w (length w) endLength) w ∙ sym s)
+
+  -- all these characters are scalar values
+  parts-scalars : (scalars (reverse (take endLength (chars w))) ≡ true) × (scalars (reverse (drop endLength (chars w))) ≡ true)
+  parts-scalars = scalars-parts (take endLength (chars w)) (drop endLength (chars w)) (rw take-append-drop (scalars-chars w t))
+
+  -- the front's characters
+  chars-front : chars (front w) ≡ drop endLength (chars w)
+  chars-front = rw front-encoded (chars-bytes (drop endLength (chars w)) (parts-scalars .1))
+
+  -- the end's
+  chars-end : chars (end w) ≡ take endLength (chars w)
+  chars-end = rw end-encoded (chars-bytes (take endLength (chars w)) (parts-scalars .0))
+
+  -- a text's characters, the nearest first, are its end's and then its front's
+  pub chars-parts : chars w ≡ chars (end w) ++ chars (front w)
+  chars-parts = rw (chars-end, chars-front, take-append-drop)
+
+  -- the front is a text
+  pub front-bytes : front w ≡ bytes (chars (front w))
+  front-bytes = rw chars-front front-encoded
+
+  -- a long word's end has 16 characters
+  pub end-long : long w ≡ true → 16 ≤ length (chars (end w))
+  unfolding long endLength
+  end-long h = rw (chars-end, length-take) (omega (arith, leb-true))

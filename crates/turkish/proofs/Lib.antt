@@ -1,0 +1,10 @@
+-- `Theorems` is the file to open first; the others prove it, each named for what it proves, from the laws.
+pub mod Theorems
+pub mod Near
+pub mod Fronts
+pub mod Nothing
+pub mod Starred
+pub mod Sizes
+pub mod Tables
+pub mod PostludeRules
+pub mod Laws

@@ -1,0 +1,176 @@
+-- Words with a shared end and fronts whose vowels are alike: harmony, every command, the stage and the pass answer alike.
+-- Assumes nothing.
+use Prim.Native.Nat.{ℕ, _+_, _≤_, _<_, max}
+use mathlib.Core.Path.{_≡_, refl, sym, ap, _∙_}
+use mathlib.Core.Bool.{Bool, true, false, cond, not, _&&_, _||_}
+use mathlib.Core.List.{List, [], _∷_, _++_}
+use native.Mathlib.Omega.{arith}
+use lib.ListN.{length, drop, length-drop}
+use lib.Seq.{drop-append-le}
+use lib.Dec.{eqb}
+use Rattle.turkish.specs.Letters.{text, back, among, starts}
+use Rattle.turkish.specs.Harmony.{vowel, partner, lastVowel, beyond, harmony, syllables}
+use Rattle.turkish.specs.Grammar.{Out, took, more, after, asking, key, optionalY, markOf, Command, mark, _then_, _or_, nothing, unset, try, run}
+use Rattle.turkish.specs.Marks.{marked, yUm, sUn, yUz, sUnUz, lAr, nUz, DUr, cAsInA, yDU, ysA, ymUs, yken}
+use Rattle.turkish.specs.Stage.{person, branch1, branch2, branch3, branch4, branch5, branch6, stem, staged, stage, kept}
+use Rattle.turkish.specs.Postlude.{reserved, gained, appendU, hard, harden, postlude}
+use Rattle.turkish.specs.WordPass.{passStage, pass}
+use Rattle.turkish.proofs.Laws.Outcome.{Post, unfit, fits}
+use Rattle.turkish.proofs.Laws.Bounds.{longest, most, key-most, run-most, stage-most}
+use Rattle.turkish.proofs.Laws.Vowels.{any-vowels, partner-vowel, among-last-beyond}
+
+-- ---- alike fronts ----
+
+-- characters told nearest first agree in the last vowel, or both have none, and in the set of the vowels beyond it
+pub record AlikeChars (f g : List ℕ) : Type 0 where
+  pub last : lastVowel f ≡ lastVowel g
+  pub others : (v : ℕ) → vowel v ≡ true → among (beyond f) v ≡ among (beyond g) v
+
+-- they stay alike behind one more character
+alike-cons : (c : ℕ) (f g : List ℕ) → AlikeChars f g → AlikeChars (c ∷ f) (c ∷ g)
+unfolding lastVowel beyond
+alike-cons c f g a =
+    record {
+      last = elim (vowel c) as (λ b. cond b c (lastVowel f) ≡ cond b c (lastVowel g)) [ true ↦ refl | false ↦ a .last ];
+      others = elim (vowel c) as (λ b. (v : ℕ) → vowel v ≡ true → among (cond b f (beyond f)) v ≡ among (cond b g (beyond g)) v)
+          [ true ↦ λ v h. among-last-beyond f v h ∙ rw (a .last, a .others v h) (sym (among-last-beyond g v h)) | false ↦ a .others ];
+    }
+
+-- and behind a shared end
+pub alike-append : (e f g : List ℕ) → AlikeChars f g → AlikeChars (e ++ f) (e ++ g)
+alike-append [] f g a = a
+alike-append (c ∷ e) f g a = alike-cons c (e ++ f) (e ++ g) (alike-append e f g a)
+
+-- so words with a shared end, whatever it is, agree in the last vowel
+pub lastVowel-near : (e f g : List ℕ) → AlikeChars f g → lastVowel (e ++ f) ≡ lastVowel (e ++ g)
+lastVowel-near e f g a = alike-append e f g a .last
+
+-- in harmony
+pub harmony-near : (e f g : List ℕ) → AlikeChars f g → harmony (e ++ f) ≡ harmony (e ++ g)
+unfolding harmony
+harmony-near e f g a =
+    rw (lastVowel-near e f g a)
+    (any-vowels (partner (lastVowel (e ++ g))) (beyond (e ++ f)) (beyond (e ++ g)) (partner-vowel (lastVowel (e ++ g))) (alike-append e f g a .others))
+
+-- and in the syllable check
+pub syllables-near : (e f g : List ℕ) → AlikeChars f g → syllables (e ++ f) ≡ syllables (e ++ g)
+unfolding syllables
+syllables-near e f g a = any-vowels vowel (beyond (e ++ f)) (beyond (e ++ g)) (λ v h. h) (alike-append e f g a .others)
+
+-- ---- a command ----
+
+-- the characters that a command may look at, harmony aside
+unfoldable pub need : Command → ℕ
+need (mark m) = longest (m .keys) + cond (m .joins) 2 0
+need (p then q) = max (need p) (most p + need q)
+need (p or q) = max (need p) (need q)
+need nothing = 0
+need unset = 0
+
+-- a key sees no further than its length
+starts-append : (k e f : List ℕ) → length k ≤ length e → starts k (e ++ f) ≡ starts k e
+unfolding starts
+starts-append [] e f h = refl
+starts-append (k ∷ ks) [] f h = absurd (omega arith)
+starts-append (k ∷ ks) (c ∷ e) f h = ap (λ (t : Bool). eqb k c && t) (starts-append ks e f (omega arith))
+
+-- a table no further than its longest key
+key-append : (ks : List (List ℕ)) (e f : List ℕ) → longest ks ≤ length e → key ks (e ++ f) ≡ key ks e
+unfolding key longest
+key-append [] e f h = refl
+key-append (k ∷ ks) e f h = rw (starts-append k e f (omega arith), key-append ks e f (omega arith))
+
+-- what follows a mark's key, no further than two characters, or none
+joins-near : (j : Bool) (e f g : List ℕ) → cond j 2 0 ≤ length e
+    → cond j (optionalY 0x79 (e ++ f)) (took 0 true) ≡ cond j (optionalY 0x79 (e ++ g)) (took 0 true)
+unfolding optionalY
+joins-near true [] f g h = absurd (omega arith)
+joins-near true (c ∷ []) f g h = absurd (omega arith)
+joins-near true (c ∷ v ∷ e) f g h = refl
+joins-near false e f g h = refl
+
+-- after an answer that takes n characters at most, what sees no further than m characters past them
+after-near : (q : List ℕ → Out) (n m : ℕ) (e f g : List ℕ) {o : Out} → ((x : List ℕ) → m ≤ length x → q (x ++ f) ≡ q (x ++ g))
+    → n + m ≤ length e → Post (λ k. k ≤ n) o → after o (λ k. q (drop k (e ++ f))) ≡ after o (λ k. q (drop k (e ++ g)))
+unfolding after
+after-near q n m e f g near h unfit = refl
+after-near q n m e f g near h (fits k {f = b} l) =
+    ap (more k b) (rw (drop-append-le k e f (omega arith), drop-append-le k e g (omega arith)) (near (drop k e) (omega (arith, length-drop k e))))
+
+-- a command answers alike on words with a shared end of the characters that it may look at
+pub run-near : (p : Command) (e f g : List ℕ) → AlikeChars f g → need p ≤ length e → run p (e ++ f) ≡ run p (e ++ g)
+unfolding run markOf need
+run-near (mark m) e f g a h =
+    rw (harmony-near e f g a, key-append (m .keys) e f (omega arith), key-append (m .keys) e g (omega arith))
+    (ap (asking (not (m .harmonic) || harmony (e ++ g)))
+    (after-near (λ (cs : List ℕ). cond (m .joins) (optionalY 0x79 cs) (took 0 true)) (longest (m .keys)) (cond (m .joins) 2 0) e f g
+    (λ x. joins-near (m .joins) x f g) h (key-most (m .keys) e)))
+run-near (p then q) e f g a h =
+    rw (run-near p e f g a (omega arith)) (after-near (run q) (most p) (need q) e f g (λ x. run-near q x f g a) (omega arith) (run-most p (e ++ g)))
+run-near (p or q) e f g a h = rw (run-near p e f g a (omega arith), run-near q e f g a (omega arith))
+run-near nothing e f g a h = refl
+run-near unset e f g a h = refl
+
+-- ---- the stage ----
+
+-- the stage's command may look at 16 characters
+need-stem : need stem ≡ 16
+unfolding need most longest stem branch1 branch2 branch3 branch4 branch5 branch6 person try marked yUm sUn yUz sUnUz lAr nUz DUr cAsInA yDU ysA ymUs yken back text
+need-stem = refl
+
+-- the stage answers alike on words with a shared end of 16 characters
+pub stage-near : (e f g : List ℕ) → AlikeChars f g → 16 ≤ length e → stage (e ++ f) ≡ stage (e ++ g)
+unfolding stage
+stage-near e f g a h = ap staged (run-near stem e f g a (omega (arith, need-stem)))
+
+-- of words with a shared end of 16 characters the stage keeps some of it
+kept-near : (e f g : List ℕ) → AlikeChars f g → 16 ≤ length e → (x : List ℕ) × (0 < length x) × (kept (e ++ f) ≡ x ++ f) × (kept (e ++ g) ≡ x ++ g)
+unfolding kept
+kept-near e f g a h =
+    let k : ℕ = stage (e ++ g) .removed in
+    let l : k ≤ 15 = stage-most (e ++ g) in
+    (drop k e, omega (arith, length-drop k e), rw (stage-near e f g a h) (drop-append-le k e f (omega arith)), drop-append-le k e g (omega arith))
+
+-- ---- the pass ----
+
+-- where it runs, the postlude changes the shared end alone, and that alike
+postlude-near : (b : Bool) (x f g : List ℕ) → AlikeChars f g → 0 < length x → b && reserved (x ++ f) ≡ false → b && reserved (x ++ g) ≡ false
+    → (y : List ℕ) × (cond b (postlude (x ++ f)) (x ++ f) ≡ y ++ f) × (cond b (postlude (x ++ g)) (x ++ g) ≡ y ++ g)
+unfolding postlude appendU harden
+postlude-near false x f g a h p q = (x, refl, refl)
+postlude-near true [] f g a h p q = absurd (omega arith)
+postlude-near true (c ∷ x) f g a h p q =
+    let v : ℕ = gained (lastVowel (x ++ g)) in
+    rw (p, q, lastVowel-near x f g a)
+    (elim (among (text "dg") c && not (eqb v 0)) as (λ t. (y : List ℕ)
+    × (harden (cond t (v ∷ c ∷ (x ++ f)) (c ∷ (x ++ f))) ≡ y ++ f)
+    × (harden (cond t (v ∷ c ∷ (x ++ g)) (c ∷ (x ++ g))) ≡ y ++ g))
+    [ true ↦ (hard v ∷ c ∷ x, refl, refl) | false ↦ (hard c ∷ x, refl, refl) ])
+
+-- the text that reaches the postlude is reserved
+unfoldable pub toReserved : List ℕ → Bool
+toReserved cs = syllables cs && stage cs .flag && reserved (kept cs)
+
+-- what the pass gives on two words with one end: equal answers, and texts with one end, unless a reserved text reaches the postlude
+pub record NearPasses (e f g : List ℕ) : Type 0 where
+  pub syllable : pass (e ++ f) .syllable ≡ pass (e ++ g) .syllable
+  pub answer : pass (e ++ f) .answer ≡ pass (e ++ g) .answer
+  pub flag : pass (e ++ f) .flag ≡ pass (e ++ g) .flag
+  pub texts : toReserved (e ++ f) ≡ false → toReserved (e ++ g) ≡ false
+      → (x : List ℕ) × (pass (e ++ f) .text ≡ x ++ f) × (pass (e ++ g) .text ≡ x ++ g)
+
+-- it is that on words with a shared end of 16 characters
+pub pass-near : (e f g : List ℕ) → AlikeChars f g → 16 ≤ length e → NearPasses e f g
+unfolding pass passStage toReserved
+pass-near e f g a h = go (syllables (e ++ g)) (syllables-near e f g a) refl (stage-near e f g a h) (kept-near e f g a h)
+  where
+    go : (t : Bool) → syllables (e ++ f) ≡ syllables (e ++ g) → syllables (e ++ g) ≡ t → stage (e ++ f) ≡ stage (e ++ g)
+        → (x : List ℕ) × (0 < length x) × (kept (e ++ f) ≡ x ++ f) × (kept (e ++ g) ≡ x ++ g) → NearPasses e f g
+    go false p s q x = record { syllable = simp (p, s); answer = simp (p, s); flag = simp (p, s); texts = λ i j. (e, simp (p, s), simp s) }
+    go true p s q x =
+        record {
+          syllable = simp (p, s);
+          answer = simp (p, s, q);
+          flag = simp (p, s, q);
+          texts = simp (p, s, q, x .2, x .3) (postlude-near (stage (e ++ g) .flag) (x .0) f g a (x .1));
+        }

@@ -1,0 +1,48 @@
+-- The postlude's three rules never act together: a reserved word stays, a word that gains a vowel is not hardened.
+-- Assumes nothing.
+use Prim.Native.Nat.{ℕ}
+use mathlib.Core.Path.{_≡_, refl, ap}
+use mathlib.Core.Bool.{Bool, true, false, cond, not, _&&_}
+use mathlib.Core.List.{List, [], _∷_}
+use lib.Dec.{eqb}
+use Rattle.turkish.specs.Letters.{text, among}
+use Rattle.turkish.specs.Harmony.{lastVowel}
+use Rattle.turkish.specs.Postlude.{reserved, gained, appendU, hard, harden, postlude}
+use Rattle.turkish.proofs.Laws.Tests.{cond-test}
+
+-- appendU's test: a final d or g, with some vowel before it
+unfoldable pub appends : List ℕ → Bool
+appends [] = false
+appends (c ∷ cs) = among (text "dg") c && not (eqb (gained (lastVowel cs)) 0)
+
+-- a reserved word stays
+pub reserved-stays : (cs : List ℕ) → reserved cs ≡ true → postlude cs ≡ cs
+unfolding postlude
+reserved-stays cs e = rw e
+
+-- a gained vowel does not harden
+pub hard-gained : (v : ℕ) → hard (gained v) ≡ gained v
+unfolding hard gained
+hard-gained v =
+    cond-test P (among (text "aı") v) (λ e. refl)
+    (cond-test P (among (text "ei") v) (λ e. refl)
+    (cond-test P (among (text "ou") v) (λ e. refl)
+    (cond-test P (among (text "öü") v) (λ e. refl) refl)))
+  where
+    P : ℕ → Type 0
+    P c = hard c ≡ c
+
+-- a word that gains a vowel is not hardened, and any other is handed on as it is
+pub append-or-harden : (cs : List ℕ) → (appends cs ≡ true → harden (appendU cs) ≡ appendU cs) × (appends cs ≡ false → appendU cs ≡ cs)
+unfolding appends appendU harden
+append-or-harden [] = (λ e. refl, λ e. refl)
+append-or-harden (c ∷ cs) = (λ e. rw (e, hard-gained (lastVowel cs)), λ e. rw e)
+
+-- so the postlude leaves a reserved word, or else appends, or else hardens
+pub postlude-one : (cs : List ℕ) → postlude cs ≡ cond (reserved cs) cs (cond (appends cs) (appendU cs) (harden cs))
+unfolding postlude
+postlude-one cs = ap (cond (reserved cs) cs) (go (appends cs) refl)
+  where
+    go : (t : Bool) → appends cs ≡ t → harden (appendU cs) ≡ cond t (appendU cs) (harden cs)
+    go true e = append-or-harden cs .0 e
+    go false e = ap harden (append-or-harden cs .1 e)

@@ -1,0 +1,156 @@
+-- How many bytes the postlude, the pass and the fold give: never more than their outputs must hold. And the part that the stage
+-- hands back: a front of the word, the bytes of the characters kept. Assumes nothing.
+use Prim.Native.Nat.{ℕ, zero, suc, _+_, _≤_}
+use Prim.Native.Char.{code}
+use mathlib.Core.Path.{_≡_, refl, sym, ap, _∙_}
+use mathlib.Core.Bool.{true, _&&_}
+use mathlib.Core.List.{List, [], _∷_, append-nil, reverse-cons}
+use native.Mathlib.Omega.{arith}
+use lib.ListN.{length, take, drop, length-append, take-append-drop}
+use lib.Seq.{take-append-seam}
+use lib.Dec.{eqb, leb}
+use borrow.Author.Tests.{eqb-true, leb-true}
+use Rattle.utf8.specs.Encoding.{encode, encodeAll}
+use Rattle.utf8.proofs.Laws.Booleans.{and-right}
+use Rattle.utf8.proofs.Laws.Encoding.{encode-one}
+use Rattle.utf8.proofs.TextCharacters.{encodeAll-append, take-back}
+use Rattle.turkish.specs.Letters.{text, among}
+use Rattle.turkish.specs.Harmony.{lastVowel, syllables}
+use Rattle.turkish.specs.Stage.{stage, kept}
+use Rattle.turkish.specs.Postlude.{reserved, gained, appendU, hard, harden, postlude}
+use Rattle.turkish.specs.WordPass.{foldChar, fold, Passed, passStage, pass}
+use Rattle.turkish.specs.Calls.{chars, bytes, accepted, keptLength, stagePart, postludeText, foldText, passText}
+use Rattle.turkish.proofs.Laws.Tests.{cond-test}
+use Rattle.turkish.proofs.Laws.Accepted.{accepted-text, bytes-chars}
+use Rattle.turkish.proofs.PostludeRules.{appends, postlude-one}
+
+-- ---- characters ----
+
+-- one more character takes its bytes more
+bytes-cons : (c : ℕ) (cs : List ℕ) → length (bytes (c ∷ cs)) ≡ length (bytes cs) + length (encode c)
+unfolding bytes encodeAll
+bytes-cons c cs = rw (reverse-cons, encodeAll-append, append-nil, length-append)
+
+-- some characters fewer take no more bytes
+bytes-drop : (n : ℕ) (cs : List ℕ) → length (bytes (drop n cs)) ≤ length (bytes cs)
+bytes-drop zero cs = omega arith
+bytes-drop (suc n) [] = omega arith
+bytes-drop (suc n) (c ∷ cs) = omega (arith, bytes-drop n cs, bytes-cons c cs)
+
+-- a gained vowel takes two bytes at most
+gained-size : (v : ℕ) → length (encode (gained v)) ≤ 2
+unfolding gained encode
+gained-size v =
+    cond-test P (among (text "aı") v) (λ e. omega arith)
+    (cond-test P (among (text "ei") v) (λ e. omega arith)
+    (cond-test P (among (text "ou") v) (λ e. omega arith)
+    (cond-test P (among (text "öü") v) (λ e. omega arith) (omega arith))))
+  where
+    P : ℕ → Type 0
+    P c = length (encode c) ≤ 2
+
+-- a hardened character takes two bytes more at most
+hard-size : (c : ℕ) → length (encode (hard c)) ≤ length (encode c) + 2
+unfolding hard encode
+hard-size c =
+    cond-test P (eqb c (code "b")) (λ e. omega arith)
+    (cond-test P (eqb c (code "c")) (λ e. omega arith)
+    (cond-test P (eqb c (code "d")) (λ e. omega arith)
+    (cond-test P (eqb c (code "ğ")) (λ e. omega arith) (omega arith))))
+  where
+    P : ℕ → Type 0
+    P d = length (encode d) ≤ length (encode c) + 2
+
+-- a folded character takes as many bytes
+foldChar-size : (c : ℕ) → length (encode (foldChar c)) ≡ length (encode c)
+unfolding foldChar encode
+foldChar-size c =
+    cond-test P (leb (code "A") c && leb c (code "Z")) ascii
+    (cond-test P (eqb c (code "Ç")) (equal (code "Ç"))
+    (cond-test P (eqb c (code "Ğ")) (equal (code "Ğ"))
+    (cond-test P (eqb c (code "Ö")) (equal (code "Ö"))
+    (cond-test P (eqb c (code "Ş")) (equal (code "Ş"))
+    (cond-test P (eqb c (code "Ü")) (equal (code "Ü")) refl)))))
+  where
+    P : ℕ → Type 0
+    P d = length (encode d) ≡ length (encode c)
+
+    ascii : leb (code "A") c && leb c (code "Z") ≡ true → P (c + 0x20)
+    ascii e =
+        let h : c ≤ 0x5A = leb-true c 0x5A (and-right (leb (code "A") c) (leb c (code "Z")) e) in
+        ap length (encode-one (c + 0x20) (omega arith)) ∙ sym (ap length (encode-one c (omega arith)))
+
+    equal : (u : ℕ) → eqb c u ≡ true → length (encode u) ≡ length (encode c)
+    equal u e = ap (λ (d : ℕ). length (encode d)) (sym (eqb-true c u e))
+
+-- ---- texts ----
+
+-- one text takes two bytes more than another, at most
+abbrev TwoMore : List ℕ → List ℕ → Type 0
+TwoMore cs ds = length (bytes ds) ≤ length (bytes cs) + 2
+
+-- a gained vowel adds two bytes at most
+appendU-size : (cs : List ℕ) → TwoMore cs (appendU cs)
+unfolding appendU appends
+appendU-size [] = omega arith
+appendU-size (c ∷ cs) =
+    cond-test (TwoMore (c ∷ cs)) (appends (c ∷ cs))
+    (λ e. omega (arith, bytes-cons (gained (lastVowel cs)) (c ∷ cs), gained-size (lastVowel cs)))
+    (omega arith)
+
+-- so does a hardened consonant
+harden-size : (cs : List ℕ) → TwoMore cs (harden cs)
+unfolding harden
+harden-size [] = omega arith
+harden-size (c ∷ cs) = omega (arith, bytes-cons c cs, bytes-cons (hard c) cs, hard-size c)
+
+-- so does the postlude
+postlude-size : (cs : List ℕ) → TwoMore cs (postlude cs)
+postlude-size cs =
+    rw (postlude-one cs)
+    (cond-test (TwoMore cs) (reserved cs) (λ e. omega arith) (cond-test (TwoMore cs) (appends cs) (λ e. appendU-size cs) (harden-size cs)))
+
+-- so does the pass
+pass-size : (cs : List ℕ) → TwoMore cs (pass cs .text)
+unfolding pass passStage kept
+pass-size cs =
+    let d : length (bytes (kept cs)) ≤ length (bytes cs) = bytes-drop (stage cs .removed) cs in
+    cond-test (λ (r : Passed). TwoMore cs (r .text)) (syllables cs)
+    (λ e. cond-test (TwoMore cs) (stage cs .flag) (λ e. omega (arith, postlude-size (kept cs))) (omega arith))
+    (omega arith)
+
+-- the fold adds none
+fold-size : (cs : List ℕ) → length (bytes (fold cs)) ≡ length (bytes cs)
+unfolding fold
+fold-size [] = refl
+fold-size (c ∷ cs) = omega (arith, bytes-cons c cs, bytes-cons (foldChar c) (fold cs), foldChar-size c, fold-size cs)
+
+-- ---- words ----
+
+-- the postlude's output of n + 2 bytes is long enough
+pub postludeText-size : (w : List ℕ) → accepted w ≡ true → length (postludeText w) ≤ length w + 2
+unfolding postludeText
+postludeText-size w e = rw (bytes-chars w e) at (postlude-size (chars w))
+
+-- and the pass's
+pub passText-size : (w : List ℕ) → accepted w ≡ true → length (passText w) ≤ length w + 2
+unfolding passText
+passText-size w e = rw (bytes-chars w e) at (pass-size (chars w))
+
+-- and the fold's of n bytes, which it fills
+pub foldText-size : (w : List ℕ) → accepted w ≡ true → length (foldText w) ≡ length w
+unfolding foldText
+foldText-size w e = rw (bytes-chars w e) at (fold-size (chars w))
+
+-- the part handed back is a front of the word
+pub stagePart-front : (w : List ℕ) → stagePart w ≡ take (length (stagePart w)) w
+unfolding stagePart
+stagePart-front w =
+    cond-test (λ s. s ≡ take (length s) w) (accepted w)
+    (λ e. sym (rw take-append-drop at (take-append-seam (take (keptLength w) w) (drop (keptLength w) w))))
+    refl
+
+-- and holds the bytes of the characters kept
+pub kept-bytes : (w : List ℕ) → accepted w ≡ true → take (keptLength w) w ≡ bytes (kept (chars w))
+unfolding keptLength bytes kept chars
+kept-bytes w e = take-back w (accepted-text w e) (stage (chars w) .removed)

@@ -1,0 +1,93 @@
+-- The words that document 01 marks for proof ("Words with their outcome"), as one table, proved over the definitions that the
+-- calls' contracts cite. Assumes nothing.
+use Prim.Native.Nat.{ℕ, _+_}
+use Prim.Native.String.{String}
+use mathlib.Core.Path.{_≡_, refl}
+use mathlib.Core.Bool.{Bool, true, false}
+use mathlib.Core.List.{List, [], _∷_, map}
+use lib.ListN.{length}
+use Rattle.utf8.specs.Encoding.{encode, encodeAll, decode}
+use Rattle.utf8.specs.Validity.{table37, due, refused, leadIn, lead, next, accepts, isText}
+use Rattle.utf8.specs.Characters.{continuation, width, goesOn, lastWidth, charAt, lastChar, beforeWithin, before, back as placeBack}
+use Rattle.utf8.specs.Steps.{same}
+use Rattle.turkish.specs.declared.answer.StageAnswer.{StageAnswer}
+use Rattle.turkish.specs.declared.answer.PostludeAnswer.{PostludeAnswer}
+use Rattle.turkish.specs.declared.answer.PassAnswer.{PassAnswer}
+use Rattle.turkish.specs.Letters.{text, back, any, among, starts}
+use Rattle.turkish.specs.Harmony.{vowels, vowel, partnerTable, partnersIn, partner, lastVowel, beyond, harmony, syllables}
+use Rattle.turkish.specs.Grammar.{more, after, first, asking, key, optionalY, markOf, try, run}
+use Rattle.turkish.specs.Marks.{marked, yUm, sUn, yUz, sUnUz, lAr, nUz, DUr, cAsInA, yDU, ysA, ymUs, yken}
+use Rattle.turkish.specs.Stage.{person, branch1, branch2, branch3, branch4, branch5, branch6, stem, staged, stage, kept}
+use Rattle.turkish.specs.Postlude.{reserved, gained, appendU, hard, harden, postlude, postludeAnswer}
+use Rattle.turkish.specs.WordPass.{passStage, pass}
+use Rattle.turkish.specs.Calls.{chars, bytes, limit, refusal, refusalInto, accepted, keptLength, stagePart, stageCall, postludeText, postludeRefusal, postludeCall, passText, passRefusal, passCall}
+
+-- what a call gives: its answer and its text
+pub data Given : Type 0 where
+  byStage : StageAnswer → List ℕ → Given
+  byPostlude : PostludeAnswer → List ℕ → Given
+  byPass : PassAnswer → List ℕ → Given
+
+-- a row: what a call gives, and what document 01 says
+pub record Row : Type 0 where
+  pub found : Given
+  pub expected : Given
+
+-- a word of bytes, written as text
+unfoldable pub word : String → List ℕ
+word s = encodeAll (text s)
+
+-- the stage of a word: the text kept, yes or no, the flag
+unfoldable pub stageOf : String → String → Bool → Bool → Row
+stageOf w t y f =
+    record {
+      found = byStage (stageCall (word w)) (stagePart (word w));
+      expected = byStage (record { refusal = 0; length = length (word t); yes = y; flag = f }) (word t);
+    }
+
+-- the postlude of a word, with an output of n + 2 bytes: the text, yes or no
+unfoldable pub postludeOf : String → String → Bool → Row
+postludeOf w t y =
+    record {
+      found = byPostlude (postludeCall (word w) (length (word w) + 2)) (postludeText (word w));
+      expected = byPostlude (record { refusal = 0; length = length (word t); yes = y }) (word t);
+    }
+
+-- the pass of a word, with an output of n + 2 bytes: the text, the syllable check, the stage's yes or no, the flag
+unfoldable pub passOf : String → String → Bool → Bool → Bool → Row
+passOf w t s y f =
+    record {
+      found = byPass (passCall (word w) (length (word w) + 2)) (passText (word w));
+      expected = byPass (record { refusal = 0; length = length (word t); syllable = s; yes = y; flag = f }) (word t);
+    }
+
+-- the starred words
+unfoldable pub table : List Row
+table =
+    stageOf "" "" false true
+    ∷ stageOf "siniz" "" true true
+    ∷ stageOf "sinizdir" "siniz" true true
+    ∷ stageOf "evler" "ev" true false
+    ∷ stageOf "lar" "lar" false true
+    ∷ stageOf "kalemlar" "kalem" true false
+    ∷ stageOf "saatler" "saatler" false true
+    ∷ stageOf "arabayken" "araba" true true
+    ∷ stageOf "evyken" "evyken" false true
+    ∷ postludeOf "ad" "ad" false
+    ∷ postludeOf "soyad" "soyad" false
+    ∷ postludeOf "kanad" "kanadı" true
+    ∷ postludeOf "bd" "bt" true
+    ∷ postludeOf "bg" "bg" true
+    ∷ passOf "kanaddır" "kanadı" true true true
+    ∷ []
+
+-- every starred word has its outcome
+pub starred : map (λ (r : Row). r .found) table ≡ map (λ (r : Row). r .expected) table
+unfolding table stageOf postludeOf passOf word
+    stageCall stagePart keptLength postludeCall postludeText postludeRefusal passCall passText passRefusal refusalInto accepted refusal limit chars bytes
+    encodeAll encode decode isText accepts next lead leadIn table37 due refused before beforeWithin lastChar charAt lastWidth width goesOn continuation placeBack
+    pass passStage postlude postludeAnswer reserved same appendU gained harden hard
+    kept stage staged stem branch1 branch2 branch3 branch4 branch5 branch6 person try run markOf optionalY key asking first after more
+    marked yUm sUn yUz sUnUz lAr nUz DUr cAsInA yDU ysA ymUs yken
+    syllables harmony beyond lastVowel partner partnersIn partnerTable vowel vowels starts among any back text
+starred = refl

@@ -1,0 +1,94 @@
+-- The file to open first: what the definitions of turkish promise, in the words of the user's demands. Each theorem is proved in
+-- a line or two from the files named for what they prove. That the code gives these definitions' answers is the contracts' part.
+-- Assumes nothing.
+use Prim.Native.Nat.{ℕ, _+_, _≤_, _<_}
+use mathlib.Core.Path.{_≡_, refl, sym, _∙_}
+use mathlib.Core.Bool.{Bool, true, false, cond, not}
+use mathlib.Core.List.{List, map, List·Memᴰ}
+use mathlib.Core.Logic.{_↔_}
+use lib.ListN.{length, take}
+use lib.Dec.{eqb}
+use Rattle.utf8.specs.Text.{TextOf}
+use Rattle.utf8.specs.Validity.{isText}
+use Rattle.utf8.specs.Characters.{continuation}
+use Rattle.turkish.specs.Letters.{starts}
+use Rattle.turkish.specs.Harmony.{syllables}
+use Rattle.turkish.specs.Stage.{stage, kept}
+use Rattle.turkish.specs.Postlude.{reserved, appendU, harden, postlude}
+use Rattle.turkish.specs.Calls.{chars, bytes, limit, accepted, keptLength, stagePart, stageCall, postludeText, postludeRefusal, postludeOut, foldText, foldRefusal, foldOut, passText, passRefusal, passOut}
+use Rattle.turkish.proofs.Laws.Bounds.{stage-most, stage-yes, stage-no}
+use Rattle.turkish.proofs.Laws.Accepted.{accepted-iff}
+use Rattle.turkish.specs.Fronts.{mostRemoved, Pair, leftEmpty, oneOf}
+use Rattle.turkish.specs.FareAlike.{CallsAlike}
+use Rattle.turkish.proofs.Fronts.{calls-alike}
+use Rattle.turkish.proofs.Nothing.{left-empty}
+use Rattle.turkish.proofs.Laws.Syllables.{syllables-no}
+use Rattle.turkish.proofs.Sizes.{postludeText-size, passText-size, foldText-size, stagePart-front, kept-bytes}
+use Rattle.turkish.proofs.Tables.{tables, one-key}
+use Rattle.turkish.proofs.PostludeRules.{appends, postlude-one}
+use Rattle.turkish.proofs.Starred as Starred
+
+-- ---- demand 1: who is refused, and that a refused output stays ----
+
+-- a word is accepted exactly when it has at most 1,024 bytes and is UTF-8
+pub accepts-exactly : (w : List ℕ) → (accepted w ≡ true) ↔ ((length w ≤ 1024) × (isText w ≡ true))
+accepts-exactly w = accepted-iff w
+
+-- a call refused under any number leaves its output as it was
+pub refused-stays : (w out : List ℕ)
+    → (eqb (postludeRefusal w (length out)) 0 ≡ false → postludeOut w out ≡ out)
+    × (eqb (foldRefusal w (length out)) 0 ≡ false → foldOut w out ≡ out)
+    × (eqb (passRefusal w (length out)) 0 ≡ false → passOut w out ≡ out)
+unfolding postludeOut foldOut passOut
+refused-stays w out = (λ e. rw e, λ e. rw e, λ e. rw e)
+
+-- the outputs asked for suffice: n + 2 bytes for postlude and pass, n for the fold, which fills them
+pub outputs-suffice : (w : List ℕ) → accepted w ≡ true
+    → (length (postludeText w) ≤ length w + 2) × (length (passText w) ≤ length w + 2) × (length (foldText w) ≡ length w)
+outputs-suffice w a = (postludeText-size w a, passText-size w a, foldText-size w a)
+
+-- ---- demand 3 ----
+
+-- two accepted words of 16 characters or more that share their last 16, with fronts alike in their vowels, fare alike
+pub fronts-fare-alike : (u v o p : List ℕ) → Pair u v → length u + 2 ≤ length o → length v + 2 ≤ length p → CallsAlike u v o p
+fronts-fare-alike = calls-alike
+
+-- of an accepted word the suffix stage leaves nothing exactly when it is empty, siniz, sunuz, sınız or sünüz
+pub nothing-left : (w : List ℕ) → accepted w ≡ true → eqb (stageCall w .length) 0 ≡ oneOf leftEmpty w
+unfolding stageCall
+nothing-left w a = rw a (left-empty w a)
+
+-- ---- the starred words of document 01 ----
+
+pub starred-words : map (λ (r : Starred.Row). r .found) Starred.table ≡ map (λ (r : Starred.Row). r .expected) Starred.table
+starred-words = Starred.starred
+
+-- ---- the suffix stage ----
+
+-- it removes at most 15 characters
+pub removes-at-most-15 : (w : List ℕ) → stage (chars w) .removed ≤ mostRemoved
+unfolding mostRemoved
+removes-at-most-15 w = stage-most (chars w)
+
+-- what it hands back is a front part of the word's bytes, and of an accepted word it is the characters kept
+pub keeps-a-front : (w : List ℕ) → (stagePart w ≡ take (length (stagePart w)) w) × (accepted w ≡ true → take (keptLength w) w ≡ bytes (kept (chars w)))
+keeps-a-front w = (stagePart-front w, kept-bytes w)
+
+-- a yes means that something was removed; a no that nothing was, and then the flag is true
+pub yes-removes : (cs : List ℕ) → (stage cs .answer ≡ true → 0 < stage cs .removed) × (stage cs .answer ≡ false → (stage cs .removed ≡ 0) × (stage cs .flag ≡ true))
+yes-removes cs = (stage-yes cs, stage-no cs)
+
+-- where the syllable check says no, the stage says no with flag true
+pub one-syllable-has-no-ending : (cs : List ℕ) → syllables cs ≡ false → stage cs ≡ record { removed = 0; answer = false; flag = true }
+one-syllable-has-no-ending = syllables-no
+
+-- ---- the key tables and the postlude's rules ----
+
+-- at most one key of a table ends a text
+pub at-most-one-key : (cs : List ℕ) {ks : List (List ℕ)} {j k : List ℕ} → List·Memᴰ ks tables → List·Memᴰ j ks → List·Memᴰ k ks
+    → starts j cs ≡ true → starts k cs ≡ true → j ≡ k
+at-most-one-key = one-key
+
+-- the postlude's three rules never act together: a reserved word stays, a vowel is gained, or the last consonant hardens
+pub one-rule-acts : (cs : List ℕ) → postlude cs ≡ cond (reserved cs) cs (cond (appends cs) (appendU cs) (harden cs))
+one-rule-acts = postlude-one
