@@ -1,0 +1,102 @@
+-- What a sound says of a code point: whether it is a vowel, and which its partners are. The partners are the definition's because each
+-- vowel has one to four of them, which is computed over the vowels. Assumes nothing.
+use Prim.Native.Nat.{ℕ, _≤_, _<_}
+use mathlib.Core.Path.{_≡_, refl, ap, _∙_}
+use mathlib.Core.Bool.{Bool, true, false, cond, not, _&&_, false≢true, true≢false, or-false, or-self}
+use mathlib.Core.List.{List, [], _∷_}
+use native.Mathlib.Omega.{arith}
+use lib.ListN.{length}
+use lib.Dec.{eqb, leb}
+use borrow.Author.Tests.{eqb-true, leb-true, ne-eqb}
+use Rattle.utf8.proofs.Laws.Booleans.{and-left, and-right}
+use Rattle.turkish.specs.Letters.{text, any, among}
+use Rattle.turkish.specs.Harmony.{vowels, vowel, partnersIn, partnerTable, partner}
+use Rattle.stages.specs.declared.vowel.Vowel.{Vowel}
+use Rattle.stages.specs.declared.vowel.Sound.the-variants.{Is, Other}
+use Rattle.stages.specs.Sounds.{vowelOf, soundOf, partners, anyPartner}
+
+-- ---- lists of code points ----
+
+-- where two tests agree on every character, some character passes the one where some passes the other
+pub any-same : (f g : ℕ → Bool) (cs : List ℕ) → ((c : ℕ) → f c ≡ g c) → any f cs ≡ any g cs
+unfolding any
+any-same f g [] h = refl
+any-same f g (c ∷ cs) h = rw (h c, any-same f g cs h)
+
+-- a test that no character of a list fails passes on each of them
+pub among-passes : (f : ℕ → Bool) (cs : List ℕ) (c : ℕ) → any (λ x. not (f x)) cs ≡ false → among cs c ≡ true → f c ≡ true
+unfolding among any
+among-passes f [] c h e = absurd (false≢true e)
+among-passes f (x ∷ xs) c h e = go (eqb c x) (f x) refl refl (among-passes f xs c)
+  where
+    go : (s t : Bool) → eqb c x ≡ s → f x ≡ t → (any (λ y. not (f y)) xs ≡ false → among xs c ≡ true → f c ≡ true) → f c ≡ true
+    go s false p q k = absurd (true≢false (rw q at h))
+    go true true p q k = ap f (eqb-true c x p) ∙ q
+    go false true p q k = k (rw q at h) (rw p at e)
+
+-- ---- partners ----
+
+-- one to four partners are all kept
+pub vowelOf-partners : (ps : List ℕ) (c : ℕ) → 0 < length ps → length ps ≤ 4 → partners (vowelOf ps) c ≡ among ps c
+unfolding partners vowelOf among any
+vowelOf-partners [] c h k = absurd (omega arith)
+vowelOf-partners (a ∷ []) c h k = simp (or-self, or-false)
+vowelOf-partners (a ∷ b ∷ []) c h k = simp (or-self, or-false)
+vowelOf-partners (a ∷ b ∷ d ∷ []) c h k = simp (or-self, or-false)
+vowelOf-partners (a ∷ b ∷ d ∷ e ∷ []) c h k = simp or-false
+vowelOf-partners (a ∷ b ∷ d ∷ e ∷ f ∷ ps) c h k = absurd (omega arith)
+
+-- that a code point has as many
+few : ℕ → Bool
+few c = leb 1 (length (partnersIn partnerTable c)) && leb (length (partnersIn partnerTable c)) 4
+
+-- each vowel has
+vowel-few : (c : ℕ) → vowel c ≡ true → few c ≡ true
+unfolding vowel vowels text any partnersIn partnerTable few
+vowel-few c e = among-passes few vowels c refl e
+
+-- a vowel's partners are the definition's
+vowelOf-partner : (ch c : ℕ) → vowel ch ≡ true → partners (vowelOf (partnersIn partnerTable ch)) c ≡ partner ch c
+unfolding partner few
+vowelOf-partner ch c e =
+    let n : ℕ = length (partnersIn partnerTable ch) in
+    vowelOf-partners (partnersIn partnerTable ch) c
+    (leb-true 1 n (and-left (leb 1 n) (leb n 4) (vowel-few ch e)))
+    (leb-true n 4 (and-right (leb 1 n) (leb n 4) (vowel-few ch e)))
+
+-- ---- sounds ----
+
+-- where a test chose no vowel, it failed
+chosen-other : (t : Bool) (v : Vowel) → cond t (Is v) Other ≡ Other → t ≡ false
+chosen-other false v e = refl
+chosen-other true v e = let z : _≡_ {A = ℕ} 0 1 = cc in absurd (omega arith)
+
+-- where it chose a vowel, it passed, and that is the one
+chosen-is : (t : Bool) (u v : Vowel) → cond t (Is u) Other ≡ Is v → (t ≡ true) × (v ≡ u)
+chosen-is false u v e = let z : _≡_ {A = ℕ} 0 1 = cc in absurd (omega arith)
+chosen-is true u v e = (refl, cc)
+
+-- a code point of another sound is no vowel
+pub soundOf-other : (ch : ℕ) → soundOf ch ≡ Other → vowel ch ≡ false
+unfolding soundOf
+soundOf-other ch e = chosen-other (vowel ch) (vowelOf (partnersIn partnerTable ch)) e
+
+-- a code point of a vowel's sound is a vowel
+pub soundOf-vowel : (ch : ℕ) (v : Vowel) → soundOf ch ≡ Is v → vowel ch ≡ true
+unfolding soundOf
+soundOf-vowel ch v e = chosen-is (vowel ch) (vowelOf (partnersIn partnerTable ch)) v e .0
+
+-- and its partners are that vowel's
+pub soundOf-partners : (ch : ℕ) (v : Vowel) (cs : List ℕ) → soundOf ch ≡ Is v → anyPartner v cs ≡ any (partner ch) cs
+unfolding soundOf anyPartner
+soundOf-partners ch v cs e =
+    let d = chosen-is (vowel ch) (vowelOf (partnersIn partnerTable ch)) v e in
+    ap (λ (u : Vowel). any (partners u) cs) (d .1) ∙ any-same _ _ cs (λ c. vowelOf-partner ch c (d .0))
+
+-- a code point that is none of the eight vowels has another sound
+pub soundOf-none : (ch : ℕ) → (ch ≡ 0x61 → ⊥) → (ch ≡ 0x65 → ⊥) → (ch ≡ 0x69 → ⊥) → (ch ≡ 0x6F → ⊥)
+    → (ch ≡ 0x75 → ⊥) → (ch ≡ 0xF6 → ⊥) → (ch ≡ 0xFC → ⊥) → (ch ≡ 0x131 → ⊥) → soundOf ch ≡ Other
+unfolding soundOf vowel vowels text among any
+soundOf-none ch a e i o u ö ü ı =
+    rw (ne-eqb ch 0x61 a, ne-eqb ch 0x65 e, ne-eqb ch 0x131 ı, ne-eqb ch 0x69 i)
+    (rw (ne-eqb ch 0x6F o, ne-eqb ch 0xF6 ö, ne-eqb ch 0x75 u, ne-eqb ch 0xFC ü))

@@ -1,0 +1,113 @@
+-- A walk back over a word, a character a turn: what one turn passes, and what a walk's answer is when it skips a character, stops at
+-- one, or comes to the word's start. Assumes nothing.
+use Prim.Native.Nat.{ℕ, _-_, _≤_, _<_}
+use mathlib.Core.Path.{_≡_, sym, ap, ap₂, _∙_}
+use mathlib.Core.Bool.{Bool, true, false}
+use mathlib.Core.List.{List, [], _∷_}
+use native.Mathlib.Omega.{arith}
+use Rattle.utf8.specs.Characters.{lastWidth, lastChar, charAt, before}
+use Rattle.utf8.proofs.Laws.Characters.{before-zero, before-step, lastWidth-pos, lastWidth-four, lastWidth-le}
+use Rattle.turkish.specs.Letters.{any}
+use Rattle.turkish.specs.Harmony.{vowel, partner, lastVowel, beyond, harmony, syllables}
+
+-- ---- one turn ----
+
+-- a turn passes one to four bytes, none of them before the word's start
+pub turn-width : (w : List ℕ) (at n : ℕ) → 0 < at → n ≡ lastWidth w at → (0 < n) × (n ≤ 4) × (n ≤ at)
+turn-width w at n h e = rw e (lastWidth-pos w at, lastWidth-four w at, lastWidth-le w at h)
+
+-- and the character that they are
+pub turn-char : (w : List ℕ) (at n ch : ℕ) → 0 < at → n ≡ lastWidth w at → ch ≡ charAt w (at - n) n
+    → before w at ≡ ch ∷ before w (at - n)
+unfolding lastChar
+turn-char w at n ch h e d = before-step w at h ∙ sym (rw (d, e))
+
+-- no turn is left at the word's start
+pub turn-none : (w : List ℕ) (at : ℕ) → at ≤ 0 → before w at ≡ []
+turn-none w at h = let e : at ≡ 0 = omega arith in ap (before w) e ∙ before-zero w
+
+-- ---- some character passes a test ----
+
+module _ (f : ℕ → Bool) where
+  -- a character that fails it is skipped
+  pub any-skips : {l cs : List ℕ} {c : ℕ} → l ≡ c ∷ cs → f c ≡ false → any f cs ≡ any f l
+  unfolding any
+  any-skips e d = rw (e, d)
+
+  -- one that passes it ends the walk with yes
+  pub any-stops : {l cs : List ℕ} {c : ℕ} → l ≡ c ∷ cs → f c ≡ true → true ≡ any f l
+  unfolding any
+  any-stops e d = rw (e, d)
+
+  -- at the word's start none does
+  pub any-none : {l : List ℕ} → l ≡ [] → false ≡ any f l
+  unfolding any
+  any-none e = rw e
+
+-- ---- the last vowel ----
+
+-- a character that is no vowel is skipped
+pub lastVowel-skips : {l cs : List ℕ} {c : ℕ} → l ≡ c ∷ cs → vowel c ≡ false → lastVowel cs ≡ lastVowel l
+unfolding lastVowel
+lastVowel-skips e d = rw (e, d)
+
+-- a vowel ends the walk
+pub lastVowel-stops : {l cs : List ℕ} {c : ℕ} → l ≡ c ∷ cs → vowel c ≡ true → c ≡ lastVowel l
+unfolding lastVowel
+lastVowel-stops e d = rw (e, d)
+
+-- there is none at the word's start
+pub lastVowel-none : {l : List ℕ} → l ≡ [] → 0 ≡ lastVowel l
+unfolding lastVowel
+lastVowel-none e = rw e
+
+-- ---- what stands beyond it ----
+
+-- a character that is no vowel is skipped
+pub beyond-skips : {l cs : List ℕ} {c : ℕ} → l ≡ c ∷ cs → vowel c ≡ false → beyond cs ≡ beyond l
+unfolding beyond
+beyond-skips e d = rw (e, d)
+
+-- beyond a vowel stands the rest
+pub beyond-stops : {l cs : List ℕ} {c : ℕ} → l ≡ c ∷ cs → vowel c ≡ true → cs ≡ beyond l
+unfolding beyond
+beyond-stops e d = rw (e, d)
+
+-- nothing stands beyond the word's start
+pub beyond-none : {l : List ℕ} → l ≡ [] → [] ≡ beyond l
+unfolding beyond
+beyond-none e = rw e
+
+-- ---- harmony ----
+
+-- a character that is no vowel is skipped
+pub harmony-skips : {l cs : List ℕ} {c : ℕ} → l ≡ c ∷ cs → vowel c ≡ false → harmony cs ≡ harmony l
+unfolding harmony
+harmony-skips e d = ap₂ (λ (v : ℕ) (bs : List ℕ). any (partner v) bs) (lastVowel-skips e d) (beyond-skips e d)
+
+-- at a vowel the rest is searched for its partners
+pub harmony-stops : {l cs : List ℕ} {c : ℕ} → l ≡ c ∷ cs → vowel c ≡ true → any (partner c) cs ≡ harmony l
+unfolding harmony
+harmony-stops e d = ap₂ (λ (v : ℕ) (bs : List ℕ). any (partner v) bs) (lastVowel-stops e d) (beyond-stops e d)
+
+-- there is none at the word's start
+pub harmony-none : {l : List ℕ} → l ≡ [] → false ≡ harmony l
+unfolding harmony
+harmony-none {l} e = any-none (partner (lastVowel l)) (sym (beyond-none e))
+
+-- ---- syllables ----
+
+-- a character that is no vowel is skipped
+pub syllables-skips : {l cs : List ℕ} {c : ℕ} → l ≡ c ∷ cs → vowel c ≡ false → syllables cs ≡ syllables l
+unfolding syllables
+syllables-skips e d = ap (any vowel) (beyond-skips e d)
+
+-- at a vowel the rest is searched for another
+pub syllables-stops : {l cs : List ℕ} {c : ℕ} → l ≡ c ∷ cs → vowel c ≡ true → any vowel cs ≡ syllables l
+unfolding syllables
+syllables-stops e d = ap (any vowel) (beyond-stops e d)
+
+-- there are none at the word's start
+pub syllables-none : {l : List ℕ} → l ≡ [] → false ≡ syllables l
+unfolding syllables
+syllables-none e = any-none vowel (sym (beyond-none e))

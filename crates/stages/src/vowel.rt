@@ -1,0 +1,120 @@
+// The eight vowels and their partners (turkish.rs, `G_vowel` and `G_vowel1` to `G_vowel6`): what may stand earlier in harmony.
+ghost use mathlib.Core.Path.{_≡_};
+ghost use Rattle.turkish.specs.Harmony.{vowel, partner};
+ghost use Rattle.stages.specs.Sounds.{soundOf, partners};
+
+// A vowel by its partners, up to four code points; where there are fewer, the last is named again.
+pub struct Vowel {
+    pub first: u32,
+    pub second: u32,
+    pub third: u32,
+    pub fourth: u32,
+}
+
+// What a character is to harmony.
+pub enum Sound {
+    Is(Vowel),
+    Other,
+}
+
+impl Vowel {
+    // a: a ı o u
+    pub const A: Vowel = Vowel {
+        first: 0x61,
+        second: 0x131,
+        third: 0x6F,
+        fourth: 0x75,
+    };
+    // e: e i ö ü
+    pub const E: Vowel = Vowel {
+        first: 0x65,
+        second: 0x69,
+        third: 0xF6,
+        fourth: 0xFC,
+    };
+    // ı: a ı
+    pub const DOTLESS_I: Vowel = Vowel {
+        first: 0x61,
+        second: 0x131,
+        third: 0x131,
+        fourth: 0x131,
+    };
+    // i: e i
+    pub const I: Vowel = Vowel {
+        first: 0x65,
+        second: 0x69,
+        third: 0x69,
+        fourth: 0x69,
+    };
+    // o and u: o u
+    pub const O: Vowel = Vowel {
+        first: 0x6F,
+        second: 0x75,
+        third: 0x75,
+        fourth: 0x75,
+    };
+
+    pub const U: Vowel = Vowel {
+        first: 0x6F,
+        second: 0x75,
+        third: 0x75,
+        fourth: 0x75,
+    };
+    // ö and ü: ö ü
+    pub const O_UMLAUT: Vowel = Vowel {
+        first: 0xF6,
+        second: 0xFC,
+        third: 0xFC,
+        fourth: 0xFC,
+    };
+
+    pub const U_UMLAUT: Vowel = Vowel {
+        first: 0xF6,
+        second: 0xFC,
+        third: 0xFC,
+        fourth: 0xFC,
+    };
+
+    // The vowel that a code point is.
+    pub fn of(ch: u32) -> Sound
+        ensures { λ r. ⌜ r ≡ soundOf ch ⌝ }
+    {
+        match ch {
+            0x61 => Sound::Is(Vowel::A),
+            0x65 => Sound::Is(Vowel::E),
+            0x69 => Sound::Is(Vowel::I),
+            0x6F => Sound::Is(Vowel::O),
+            0x75 => Sound::Is(Vowel::U),
+            0xF6 => Sound::Is(Vowel::O_UMLAUT),
+            0xFC => Sound::Is(Vowel::U_UMLAUT),
+            0x131 => Sound::Is(Vowel::DOTLESS_I),
+            _ => Sound::Other,
+        }
+    }
+
+    // Whether a code point is one of the vowel's partners.
+    pub fn has_partner(self, ch: u32) -> bool
+        ensures { λ r. ⌜ r ≡ partners self ch ⌝ }
+    {
+        if ch == self.first {
+            return true;
+        }
+        if ch == self.second {
+            return true;
+        }
+        if ch == self.third {
+            return true;
+        }
+        ch == self.fourth
+    }
+}
+
+// Whether a code point is a vowel.
+pub fn is_vowel(ch: u32) -> bool
+    ensures { λ r. ⌜ r ≡ vowel ch ⌝ }
+{
+    let Sound::Is(_) = Vowel::of(ch) else {
+        return false;
+    };
+    true
+}
