@@ -1,7 +1,20 @@
-// What a host program links: thin calls under C's convention, each with its contract by the library's own definitions.
+// What a host program links: thin calls under C's convention, each with its contract by the library's own definitions. None asks
+// anything of its caller beyond what the signature says.
+use turkish::answer::FoldAnswer;
+use turkish::answer::PassAnswer;
+use turkish::answer::PostludeAnswer;
+use turkish::answer::StageAnswer;
+use turkish::answer::SyllableAnswer;
 use utf8::validity;
+use words::fold;
+use words::pass;
+use words::postlude;
+use words::stem;
+use words::syllable;
 ghost use mathlib.Core.Path.{_≡_};
+ghost use lib.ListN.{length};
 ghost use Rattle.utf8.specs.Validity.{isText};
+ghost use Rattle.turkish.specs.Calls.{syllableCall, stageCall, postludeCall, postludeOut, foldCall, foldOut, passCall, passOut};
 
 // Whether the bytes are UTF-8. Takes any slice.
 #[no_mangle]
@@ -9,4 +22,44 @@ pub extern "C" fn fannavy_is_utf8(w: &[u8]) -> bool
     ensures { λ r. ⌜ r ≡ isText (now (w .entry)) ⌝ }
 {
     validity::is_utf8(w)
+}
+
+// Whether the word has two or more vowels.
+#[no_mangle]
+pub extern "C" fn fannavy_syllable(w: &[u8]) -> SyllableAnswer
+    ensures { λ r. ⌜ r ≡ syllableCall (now (w .entry)) ⌝ }
+{
+    syllable::check_syllables(w)
+}
+
+// The suffix stage's numbers: the kept text is the word's first `length` bytes.
+#[no_mangle]
+pub extern "C" fn fannavy_stage(w: &[u8]) -> StageAnswer
+    ensures { λ r. ⌜ r ≡ stageCall (now (w .entry)) ⌝ }
+{
+    stem::stem_numbers(w)
+}
+
+// The postlude of the word, to an output of n + 2 bytes or more.
+#[no_mangle]
+pub extern "C" fn fannavy_postlude(w: &[u8], out: &mut [u8]) -> PostludeAnswer
+    ensures { λ r. ⌜ (r ≡ postludeCall (now (w .entry)) (length (now (out .entry)))) × (now (out .exit) ≡ postludeOut (now (w .entry)) (now (out .entry))) ⌝ }
+{
+    postlude::repair_end(w, out)
+}
+
+// The word folded, to an output of n bytes or more.
+#[no_mangle]
+pub extern "C" fn fannavy_fold(w: &[u8], out: &mut [u8]) -> FoldAnswer
+    ensures { λ r. ⌜ (r ≡ foldCall (now (w .entry)) (length (now (out .entry)))) × (now (out .exit) ≡ foldOut (now (w .entry)) (now (out .entry))) ⌝ }
+{
+    fold::fold_word(w, out)
+}
+
+// The word pass, to an output of n + 2 bytes or more.
+#[no_mangle]
+pub extern "C" fn fannavy_pass(w: &[u8], out: &mut [u8]) -> PassAnswer
+    ensures { λ r. ⌜ (r ≡ passCall (now (w .entry)) (length (now (out .entry)))) × (now (out .exit) ≡ passOut (now (w .entry)) (now (out .entry))) ⌝ }
+{
+    pass::pass_word(w, out)
 }

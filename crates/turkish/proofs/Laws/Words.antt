@@ -81,3 +81,10 @@ module _ (w : List ℕ) (t : TextOf w) where
   pub end-long : long w ≡ true → 16 ≤ length (chars (end w))
   unfolding long endLength
   end-long h = rw (chars-end, length-take) (omega (arith, leb-true))
+
+-- what stands before the place n characters back in a text is a text
+pub text-back : (w : List ℕ) → TextOf w → (n : ℕ) → TextOf (take (back w (length w) n) w)
+unfolding chars
+text-back w t n =
+    let parts : scalars (reverse (take n (chars w) ++ drop n (chars w))) ≡ true = rw take-append-drop (scalars-chars w t) in
+    record { chars = reverse (drop n (chars w)); valid = scalars-parts (take n (chars w)) (drop n (chars w)) parts .1; encoded = sym (take-back w t n) }

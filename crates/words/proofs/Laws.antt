@@ -1,0 +1,8 @@
+-- The laws of what the functions write, a file for each subject.
+pub mod Refusals
+pub mod FoldByte
+pub mod FoldBytes
+pub mod FoldCall
+pub mod Writing
+pub mod WordCalls
+pub mod RepairCalls

@@ -1,0 +1,35 @@
+-- `words::repair::write_repair` meets its contract: the bytes kept are copied, and those that follow them are stored after them.
+-- Assumes nothing.
+use native.Mathlib.Omega.{arith}
+use lib.ListN.{length-take}
+use borrow.Author.Needs.{needs}
+use Rattle.words.proofs.Laws.Writing.{length-repair, written-repair}
+use Rattle.words.proofs.repair.write_repair.Statement.{statement}
+use Rattle.words.proofs.repair.write_repair.Tie as tie
+
+slice-aggregate-copy : tie.Need-slice-aggregate-copy
+slice-aggregate-copy c = simp length-take (omega arith)
+
+copy-requires : tie.Need-copy-requires
+copy-requires c κs = simp length-take (omega arith)
+
+write-two-requires : tie.Need-write-two-requires
+write-two-requires c κs = search needs
+
+add-result : tie.Need-add-result
+add-result c = search needs
+
+same-length : tie.Need-same-length
+same-length c = search needs
+
+returns : tie.Need-returns
+returns c =
+    let at-start = c .before .before .before .before .before .before .before .before .before .before .before in (
+      length-repair _ _ (at-start .pre .0) (at-start .pre .1),
+      written-repair _ _ (at-start .pre .0) (at-start .pre .1) _ _ _ (c .before .before .before .before .before .before .copy .ensures .1) (c .before .before .write-two .ensures),
+    )
+
+pub write-repair-spec : {M : Type 1} → statement M
+write-repair-spec =
+    tie.close
+    (tie.spec slice-aggregate-copy copy-requires write-two-requires add-result same-length returns)

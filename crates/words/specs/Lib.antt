@@ -1,0 +1,2 @@
+-- How the code holds what the definitions of turkish say. No promise to a host rests on these.
+pub mod FoldBytes

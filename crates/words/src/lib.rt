@@ -1,0 +1,8 @@
+// The calls on a word of bytes, with their refusals (document 01, "Whose fault a refusal is"). None asks anything of its caller.
+pub mod fold;
+pub mod pass;
+pub mod postlude;
+pub mod refusal;
+pub mod repair;
+pub mod stem;
+pub mod syllable;

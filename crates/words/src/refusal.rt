@@ -1,0 +1,35 @@
+// Why a call refuses a word, as document 01's number; 0 where it does not.
+use utf8::validity;
+ghost use mathlib.Core.Path.{_≡_};
+ghost use lib.ListN.{length};
+ghost use Rattle.turkish.specs.Calls.{refusal, refusalInto};
+
+// The longest word, in bytes.
+pub const LIMIT: usize = 1024;
+
+// 1 over the limit, 2 not UTF-8.
+pub fn refusal_of(w: &[u8]) -> u32
+    ensures { λ r. ⌜ r ≡ refusal (now (w .entry)) ⌝ }
+{
+    if LIMIT < w.len() {
+        return 1;
+    }
+    if !validity::is_utf8(w) {
+        return 2;
+    }
+    0
+}
+
+// The same, and 3 where an output of `room` bytes is shorter than the call needs.
+pub fn refusal_into(w: &[u8], need: usize, room: usize) -> u32
+    ensures { λ r. ⌜ r ≡ refusalInto (now (w .entry)) need room ⌝ }
+{
+    let n = refusal_of(w);
+    if n != 0 {
+        return n;
+    }
+    if room < need {
+        return 3;
+    }
+    0
+}
