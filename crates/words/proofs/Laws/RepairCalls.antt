@@ -42,17 +42,17 @@ unfolding postludeText chars
 repair-postlude w a = repair-text w (length w) (rw take-length (accepted-text w a)) (le-refl (length w))
 
 -- the pass of a word of one syllable is the word
-pass-short : (w : List ℕ) → accepted w ≡ true → syllables (chars w) ≡ false → passText w ≡ w
+pub pass-short : (w : List ℕ) → accepted w ≡ true → syllables (chars w) ≡ false → passText w ≡ w
 unfolding passText pass
 pass-short w a s = rw s (bytes-chars w a)
 
 -- the pass of one whose flag is false is the text kept
-pass-cut : (w : List ℕ) → accepted w ≡ true → syllables (chars w) ≡ true → stage (chars w) .flag ≡ false → passText w ≡ take (keptLength w) w
+pub pass-cut : (w : List ℕ) → accepted w ≡ true → syllables (chars w) ≡ true → stage (chars w) .flag ≡ false → passText w ≡ take (keptLength w) w
 unfolding passText pass passStage
 pass-cut w a s f = rw (s, f) (sym (kept-bytes w a))
 
 -- the pass of any other is the repair of the text kept
-pass-repaired : (w : List ℕ) → accepted w ≡ true → syllables (chars w) ≡ true → stage (chars w) .flag ≡ true → passText w ≡ repairText w (repairOf w (keptLength w))
+pub pass-repaired : (w : List ℕ) → accepted w ≡ true → syllables (chars w) ≡ true → stage (chars w) .flag ≡ true → passText w ≡ repairText w (repairOf w (keptLength w))
 unfolding passText pass passStage keptLength
 pass-repaired w a s f =
     rw (s, f) (sym (repair-text w (keptLength w) (text-back w (accepted-text w a) (stage (chars w) .removed)) (back-le w (length w) (stage (chars w) .removed)) ∙ ap (λ (cs : List ℕ). bytes (postlude cs)) (before-kept w)))

@@ -1,0 +1,91 @@
+-- What is held of a line: a byte more, and that the part held gives the output of the whole line, since a line over the limit is
+-- refused whatever it is. Assumes nothing.
+use Prim.Native.Nat.{ℕ, _+_, _≤_, _<_, zero, suc}
+use mathlib.Core.Path.{_≡_, refl, sym, ap, _∙_}
+use mathlib.Core.Bool.{Bool, true, false}
+use mathlib.Core.List.{List, [], _∷_, _++_, append-nil}
+use native.Mathlib.Omega.{arith}
+use native.Mathlib.Numerals.{add-one}
+use lib.ListN.{length, take, set, length-append, length-take}
+use lib.Seq.{take-all, take-append-le, take-suc-set}
+use lib.Dec.{eqb, ltb}
+use borrow.Author.Tests.{ltb-true, ltb-false}
+use Rattle.words.proofs.Laws.Refusals.{refusal-long}
+use Rattle.turkish.specs.Calls.{limit}
+use Rattle.listing.specs.Listing.{lf, lineRefusal, refusedLine, listLine, unclosed, listAll}
+use Rattle.listing.specs.Feed.{most, hold, lastOut}
+
+-- a byte is a line feed, or it is not
+pub lf-or-other : {P : Type 0} (b : ℕ) → (eqb b lf ≡ true → P) → (eqb b lf ≡ false → P) → P
+lf-or-other {P} b = go (eqb b lf)
+  where
+    go : (t : Bool) → (t ≡ true → P) → (t ≡ false → P) → P
+    go true p q = p refl
+    go false p q = q refl
+
+-- ---- the part held ----
+
+-- the first n of a text's first n with more after them are the first n of the text with more after it
+take-take-append : (n : ℕ) (s t : List ℕ) → take n (take n s ++ t) ≡ take n (s ++ t)
+take-take-append zero s t = refl
+take-take-append (suc n) [] t = refl
+take-take-append (suc n) (a ∷ s) t = ap {B = List ℕ} (λ r. a ∷ r) (take-take-append n s t)
+
+-- a byte more at the part held of a line is the part held of the line with a byte more
+pub hold-held : (line : List ℕ) (b : ℕ) → hold (take most line) b ≡ take most (line ++ (b ∷ []))
+unfolding hold
+hold-held line b = take-take-append most line (b ∷ [])
+
+-- a line over the limit is refused whatever it is
+listLine-long : (w : List ℕ) → limit < length w → listLine w ≡ refusedLine 1
+unfolding listLine lineRefusal limit
+listLine-long w h = rw (← refusal-long w h)
+
+-- so the part held of a line gives the line's output
+pub listLine-held : (line : List ℕ) → listLine (take most line) ≡ listLine line
+unfolding most limit
+listLine-held line = go (ltb 1025 (length line)) refl
+  where
+    go : (t : Bool) → ltb 1025 (length line) ≡ t → listLine (take 1025 line) ≡ listLine line
+    go true e =
+        let h : 1025 < length line = ltb-true 1025 (length line) e in
+        listLine-long (take 1025 line) (omega (arith, length-take 1025 line)) ∙ sym (listLine-long line (omega arith))
+    go false e = rw (take-all 1025 line (ltb-false 1025 (length line) e))
+
+-- the end of the input writes the line held, if it is not empty
+pub lastOut-line : (line : List ℕ) → 0 < length line → lastOut line ≡ listLine line
+unfolding lastOut unclosed listAll
+lastOut-line [] h = absurd (omega arith)
+lastOut-line (b ∷ bs) h = append-nil _
+
+-- there too the part held gives the line's output
+pub lastOut-held : (line : List ℕ) → lastOut (take most line) ≡ lastOut line
+unfolding most limit
+lastOut-held [] = refl
+lastOut-held (b ∷ bs) =
+    lastOut-line (take most (b ∷ bs)) (omega (arith, length-take most (b ∷ bs))) ∙ listLine-held (b ∷ bs)
+    ∙ sym (lastOut-line (b ∷ bs) (omega arith))
+
+-- where none is held of a line nothing is written at the end
+pub lastOut-none : (line : List ℕ) (held : ℕ) → held ≡ 0 → lastOut (take held line) ≡ []
+unfolding lastOut unclosed listAll
+lastOut-none line held e = rw e
+
+-- and where some is held, that
+pub lastOut-some : (line : List ℕ) (held : ℕ) → 0 < held → held ≤ length line → lastOut (take held line) ≡ listLine (take held line)
+lastOut-some line held h l = lastOut-line (take held line) (omega (arith, length-take held line))
+
+-- ---- the bytes that hold a line ----
+
+module _ (line : List ℕ) (held b : ℕ) (l : length line ≡ 1025) where
+  -- a byte stored after those held is held with them
+  pub hold-next : held < 1025 → take (held + 1) (set line held b) ≡ hold (take held line) b
+  unfolding hold most limit
+  hold-next h =
+      rw (add-one held, take-suc-set line held b (omega arith))
+      (sym (take-all 1025 (take held line ++ (b ∷ [])) (omega (arith, length-append (take held line) (b ∷ []), length-take held line))))
+
+  -- where all are held the byte is not
+  pub hold-full : 1025 ≤ held → take held line ≡ hold (take held line) b
+  unfolding hold most limit
+  hold-full h = rw (take-all held line (omega arith), take-append-le 1025 line (b ∷ []) (omega arith)) (sym (take-all 1025 line (omega arith)))

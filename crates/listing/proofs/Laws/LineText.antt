@@ -1,0 +1,96 @@
+-- The texts of a line as the code writes them part by part, and their sizes: a line fits 3,084 bytes.
+-- Assumes nothing.
+use Prim.Native.Nat.{ℕ, _+_, _≤_, _<_}
+use mathlib.Core.Path.{_≡_, refl, sym, ap, _∙_}
+use mathlib.Core.Bool.{Bool, true, false}
+use mathlib.Core.List.{List, [], _∷_, _++_, append-assoc, append-nil}
+use native.Mathlib.Omega.{arith}
+use lib.ListN.{length, take}
+use borrow.Author.Tests.{lt-ltb, le-ltb}
+use Rattle.turkish.specs.Harmony.{syllables}
+use Rattle.turkish.specs.Stage.{stage}
+use Rattle.turkish.specs.Calls.{chars, accepted, passText}
+use Rattle.turkish.proofs.Laws.Accepted.{accepted-iff}
+use Rattle.turkish.proofs.Sizes.{passText-size}
+use Rattle.stages.specs.declared.stem.Stem.{Stem}
+use Rattle.stages.specs.declared.postlude.Repair.{Repair}
+use Rattle.stages.specs.Reach.{stemOf}
+use Rattle.stages.specs.Repairs.{repairText, repairOf}
+use Rattle.words.proofs.Laws.WordCalls.{kept-le}
+use Rattle.words.proofs.Laws.RepairCalls.{pass-short, pass-cut, pass-repaired}
+use Rattle.listing.specs.Listing.{tab, lf, yesNo, oneZero, answers, fields, listLine}
+use Rattle.listing.specs.Put.{put, lineRoom, lineLength, lineOut}
+
+-- ---- the text of a repair ----
+
+module _ (w : List ℕ) (r : Repair) where
+  -- where nothing follows, it is the bytes kept
+  pub repair-none : r .more ≡ 0 → take (r .keep) w ≡ repairText w r
+  unfolding repairText
+  repair-none e = rw (e, append-nil)
+
+  -- where one byte follows
+  pub repair-one : r .more ≡ 1 → take (r .keep) w ++ (r .a ∷ []) ≡ repairText w r
+  unfolding repairText
+  repair-one e = rw e
+
+  -- where two do
+  pub repair-two : r .more ≡ 2 → (take (r .keep) w ++ (r .a ∷ [])) ++ (r .b ∷ []) ≡ repairText w r
+  unfolding repairText
+  repair-two e = rw (e, append-assoc)
+
+-- ---- the text of the pass ----
+
+module _ (w : List ℕ) (ok : accepted w ≡ true) (syllable : Bool) (y : syllable ≡ syllables (chars w)) where
+  -- of a word of one syllable it is the word
+  pub passText-short : syllable ≡ false → w ≡ passText w
+  passText-short n = sym (pass-short w ok (sym y ∙ n))
+
+  module _ (s : Stem) (q : s ≡ stemOf w) (yes : syllable ≡ true) where
+    -- of one whose flag is false the text kept
+    pub passText-cut : s .flag ≡ false → take (s .kept) w ≡ passText w
+    unfolding stemOf
+    passText-cut f = rw q (sym (pass-cut w ok (sym y ∙ yes) (sym (ap (λ (x : Stem). x .flag) q) ∙ f)))
+
+    -- of any other the repair of that
+    pub passText-repaired : s .flag ≡ true → (r : Repair) → r ≡ repairOf w (s .kept) → repairText w r ≡ passText w
+    unfolding stemOf
+    passText-repaired f r p = rw (p, q) (sym (pass-repaired w ok (sym y ∙ yes) (sym (ap (λ (x : Stem). x .flag) q) ∙ f)))
+
+-- ---- the fields ----
+
+-- the answers take seven bytes
+pub length-answers : (syllable stages flag : Bool) → length (answers syllable stages flag) ≡ 7
+unfolding answers
+length-answers syllable stages flag = refl
+
+-- byte by byte
+pub answers-bytes : (syllable stages flag : Bool) {a b c : ℕ} → a ≡ yesNo syllable → b ≡ yesNo stages → c ≡ oneZero flag
+    → tab ∷ a ∷ tab ∷ b ∷ tab ∷ c ∷ tab ∷ [] ≡ answers syllable stages flag
+unfolding answers
+answers-bytes syllable stages flag p q r = rw (p, q, r)
+
+-- part by part they are the fields
+pub fields-parts : (w : List ℕ) (syllable : Bool) (s : Stem) → syllable ≡ syllables (chars w) → s ≡ stemOf w
+    → ((((w ++ answers syllable (s .yes) (s .flag)) ++ take (s .kept) w) ++ (tab ∷ [])) ++ passText w) ++ (lf ∷ []) ≡ fields w
+unfolding fields stemOf
+fields-parts w syllable s y q = rw (y, q) (simp append-assoc)
+
+-- the parts of an accepted word's fields that differ in size fit the longest line, with twelve bytes more
+pub fields-sizes : (w : List ℕ) (s : Stem) → accepted w ≡ true → s ≡ stemOf w
+    → (length w ≤ 1024) × (s .kept ≤ length w) × (length (passText w) ≤ length w + 2)
+fields-sizes w s ok q = (accepted-iff w .0 ok .0, kept-le w s q, passText-size w ok)
+
+-- ---- the call ----
+
+module _ (w out : List ℕ) where
+  -- an output that is too short stays
+  pub line-short : length out < 3084 → (0 ≡ lineLength w (length out)) × (out ≡ lineOut w out)
+  unfolding lineLength lineOut lineRoom
+  line-short h = rw (lt-ltb (length out) 3084 h) (refl, refl)
+
+  -- any other has the line at its front
+  pub line-fits : 3084 ≤ length out → (n : ℕ) (o : List ℕ) → (n ≡ 0 + length (listLine w)) × (o ≡ put 0 (listLine w) out)
+      → (n ≡ lineLength w (length out)) × (o ≡ lineOut w out)
+  unfolding lineLength lineOut lineRoom
+  line-fits h n o e = rw (le-ltb (length out) 3084 h) (omega arith, e .1)

@@ -1,0 +1,50 @@
+-- `listing::feed::feed_byte` meets its contract. A line feed writes the line held; another byte is held as far as there is room.
+-- Assumes nothing.
+use denote.Ref.{now}
+use lib.ListN.{length-take}
+use native.Mathlib.Omega.{arith}
+use borrow.Author.Needs.{needs}
+use Rattle.listing.proofs.Laws.Fed.{fed-lf, fed-other}
+use Rattle.listing.proofs.feed.feed_byte.Statement.{statement}
+use Rattle.listing.proofs.feed.feed_byte.Tie as tie
+
+slice-reshare-prefix-put-line : tie.Need-slice-reshare-prefix-put-line
+slice-reshare-prefix-put-line c = search needs
+
+slice-aggregate-put-line : tie.Need-slice-aggregate-put-line
+slice-aggregate-put-line c = let a = c .before .before .before .before .before .args in omega (arith, length-take (a .held) (now (a .line)))
+
+put-line-requires : tie.Need-put-line-requires
+put-line-requires c κs = search needs
+
+same-length : tie.Need-same-length
+same-length c = search needs
+
+same-length-2 : tie.Need-same-length-2
+same-length-2 c = search needs
+
+returns : tie.Need-returns
+returns c = fed-lf (omega arith) (c .before .before .put-line .ensures .0) (c .before .before .put-line .ensures .1)
+
+hold-byte-requires : tie.Need-hold-byte-requires
+hold-byte-requires c κs = search needs
+
+same-length-3 : tie.Need-same-length-3
+same-length-3 c = search needs
+
+returns-2 : tie.Need-returns-2
+returns-2 c = fed-other (λ e. omega arith) (omega arith) (omega arith) (c .before .before .hold-byte .ensures .2)
+
+pub feed-byte-spec : {M : Type 1} → statement M
+feed-byte-spec =
+    tie.close
+    (tie.spec
+    slice-reshare-prefix-put-line
+    slice-aggregate-put-line
+    put-line-requires
+    same-length
+    same-length-2
+    returns
+    hold-byte-requires
+    same-length-3
+    returns-2)

@@ -1,0 +1,52 @@
+-- `listing::line::put_refused` meets its contract: four bytes written one after the other are the refused line.
+-- Assumes nothing.
+use mathlib.Core.Path.{refl}
+use borrow.Author.Needs.{needs}
+use Rattle.listing.specs.Listing.{tab, lf, refusedLine}
+use Rattle.listing.proofs.Laws.Put.{wrote-nothing, wrote-byte, wrote-all}
+use Rattle.listing.proofs.line.put_refused.Statement.{statement}
+use Rattle.listing.proofs.line.put_refused.Tie as tie
+
+put-byte-requires : tie.Need-put-byte-requires
+put-byte-requires c κs = search needs
+
+put-byte-requires-2 : tie.Need-put-byte-requires-2
+put-byte-requires-2 c κs = search needs
+
+add-put-byte : tie.Need-add-put-byte
+add-put-byte c = search needs
+
+cast-put-byte : tie.Need-cast-put-byte
+cast-put-byte c = search needs
+
+put-byte-requires-3 : tie.Need-put-byte-requires-3
+put-byte-requires-3 c κs = search needs
+
+put-byte-requires-4 : tie.Need-put-byte-requires-4
+put-byte-requires-4 c κs = search needs
+
+same-length : tie.Need-same-length
+same-length c = search needs
+
+returns : tie.Need-returns
+unfolding tab lf refusedLine
+returns c =
+    wrote-all refl
+    (wrote-byte _
+    (wrote-byte _
+    (wrote-byte _ (wrote-byte _ (wrote-nothing (c .before .before .before .before .before .before .before .before .before .before .before .before .before .before .before .before .before .pre .1)) (c .before .before .before .before .before .before .before .before .before .before .before .before .before .before .put-byte .ensures)) (c .before .before .before .before .before .before .before .before .before .before .put-byte2 .ensures))
+    (c .before .before .before .before .before .before .put-byte3 .ensures))
+    (c .before .before .put-byte4 .ensures))
+
+pub put-refused-spec : {M : Type 1} → statement M
+put-refused-spec =
+    tie.close
+    (tie.spec
+    put-byte-requires
+    put-byte-requires-2
+    add-put-byte
+    cast-put-byte
+    put-byte-requires-3
+    put-byte-requires-4
+    same-length
+    returns)

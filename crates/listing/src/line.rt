@@ -1,0 +1,166 @@
+// The output line of one word (document 01, "stemlist"). Each stage runs once.
+use crate::put;
+use stages::postlude;
+use stages::postlude::Repair;
+use stages::stem;
+use stages::stem::Stem;
+use stages::syllable;
+use words::refusal;
+ghost use mathlib.Core.Path.{_≡_};
+ghost use mathlib.Core.Bool.{true};
+ghost use Prim.Native.Nat.{_+_, _≤_, _<_};
+ghost use lib.ListN.{length};
+ghost use Rattle.turkish.specs.Letters.{among};
+ghost use Rattle.turkish.specs.Harmony.{syllables};
+ghost use Rattle.turkish.specs.Calls.{chars, accepted, passText};
+ghost use Rattle.stages.specs.Reach.{stemOf};
+ghost use Rattle.stages.specs.Repairs.{repairText};
+ghost use Rattle.listing.specs.Listing.{tab, lineRefusal, yesNo, oneZero, answers, fields, refusedLine, listLine};
+ghost use Rattle.listing.specs.Put.{put, lineLength, lineOut};
+
+// The longest output line: three times the limit, and twelve bytes.
+pub const LINE: usize = 3084;
+
+const TAB: u8 = 0x09;
+
+const LF: u8 = 0x0A;
+
+// Whether a tab stands in the line.
+fn has_tab(w: &[u8]) -> bool
+    ensures { λ r. ⌜ r ≡ among (now (w .entry)) tab ⌝ }
+{
+    let mut i = 0;
+    while i < w.len() {
+        if w[i] == TAB {
+            return true;
+        }
+        i += 1;
+    }
+    false
+}
+
+// Why a line is refused: 1, 2, or 4 for a tab; 0 where it is not.
+pub fn line_refusal(w: &[u8]) -> u32
+    ensures { λ r. ⌜ r ≡ lineRefusal (now (w .entry)) ⌝ }
+{
+    let n = refusal::refusal_of(w);
+    if n != 0 {
+        return n;
+    }
+    if has_tab(w) {
+        return 4;
+    }
+    0
+}
+
+fn yes_no(t: bool) -> u8
+    ensures { λ r. ⌜ r ≡ yesNo t ⌝ }
+{
+    if t {
+        return 0x59;
+    }
+    0x4E
+}
+
+fn one_zero(t: bool) -> u8
+    ensures { λ r. ⌜ r ≡ oneZero t ⌝ }
+{
+    if t {
+        return 0x31;
+    }
+    0x30
+}
+
+// Writes syllable check, stage and flag, each between tabs.
+fn put_answers(out: &mut [u8], at: usize, syllable: bool, yes: bool, flag: bool) -> usize
+    requires { ⌜ at + 7 ≤ length (now out) ⌝ }
+    ensures { λ r. ⌜ (r ≡ at + 7) × (now (out .exit) ≡ put at (answers syllable yes flag) (now (out .entry))) ⌝ }
+{
+    let a = put::put_byte(out, at, TAB);
+    let b = put::put_byte(out, a, yes_no(syllable));
+    let c = put::put_byte(out, b, TAB);
+    let d = put::put_byte(out, c, yes_no(yes));
+    let e = put::put_byte(out, d, TAB);
+    let f = put::put_byte(out, e, one_zero(flag));
+    put::put_byte(out, f, TAB)
+}
+
+// Writes the text of a repair of w.
+fn put_repair(out: &mut [u8], at: usize, w: &[u8], r: Repair) -> usize
+    requires { ⌜ (r .keep ≤ length (now w)) × (r .more ≤ 2) × (at + (r .keep + r .more) ≤ length (now out)) ⌝ }
+    ensures { λ n. ⌜ (n ≡ at + length (repairText (now (w .entry)) r)) × (now (out .exit) ≡ put at (repairText (now (w .entry)) r) (now (out .entry))) ⌝ }
+{
+    let a = put::put_bytes(out, at, w, r.keep);
+    let more = r.more;
+    if more == 0 {
+        return a;
+    }
+    let b = put::put_byte(out, a, r.a);
+    if more == 1 {
+        return b;
+    }
+    put::put_byte(out, b, r.b)
+}
+
+// Writes the pass's text of an accepted word, whose syllable answer and stage are known.
+fn put_pass(out: &mut [u8], at: usize, w: &[u8], syllable: bool, s: Stem) -> usize
+    requires { ⌜ (accepted (now w) ≡ true) × (syllable ≡ syllables (chars (now w))) × (s ≡ stemOf (now w)) × (at + (length (now w) + 2) ≤ length (now out)) ⌝ }
+    ensures { λ n. ⌜ (n ≡ at + length (passText (now (w .entry)))) × (now (out .exit) ≡ put at (passText (now (w .entry))) (now (out .entry))) ⌝ }
+{
+    if !syllable {
+        return put::put_bytes(out, at, w, w.len());
+    }
+    let kept = s.kept;
+    if !s.flag {
+        return put::put_bytes(out, at, w, kept);
+    }
+    put_repair(out, at, w, postlude::postlude(w, kept))
+}
+
+// Writes the line of an accepted word.
+fn put_fields(out: &mut [u8], at: usize, w: &[u8]) -> usize
+    requires { ⌜ (accepted (now w) ≡ true) × (at + 3084 ≤ length (now out)) ⌝ }
+    ensures { λ n. ⌜ (n ≡ at + length (fields (now (w .entry)))) × (now (out .exit) ≡ put at (fields (now (w .entry))) (now (out .entry))) ⌝ }
+{
+    let syllable = syllable::more_than_one_syllable_word(w, w.len());
+    let s = stem::stem_nominal_verb_suffixes(w);
+    let a = put::put_bytes(out, at, w, w.len());
+    let b = put_answers(out, a, syllable, s.yes, s.flag);
+    let c = put::put_bytes(out, b, w, s.kept);
+    let d = put::put_byte(out, c, TAB);
+    let e = put_pass(out, d, w, syllable, s);
+    put::put_byte(out, e, LF)
+}
+
+// Writes a refused line: `!`, one tab and the number, and nothing of the word.
+fn put_refused(out: &mut [u8], at: usize, n: u32) -> usize
+    requires { ⌜ (n < 10) × (at + 4 ≤ length (now out)) ⌝ }
+    ensures { λ r. ⌜ (r ≡ at + 4) × (now (out .exit) ≡ put at (refusedLine n) (now (out .entry))) ⌝ }
+{
+    let a = put::put_byte(out, at, 0x21);
+    let b = put::put_byte(out, a, TAB);
+    let c = put::put_byte(out, b, (0x30 + n) as u8);
+    put::put_byte(out, c, LF)
+}
+
+// Writes the output line of one word at place `at`, refused or not, and gives the place after it.
+pub fn put_line(out: &mut [u8], at: usize, w: &[u8]) -> usize
+    requires { ⌜ at + 3084 ≤ length (now out) ⌝ }
+    ensures { λ r. ⌜ (r ≡ at + length (listLine (now (w .entry)))) × (now (out .exit) ≡ put at (listLine (now (w .entry))) (now (out .entry))) ⌝ }
+{
+    let n = line_refusal(w);
+    if n != 0 {
+        return put_refused(out, at, n);
+    }
+    put_fields(out, at, w)
+}
+
+// The output line of one word as one call: its length, or 0 and nothing written where the output is shorter than 3,084 bytes.
+pub fn list_word(w: &[u8], out: &mut [u8]) -> usize
+    ensures { λ r. ⌜ (r ≡ lineLength (now (w .entry)) (length (now (out .entry)))) × (now (out .exit) ≡ lineOut (now (w .entry)) (now (out .entry))) ⌝ }
+{
+    if out.len() < LINE {
+        return 0;
+    }
+    put_line(out, 0, w)
+}
