@@ -88,7 +88,7 @@ module _ (block : List ℕ) (from : ℕ) {line₀ out₀ : List ℕ} {held : ℕ
   fed-next i p q r f g = rw (take-next block from i p q) (fed-append f g r)
 
 -- what is written in an output ends within what it is then
-put-end : (at : ℕ) (s out : List ℕ) → at ≤ length out → at + length s ≤ length (put at s out)
+pub put-end : (at : ℕ) (s out : List ℕ) → at ≤ length out → at + length s ≤ length (put at s out)
 unfolding put
 put-end at s out h = simp (length-append, length-take, length-drop) (omega arith)
 

@@ -1,4 +1,4 @@
--- The texts of a line as the code writes them part by part, and their sizes: a line fits 3,084 bytes.
+-- The texts of a line as the code writes them part by part, the sizes of the parts, and what the call of one word gives.
 -- Assumes nothing.
 use Prim.Native.Nat.{ℕ, _+_, _≤_, _<_}
 use mathlib.Core.Path.{_≡_, refl, sym, ap, _∙_}
@@ -8,7 +8,6 @@ use native.Mathlib.Omega.{arith}
 use lib.ListN.{length, take}
 use borrow.Author.Tests.{lt-ltb, le-ltb}
 use Rattle.turkish.specs.Harmony.{syllables}
-use Rattle.turkish.specs.Stage.{stage}
 use Rattle.turkish.specs.Calls.{chars, accepted, passText}
 use Rattle.turkish.proofs.Laws.Accepted.{accepted-iff}
 use Rattle.turkish.proofs.Sizes.{passText-size}
@@ -64,19 +63,19 @@ pub length-answers : (syllable stages flag : Bool) → length (answers syllable 
 unfolding answers
 length-answers syllable stages flag = refl
 
--- byte by byte
+-- and byte by byte they are what the calls gave, between tabs
 pub answers-bytes : (syllable stages flag : Bool) {a b c : ℕ} → a ≡ yesNo syllable → b ≡ yesNo stages → c ≡ oneZero flag
     → tab ∷ a ∷ tab ∷ b ∷ tab ∷ c ∷ tab ∷ [] ≡ answers syllable stages flag
 unfolding answers
 answers-bytes syllable stages flag p q r = rw (p, q, r)
 
--- part by part they are the fields
+-- the parts one after the other are the fields
 pub fields-parts : (w : List ℕ) (syllable : Bool) (s : Stem) → syllable ≡ syllables (chars w) → s ≡ stemOf w
     → ((((w ++ answers syllable (s .yes) (s .flag)) ++ take (s .kept) w) ++ (tab ∷ [])) ++ passText w) ++ (lf ∷ []) ≡ fields w
 unfolding fields stemOf
 fields-parts w syllable s y q = rw (y, q) (simp append-assoc)
 
--- the parts of an accepted word's fields that differ in size fit the longest line, with twelve bytes more
+-- an accepted word, the text kept and the pass's text are short enough that the fields fit 3,084 bytes: three times 1,024 and twelve
 pub fields-sizes : (w : List ℕ) (s : Stem) → accepted w ≡ true → s ≡ stemOf w
     → (length w ≤ 1024) × (s .kept ≤ length w) × (length (passText w) ≤ length w + 2)
 fields-sizes w s ok q = (accepted-iff w .0 ok .0, kept-le w s q, passText-size w ok)

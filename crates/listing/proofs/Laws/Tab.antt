@@ -1,7 +1,7 @@
 -- A search for a tab, a byte a turn: a tab ends it, another byte is passed, and past the last byte there is none.
 -- Assumes nothing.
 use Prim.Native.Nat.{ℕ, _+_, _≤_, _<_}
-use mathlib.Core.Path.{_≡_, sym, _∙_}
+use mathlib.Core.Path.{_≡_, sym}
 use mathlib.Core.Bool.{true, false}
 use mathlib.Core.List.{List}
 use native.Mathlib.Numerals.{add-one}
@@ -9,7 +9,7 @@ use lib.ListN.{length, drop, getD, drop-of-length-le}
 use lib.Seq.{drop-cons}
 use lib.Dec.{eqb}
 use borrow.Author.Tests.{eq-eqb, ne-eqb}
-use Rattle.turkish.specs.Letters.{any, among}
+use Rattle.turkish.specs.Letters.{among}
 use Rattle.stages.proofs.Laws.Walk.{any-skips, any-stops, any-none}
 use Rattle.listing.specs.Listing.{tab}
 

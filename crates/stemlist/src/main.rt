@@ -1,0 +1,79 @@
+// stemlist: reads words from standard input, one a line, and writes a line for each (document 01, "stemlist"). The lines are made by
+// the proved library `listing`; here blocks are read, handed over and written, in fixed memory.
+use libc::STDIN_FILENO;
+use libc::STDOUT_FILENO;
+use listing::feed;
+ghost use mathlib.Core.Path.{_≡_};
+ghost use Prim.Native.Nat.{_≤_};
+ghost use lib.ListN.{length};
+
+// Whether all was written, and how many bytes of the line are held.
+struct Drained {
+    ok: bool,
+    held: usize,
+}
+
+// Writes the lines of the words that end in the block.
+fn drain(block: &[u8], line: &mut [u8], held: usize, out: &mut [u8]) -> Drained
+    requires { ⌜ (length (now line) ≡ 1025) × (held ≤ 1025) × (3084 ≤ length (now out)) ⌝ }
+    ensures { λ r. ⌜ r .held ≤ 1025 ⌝ }
+{
+    let mut used = 0;
+    let mut h = held;
+    while used < block.len() {
+        let p = feed::feed(block, used, line, h, out);
+        used = p.used;
+        h = p.held;
+        let written = p.written;
+        if !io::write_all(STDOUT_FILENO, &out[..written]) {
+            return Drained { ok: false, held: h };
+        }
+    }
+    Drained { ok: true, held: h }
+}
+
+// One message on standard error, with the system's reason.
+fn input_failed() {
+    os::fail(b"stemlist: standard input");
+}
+
+fn output_failed() {
+    os::fail(b"stemlist: standard output");
+}
+
+// Writes the line that the input's end closes.
+fn close(line: &[u8], held: usize, out: &mut [u8])
+    requires { ⌜ (held ≤ length (now line)) × (3084 ≤ length (now out)) ⌝ }
+{
+    let last = feed::finish(line, held, out);
+    if !io::write_all(STDOUT_FILENO, &out[..last]) {
+        output_failed();
+    }
+}
+
+fn main() {
+    let mut block = io::large_buffer();
+    let mut out = io::large_buffer();
+    let mut line = [0u8; 1025];
+    let mut held: usize = 0;
+    let mut turns = 0xFFFF_FFFF_FFFF_FFFFu64;
+    while 0 < turns {
+        turns -= 1;
+        let got = libc::read(STDIN_FILENO, &mut block);
+        if got < 0 {
+            input_failed();
+            return;
+        }
+        if got == 0 {
+            close(&line, held, &mut out);
+            return;
+        }
+        let n = io::count(got, &block);
+        let d = drain(&block[..n], &mut line, held, &mut out);
+        if !d.ok {
+            output_failed();
+            return;
+        }
+        held = d.held;
+    }
+}
