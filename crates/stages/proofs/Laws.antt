@@ -7,6 +7,7 @@ pub mod ReadTail
 pub mod OnTail
 pub mod Literal
 pub mod LiteralWhole
+pub mod Over
 pub mod Marks
 pub mod Reach
 pub mod Flag

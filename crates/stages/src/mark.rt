@@ -7,7 +7,6 @@ use crate::harmony::check_vowel_harmony;
 use crate::tables;
 use crate::vowel::is_vowel;
 use utf8::cursor::Cursor;
-use utf8::literal;
 ghost use mathlib.Core.Path.{_≡_};
 ghost use mathlib.Core.Bool.{true};
 ghost use Prim.Native.Nat.{_+_, _≤_};
@@ -179,7 +178,7 @@ pub fn mark_yken(w: &[u8], t: &[u32], p: &[usize], at: usize) -> Marked
     ensures { λ r. ⌜ r ≡ reach at (markOf yken (drop at (chars (now (w .entry))))) ⌝ }
 {
     let c = p[at];
-    let ken = literal::eq_s_b(
+    let ken = lent::back_over(
         w,
         &KEN,
         Cursor {
@@ -188,7 +187,10 @@ pub fn mark_yken(w: &[u8], t: &[u32], p: &[usize], at: usize) -> Marked
             limit_backward: 0,
         },
     );
-    if !ken.moved {
+    if !ken.literal {
+        return Marked::Fails;
+    }
+    if !ken.character {
         return Marked::Fails;
     }
     mark_suffix_with_optional_y_consonant(w, t, p, at + 3)
