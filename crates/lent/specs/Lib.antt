@@ -1,1 +1,2 @@
+-- What the function with plain parameters gives.
 pub mod Over

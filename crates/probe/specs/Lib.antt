@@ -1,1 +1,2 @@
+-- How a step's answer is laid out for the comparison.
 pub mod Flat

@@ -1,3 +1,4 @@
+-- `stemlist::close` meets its contract: what was written ends within the output, which kept its length. Assumes nothing.
 use Rattle.listing.proofs.Laws.Fed.{put-end}
 use Rattle.listing.specs.Feed.{lastOut}
 use denote.Ref.{now}
@@ -8,45 +9,31 @@ use Prim.Native.Nat.{zero-le}
 use borrow.Author.Needs.{needs}
 use Rattle.stemlist.proofs.close.Statement.{statement}
 use Rattle.stemlist.proofs.close.Tie as tie
-use Rattle.stemlist.proofs.close.Reads as reads
-use Rattle.stemlist.proofs.close.Lts as lts
-use Rattle.io.proofs.write_all.Reads as write-all-reads
-use Rattle.listing.proofs.feed.finish.Reads as finish-reads
-use Rattle.stemlist.proofs.output_failed.Reads as output-failed-reads
 
--- src/main.rt:49:9
 finish-requires : tie.Need-finish-requires
 finish-requires c κs = search needs
 
--- src/main.rt:50:38
 slice-reshare-prefix-write-all : tie.Need-slice-reshare-prefix-write-all
 slice-reshare-prefix-write-all c = let a = c .before .before .before .before .before .before .args in omega (arith, put-end 0 (lastOut (take (a .held) (now (a .line)))) (now (a .out)) zero-le, ap length (c .before .before .finish .ensures .1))
 
--- src/main.rt:50:38
 slice-aggregate-write-all : tie.Need-slice-aggregate-write-all
 slice-aggregate-write-all c = let a = c .before .before .before .before .before .before .before .args in omega (arith, put-end 0 (lastOut (take (a .held) (now (a .line)))) (now (a .out)) zero-le, ap length (c .before .before .before .finish .ensures .1), length-take (c .before .before .before .finish .result) (c .before .before .before .finish .last .1 .1 .0))
 
--- src/main.rt:50:9
 write-all-requires : tie.Need-write-all-requires
 write-all-requires c κs = search needs
 
--- src/main.rt:51:9
 output-failed-requires : tie.Need-output-failed-requires
 output-failed-requires c κs = search needs
 
--- src/main.rt:46:1
 same-length : tie.Need-same-length
 same-length c = search needs
 
--- src/main.rt:46:1
 returns : tie.Need-returns
 returns c = search needs
 
--- src/main.rt:46:1
 same-length-2 : tie.Need-same-length-2
 same-length-2 c = search needs
 
--- src/main.rt:46:1
 returns-2 : tie.Need-returns-2
 returns-2 c = search needs
 

@@ -1,26 +1,20 @@
+-- `utf8::characters::continues_at` meets its contract: past the end nothing goes on, elsewhere the byte tells. Assumes nothing.
 use denote.Ref.{now}
 use Rattle.utf8.proofs.Laws.Widths.{continuation-end}
 use mathlib.Core.Path.{sym, _∙_}
 use borrow.Author.Needs.{needs}
 use Rattle.utf8.proofs.characters.continues_at.Statement.{statement}
 use Rattle.utf8.proofs.characters.continues_at.Tie as tie
-use Rattle.utf8.proofs.characters.continues_at.Reads as reads
-use Rattle.utf8.proofs.characters.continues_at.Lts as lts
-use Rattle.utf8.proofs.characters.is_continuation.Reads as is-continuation-reads
 
--- src/characters.rt:52:9
 returns : tie.Need-returns
 returns c = sym (continuation-end (now (c .before .before .args .w)) _ (c .if1 .taken))
 
--- src/characters.rt:54:21
 shared-slice-read-is-continuation : tie.Need-shared-slice-read-is-continuation
 shared-slice-read-is-continuation c = search needs
 
--- src/characters.rt:54:5
 is-continuation-requires : tie.Need-is-continuation-requires
 is-continuation-requires c κs = search needs
 
--- src/characters.rt:48:1
 returns-2 : tie.Need-returns-2
 returns-2 c = search needs
 

@@ -1,58 +1,43 @@
+-- `utf8::characters::four` meets its contract: `decode` at four bytes, as sums that fit. Assumes nothing.
 use Rattle.utf8.specs.Encoding.{decode}
 use native.Mathlib.Omega.{arith}
 use borrow.Author.Needs.{needs}
 use Rattle.utf8.proofs.characters.four.Statement.{statement}
 use Rattle.utf8.proofs.characters.four.Tie as tie
-use Rattle.utf8.proofs.characters.four.Reads as reads
-use Rattle.utf8.proofs.characters.four.Lts as lts
-use Rattle.utf8.proofs.characters.above_ascii.Reads as above-ascii-reads
-use Rattle.utf8.proofs.characters.low_bits.Reads as low-bits-reads
 
--- src/characters.rt:109:9
 low-bits-requires : tie.Need-low-bits-requires
 low-bits-requires c κs = search needs
 
--- src/characters.rt:109:9
 mul-above-ascii : tie.Need-mul-above-ascii
 mul-above-ascii c = search needs
 
--- src/characters.rt:110:15
 low-bits-requires-2 : tie.Need-low-bits-requires-2
 low-bits-requires-2 c κs = search needs
 
--- src/characters.rt:110:15
 mul-above-ascii-2 : tie.Need-mul-above-ascii-2
 mul-above-ascii-2 c = search needs
 
--- src/characters.rt:109:9
 add-above-ascii : tie.Need-add-above-ascii
 add-above-ascii c = search needs
 
--- src/characters.rt:111:15
 low-bits-requires-3 : tie.Need-low-bits-requires-3
 low-bits-requires-3 c κs = search needs
 
--- src/characters.rt:111:15
 mul-above-ascii-3 : tie.Need-mul-above-ascii-3
 mul-above-ascii-3 c = search needs
 
--- src/characters.rt:109:9
 add-above-ascii-2 : tie.Need-add-above-ascii-2
 add-above-ascii-2 c = search needs
 
--- src/characters.rt:112:15
 low-bits-requires-4 : tie.Need-low-bits-requires-4
 low-bits-requires-4 c κs = search needs
 
--- src/characters.rt:109:9
 add-above-ascii-3 : tie.Need-add-above-ascii-3
 add-above-ascii-3 c = search needs
 
--- src/characters.rt:108:5
 above-ascii-requires : tie.Need-above-ascii-requires
 above-ascii-requires c κs = search needs
 
--- src/characters.rt:105:1
 returns : tie.Need-returns
 unfolding decode
 returns c = omega arith

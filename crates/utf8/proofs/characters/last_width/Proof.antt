@@ -1,3 +1,5 @@
+-- `utf8::characters::last_width` meets its contract: the first byte, going back, that does not go on tells the width. Assumes
+-- nothing.
 use Rattle.utf8.proofs.Laws.Widths.{width-one, width-two, width-three, width-fourth}
 use Rattle.utf8.specs.Characters.{lastWidth}
 use borrow.Author.Tests.{not-true, not-false}
@@ -5,38 +7,28 @@ use mathlib.Core.Path.{sym, _∙_}
 use borrow.Author.Needs.{needs}
 use Rattle.utf8.proofs.characters.last_width.Statement.{statement}
 use Rattle.utf8.proofs.characters.last_width.Tie as tie
-use Rattle.utf8.proofs.characters.last_width.Reads as reads
-use Rattle.utf8.proofs.characters.last_width.Lts as lts
-use Rattle.utf8.proofs.characters.goes_on.Reads as goes-on-reads
 
--- src/characters.rt:35:9
 goes-on-requires : tie.Need-goes-on-requires
 goes-on-requires c κs = search needs
 
--- src/characters.rt:36:9
 returns : tie.Need-returns
 unfolding lastWidth
 returns c = sym (width-one _ _ _ (sym (c .before .goes-on .ensures) ∙ not-true _ (c .if1 .taken)))
 
--- src/characters.rt:38:9
 goes-on-requires-2 : tie.Need-goes-on-requires-2
 goes-on-requires-2 c κs = search needs
 
--- src/characters.rt:39:9
 returns-2 : tie.Need-returns-2
 unfolding lastWidth
 returns-2 c = sym (width-two _ _ _ (sym (c .before .before .before .goes-on .ensures) ∙ not-false _ (c .before .before .if1 .left)) (sym (c .before .goes-on2 .ensures) ∙ not-true _ (c .if2 .taken)))
 
--- src/characters.rt:41:9
 goes-on-requires-3 : tie.Need-goes-on-requires-3
 goes-on-requires-3 c κs = search needs
 
--- src/characters.rt:42:9
 returns-3 : tie.Need-returns-3
 unfolding lastWidth
 returns-3 c = sym (width-three _ _ _ (sym (c .before .before .before .before .before .goes-on .ensures) ∙ not-false _ (c .before .before .before .before .if1 .left)) (sym (c .before .before .before .goes-on2 .ensures) ∙ not-false _ (c .before .before .if2 .left)) (sym (c .before .goes-on3 .ensures) ∙ not-true _ (c .if3 .taken)))
 
--- src/characters.rt:31:1
 returns-4 : tie.Need-returns-4
 unfolding lastWidth
 returns-4 c = sym (width-fourth _ _ _ (sym (c .before .before .before .before .before .goes-on .ensures) ∙ not-false _ (c .before .before .before .before .if1 .left)) (sym (c .before .before .before .goes-on2 .ensures) ∙ not-false _ (c .before .before .if2 .left)) (sym (c .before .goes-on3 .ensures) ∙ not-false _ (c .if3 .left)))

@@ -1,21 +1,17 @@
+-- `utf8::characters::low_bits` meets its contract: a remainder is below its modulus, which fits. Assumes nothing.
 use mathlib.Core.Path.{refl}
 use native.Mathlib.Nat.{mod-lt}
 use native.Mathlib.Omega.{arith}
 use borrow.Author.Needs.{needs}
 use Rattle.utf8.proofs.characters.low_bits.Statement.{statement}
 use Rattle.utf8.proofs.characters.low_bits.Tie as tie
-use Rattle.utf8.proofs.characters.low_bits.Reads as reads
-use Rattle.utf8.proofs.characters.low_bits.Lts as lts
 
--- src/characters.rt:79:6
 rem-result : tie.Need-rem-result
 rem-result c = search needs
 
--- src/characters.rt:79:5
 cast-result : tie.Need-cast-result
 cast-result c = omega (arith, mod-lt (c .args .b) (c .pre))
 
--- src/characters.rt:75:1
 returns : tie.Need-returns
 returns c = (refl, mod-lt (c .args .b) (c .pre))
 

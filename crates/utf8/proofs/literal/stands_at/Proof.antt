@@ -1,3 +1,5 @@
+-- `utf8::literal::stands_at` meets its contract: the loop's invariant: the rest of the literal stands where it should exactly
+-- when all of it does. The measure is that rest. Assumes nothing.
 use Rattle.utf8.proofs.Laws.Steps.{standsAt-start, standsAt-differs, standsAt-next, standsAt-end}
 use Rattle.utf8.specs.Steps.{standsAt}
 use borrow.Author.Needs.{needs}
@@ -10,8 +12,6 @@ use native.Mathlib.Omega.{arith}
 use mathlib.Core.Path.{sym, ap, _∙_}
 use Rattle.utf8.proofs.literal.stands_at.Statement.{statement}
 use Rattle.utf8.proofs.literal.stands_at.Tie as tie
-use Rattle.utf8.proofs.literal.stands_at.Reads as reads
-use Rattle.utf8.proofs.literal.stands_at.Lts as lts
 
 abbrev Inv-loop : tie.InvT-loop
 Inv-loop w i s k₀ k = (k ≤ length s) × (standsAt w (i + k) (drop k s) ≡ standsAt w i s)
@@ -19,39 +19,30 @@ Inv-loop w i s k₀ k = (k ≤ length s) × (standsAt w (i + k) (drop k s) ≡ s
 abbrev μ-loop : tie.MeasureT-loop
 μ-loop w i s k₀ k = length s - k
 
--- src/literal.rt:21:5
 loop-holds : tie.Need-loop-holds Inv-loop μ-loop
 loop-holds c = (omega arith, standsAt-start _ _ _)
 
--- src/literal.rt:22:14
 add-if1 : tie.Need-add-if1 Inv-loop μ-loop
 add-if1 c = omega arith
 
--- src/literal.rt:22:12
 shared-slice-read-if1 : tie.Need-shared-slice-read-if1 Inv-loop μ-loop
 shared-slice-read-if1 c = omega arith
 
--- src/literal.rt:22:24
 shared-slice-read-if1-2 : tie.Need-shared-slice-read-if1-2 Inv-loop μ-loop
 shared-slice-read-if1-2 c = omega arith
 
--- src/literal.rt:23:13
 returns : tie.Need-returns Inv-loop μ-loop
 returns c = let a = c .before .before .before .before .before .args in let l = c .before .before .before .before .loop in sym (sym (l .inv .1) ∙ standsAt-differs (now (a .w)) (a .i) (l .k) (now (a .s)) (c .before .before .before .loop-test .taken) (omega arith) (c .if1 .taken))
 
--- src/literal.rt:25:9
 add-k : tie.Need-add-k Inv-loop μ-loop
 add-k c = omega arith
 
--- src/literal.rt:21:5
 loop-less : tie.Need-loop-less Inv-loop μ-loop
 loop-less c = omega arith
 
--- src/literal.rt:21:5
 loop-again : tie.Need-loop-again Inv-loop μ-loop
 loop-again c = let a = c .before .before .before .before .before .args in let l = c .before .before .before .before .loop in (omega arith, standsAt-next (now (a .w)) (a .i) (l .k) (now (a .s)) (c .before .before .before .loop-test .taken) (omega arith) (c .if1 .left) ∙ l .inv .1)
 
--- src/literal.rt:16:1
 returns-2 : tie.Need-returns-2 Inv-loop μ-loop
 returns-2 c = let a = c .before .before .args in sym (standsAt-end (now (a .w)) (a .i) (c .before .loop .k) (now (a .s)) (c .loop-test .left)) ∙ c .before .loop .inv .1
 

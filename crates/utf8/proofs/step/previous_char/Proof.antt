@@ -1,3 +1,5 @@
+-- `utf8::step::previous_char` meets its contract: the tests that led to each `return` are the laws' hypotheses; a width is one
+-- to four bytes within the word. Assumes nothing.
 use Rattle.utf8.proofs.Laws.Steps.{stands-within, previousChar-out, previousChar-stays, previousChar-made}
 use Rattle.utf8.proofs.Laws.Characters.{lastWidth-pos, lastWidth-four}
 use Rattle.utf8.specs.Steps.{stay}
@@ -8,53 +10,37 @@ use mathlib.Core.Path.{sym, ap, _∙_}
 use borrow.Author.Needs.{needs}
 use Rattle.utf8.proofs.step.previous_char.Statement.{statement}
 use Rattle.utf8.proofs.step.previous_char.Tie as tie
-use Rattle.utf8.proofs.step.previous_char.Reads as reads
-use Rattle.utf8.proofs.step.previous_char.Lts as lts
-use Rattle.utf8.proofs.characters.char_at.Reads as char-at-reads
-use Rattle.utf8.proofs.characters.last_width.Reads as last-width-reads
-use Rattle.utf8.proofs.cursor.Cursor.moved_to.Reads as moved-to-reads
-use Rattle.utf8.proofs.cursor.Cursor.stands_in.Reads as stands-in-reads
 
--- src/step.rt:19:9
 stands-in-requires : tie.Need-stands-in-requires
 stands-in-requires c κs = search needs
 
--- src/step.rt:20:9
 returns : tie.Need-returns
 unfolding stay
 returns c = sym (previousChar-out _ _ (sym (c .before .stands-in .ensures) ∙ not-true _ (c .if1 .taken)))
 
--- src/step.rt:24:9
 returns-2 : tie.Need-returns-2
 unfolding stay
 returns-2 c = let a = c .before .before .before .before .before .args in sym (previousChar-stays (now (a .w)) (a .r) (omega (arith, lastWidth-pos (now (a .w)) (a .r .cursor))))
 
--- src/step.rt:26:9
 last-width-requires : tie.Need-last-width-requires
 last-width-requires c κs = let a = c .before .before .before .before .before .args in omega (arith, stands-within (now (a .w)) (a .r) (sym (c .before .before .before .stands-in .ensures) ∙ not-false _ (c .before .before .if1 .left)))
 
--- src/step.rt:27:8
 sub-if3 : tie.Need-sub-if3
 sub-if3 c = search needs
 
--- src/step.rt:28:9
 returns-3 : tie.Need-returns-3
 unfolding stay
 returns-3 c = let a = c .before .before .before .before .before .before .before .before .args in sym (previousChar-stays (now (a .w)) (a .r) (omega arith))
 
--- src/step.rt:30:17
 sub-start : tie.Need-sub-start
 sub-start c = search needs
 
--- src/step.rt:33:13
 char-at-requires : tie.Need-char-at-requires
 char-at-requires c κs = let a = c .before .before .before .before .before .before .before .before .args in omega (arith, lastWidth-pos (now (a .w)) (a .r .cursor), lastWidth-four (now (a .w)) (a .r .cursor), stands-within (now (a .w)) (a .r) (sym (c .before .before .before .before .before .before .stands-in .ensures) ∙ not-false _ (c .before .before .before .before .before .if1 .left)))
 
--- src/step.rt:34:15
 moved-to-requires : tie.Need-moved-to-requires
 moved-to-requires c κs = search needs
 
--- src/step.rt:16:1
 returns-4 : tie.Need-returns-4
 returns-4 c = let a = c .before .before .before .before .before .before .before .before .before .before .args in previousChar-made (now (a .w)) (a .r) _ _ _ (sym (c .before .before .before .before .before .before .before .before .stands-in .ensures) ∙ not-false _ (c .before .before .before .before .before .before .before .if1 .left)) (c .before .before .before .before .last-width .ensures) (omega arith) (c .before .char-at .ensures) (c .moved-to .ensures)
 

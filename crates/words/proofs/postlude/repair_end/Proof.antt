@@ -1,3 +1,5 @@
+-- `words::postlude::repair_end` meets its contract: the number found says which case of `postludeCall` and `postludeOut` holds;
+-- the repair fits the output. Assumes nothing.
 use Rattle.words.proofs.Laws.RepairCalls.{postludeCall-refused, postludeOut-refused, postludeCall-given, postludeOut-given, into-room, repair-fits}
 use denote.Ref.{now}
 use lib.ListN.{length}
@@ -6,37 +8,25 @@ use mathlib.Core.Path.{_∙_}
 use borrow.Author.Needs.{needs}
 use Rattle.words.proofs.postlude.repair_end.Statement.{statement}
 use Rattle.words.proofs.postlude.repair_end.Tie as tie
-use Rattle.words.proofs.postlude.repair_end.Reads as reads
-use Rattle.words.proofs.postlude.repair_end.Lts as lts
-use Rattle.stages.proofs.postlude.postlude.Reads as postlude-reads
-use Rattle.words.proofs.refusal.refusal_into.Reads as refusal-into-reads
-use Rattle.words.proofs.repair.write_repair.Reads as write-repair-reads
 
--- src/postlude.rt:13:38
 add-refusal-into : tie.Need-add-refusal-into
 add-refusal-into c = search needs
 
--- src/postlude.rt:13:9
 refusal-into-requires : tie.Need-refusal-into-requires
 refusal-into-requires c κs = search needs
 
--- src/postlude.rt:15:9
 returns : tie.Need-returns
 returns c = let a = c .before .before .before .before .args in (postludeCall-refused (now (a .w)) (length (now (a .out))) _ (c .before .refusal-into .ensures) (c .if1 .taken), postludeOut-refused (now (a .w)) (now (a .out)) _ (c .before .refusal-into .ensures) (c .if1 .taken))
 
--- src/postlude.rt:21:9
 postlude-requires : tie.Need-postlude-requires
 postlude-requires c κs = search needs
 
--- src/postlude.rt:22:9
 write-repair-requires : tie.Need-write-repair-requires
 write-repair-requires c κs = let a = c .before .before .before .before .before .before .args in repair-fits (now (a .w)) (length (now (a .w))) (length (now (a .out))) _ (c .before .postlude .ensures) (le-refl _) (into-room (now (a .w)) (length (now (a .out))) _ (c .before .before .before .refusal-into .ensures) (c .before .before .if1 .left))
 
--- src/postlude.rt:10:1
 same-length : tie.Need-same-length
 same-length c = search needs
 
--- src/postlude.rt:10:1
 returns-2 : tie.Need-returns-2
 returns-2 c = let a = c .before .before .before .before .before .before .before .before .before .args in (postludeCall-given (now (a .w)) (length (now (a .out))) _ (c .before .before .before .before .before .before .refusal-into .ensures) (c .before .before .before .before .before .if1 .left) _ _ (c .before .before .before .before .postlude .ensures) (c .before .before .write-repair .ensures .0), c .before .before .write-repair .ensures .1 ∙ postludeOut-given (now (a .w)) (now (a .out)) _ (c .before .before .before .before .before .before .refusal-into .ensures) (c .before .before .before .before .before .if1 .left) _ (c .before .before .before .before .postlude .ensures))
 

@@ -1,25 +1,18 @@
+-- `words::stem::stem_numbers` meets its contract: the number found says which case of `stageCall` holds. Assumes nothing.
 use Rattle.words.proofs.Laws.WordCalls.{stageCall-refused, stageCall-given}
 use borrow.Author.Needs.{needs}
 use Rattle.words.proofs.stem.stem_numbers.Statement.{statement}
 use Rattle.words.proofs.stem.stem_numbers.Tie as tie
-use Rattle.words.proofs.stem.stem_numbers.Reads as reads
-use Rattle.words.proofs.stem.stem_numbers.Lts as lts
-use Rattle.stages.proofs.stem.stem_nominal_verb_suffixes.Reads as stem-nominal-verb-suffixes-reads
-use Rattle.words.proofs.refusal.refusal_of.Reads as refusal-of-reads
 
--- src/stem.rt:24:9
 refusal-of-requires : tie.Need-refusal-of-requires
 refusal-of-requires c κs = search needs
 
--- src/stem.rt:26:9
 returns : tie.Need-returns
 returns c = stageCall-refused _ _ (c .before .refusal-of .ensures) (c .if1 .taken)
 
--- src/stem.rt:33:9
 stem-nominal-verb-suffixes-requires : tie.Need-stem-nominal-verb-suffixes-requires
 stem-nominal-verb-suffixes-requires c κs = search needs
 
--- src/stem.rt:21:1
 returns-2 : tie.Need-returns-2
 returns-2 c = stageCall-given _ _ (c .before .before .refusal-of .ensures) (c .before .if1 .left) _ (c .stem-nominal-verb-suffixes .ensures)
 

@@ -1,3 +1,5 @@
+-- `words::stem::stem_part` meets its contract: the number found says which case of `stagePart` holds; the text kept lies within
+-- the word. Assumes nothing.
 use Rattle.words.proofs.Laws.WordCalls.{stagePart-refused, stagePart-given, kept-le}
 use Rattle.stages.specs.Reach.{stemOf}
 use Rattle.stages.specs.declared.stem.Stem.{Stem}
@@ -8,32 +10,22 @@ use native.Mathlib.Omega.{arith}
 use borrow.Author.Needs.{needs}
 use Rattle.words.proofs.stem.stem_part.Statement.{statement}
 use Rattle.words.proofs.stem.stem_part.Tie as tie
-use Rattle.words.proofs.stem.stem_part.Reads as reads
-use Rattle.words.proofs.stem.stem_part.Lts as lts
-use Rattle.stages.proofs.stem.stem_nominal_verb_suffixes.Reads as stem-nominal-verb-suffixes-reads
-use Rattle.words.proofs.refusal.refusal_of.Reads as refusal-of-reads
 
--- src/stem.rt:12:8
 refusal-of-requires : tie.Need-refusal-of-requires
 refusal-of-requires c κs = search needs
 
--- src/stem.rt:13:9
 slice-aggregate-result : tie.Need-slice-aggregate-result
 slice-aggregate-result c = search needs
 
--- src/stem.rt:13:9
 returns : tie.Need-returns
 returns c = stagePart-refused _ _ (c .before .before .refusal-of .ensures) (c .before .if1 .taken)
 
--- src/stem.rt:15:9
 stem-nominal-verb-suffixes-requires : tie.Need-stem-nominal-verb-suffixes-requires
 stem-nominal-verb-suffixes-requires c κs = search needs
 
--- src/stem.rt:17:5
 slice-aggregate-result-2 : tie.Need-slice-aggregate-result-2
 slice-aggregate-result-2 c = let w = now (c .before .before .before .before .before .args .w) in let s = c .before .stem-nominal-verb-suffixes .result in omega (arith, length-take (s .kept) w, kept-le w s (c .before .stem-nominal-verb-suffixes .ensures))
 
--- src/stem.rt:9:1
 returns-2 : tie.Need-returns-2
 unfolding stemOf
 returns-2 c = stagePart-given _ _ (c .before .before .before .refusal-of .ensures) (c .before .before .if1 .left) _ (ap (λ (s : Stem). s .kept) (c .before .stem-nominal-verb-suffixes .ensures))

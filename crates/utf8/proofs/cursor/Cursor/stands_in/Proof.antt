@@ -1,19 +1,15 @@
+-- `utf8::cursor::Cursor::stands_in` meets its contract: each test decides one of the three orders. Assumes nothing.
 use Rattle.utf8.proofs.Laws.Steps.{stands-low, stands-high, stands-end}
 use mathlib.Core.Path.{sym}
 use Rattle.utf8.proofs.cursor.Cursor.stands_in.Statement.{statement}
 use Rattle.utf8.proofs.cursor.Cursor.stands_in.Tie as tie
-use Rattle.utf8.proofs.cursor.Cursor.stands_in.Reads as reads
-use Rattle.utf8.proofs.cursor.Cursor.stands_in.Lts as lts
 
--- src/cursor.rt:17:13
 returns : tie.Need-returns
 returns c = sym (stands-low _ _ (c .if1 .taken))
 
--- src/cursor.rt:20:13
 returns-2 : tie.Need-returns-2
 returns-2 c = sym (stands-high _ _ (c .if2 .taken))
 
--- src/cursor.rt:13:5
 returns-3 : tie.Need-returns-3
 returns-3 c = sym (stands-end _ _ (c .before .before .before .if1 .left) (c .before .if2 .left))
 
