@@ -81,3 +81,16 @@ accepts-due n lo hi b bs = rw (eqb·suc-zero n, sub-one) (go (leb lo b && leb b 
 -- six bits make a byte that may follow
 pub accepts-six : (n x : ℕ) (bs : List ℕ) → accepts (due (suc n) 0x80 0xBF) ((0x80 + x % 0x40) ∷ bs) ≡ accepts (due n 0x80 0xBF) bs
 accepts-six n x bs = accepts-due n 0x80 0xBF _ bs ∙ rw (le-leb 0x80 (0x80 + x % 0x40) (omega arith), le-leb (0x80 + x % 0x40) 0xBF (omega arith))
+
+-- ---- a character at a time ----
+
+-- with nothing due, the state says no more than that
+pub accepts-none-due : (d : Due) (bs : List ℕ) → d .need ≡ 0 → accepts d bs ≡ accepts (due 0 0x80 0xBF) bs
+unfolding accepts
+accepts-none-due d [] n = ap (λ (k : ℕ). eqb k 0) n ∙ (unfold due in refl)
+accepts-none-due d (b ∷ bs) n = rw (next-lead d b n, next-lead (due 0 0x80 0xBF) b (unfold due in refl))
+
+-- a plain byte leaves nothing due
+pub next-plain : (b : ℕ) → b < 0x80 → next (due 0 0x80 0xBF) b ≡ due 0 0x80 0xBF
+unfolding table37
+next-plain b h = next-lead (due 0 0x80 0xBF) b (unfold due in refl) ∙ lead-in 0 b (omega arith) (omega arith) (omega arith) (omega arith)
