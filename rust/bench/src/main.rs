@@ -3,59 +3,56 @@
 mod inputs;
 mod measure;
 mod pairs;
+#[cfg(feature = "oracle")]
+mod program;
 
-use compare::arguments::default_vocabulary;
 use inputs::{inputs, Input};
 use measure::{measure, Times};
 use pairs::{Pair, PAIRS};
+use shared::command::command;
+use shared::places;
 use std::path::PathBuf;
 use std::process::ExitCode;
 
 const USAGE: &str = "\
-usage: bench [--vocabulary PATH] [--rounds N]
+usage: bench [--vocabulary PATH] [--rounds N] [--program PATH]
+       bench --list
 
-Times each call on both sides, in turn, and prints the median of N rounds (default 31).
+Times each call on both sides, in turn, and prints the median of N rounds (default 31); and the
+program stemlist, where it is there, beside an equal one in Rust.
   --vocabulary PATH  one word to a line (default: the variable FANNAVY_VOCABULARY, or
                      /usr/share/snowball/data/turkish/voc.txt of Debian's snowball-data)
+  --program PATH     the program stemlist (default: the variable FANNAVY_STEMLIST, or
+                     target/bin/stemlist of the repository)
+  --list             be the program in Rust: list the words of standard input on standard output
 ";
 
 struct Settings {
     vocabulary: PathBuf,
     rounds: usize,
+    program: PathBuf,
+    list: bool,
 }
 
 fn main() -> ExitCode {
-    let arguments = std::env::args_os().skip(1);
-    let arguments = arguments.map(|argument| argument.to_string_lossy().into_owned());
-    match parse(arguments) {
-        Ok(Some(settings)) => match run(&settings) {
-            Ok(()) => ExitCode::SUCCESS,
-            Err(message) => refuse(&message, 1),
-        },
-        Ok(None) => {
-            print!("{USAGE}");
-            ExitCode::SUCCESS
-        }
-        Err(message) => refuse(&message, 2),
-    }
-}
-
-fn refuse(message: &str, status: u8) -> ExitCode {
-    eprintln!("bench: {message}");
-    ExitCode::from(status)
+    command("bench", USAGE, parse, run)
 }
 
 // The settings, or nothing where help was asked for; the error is a message.
-fn parse(mut arguments: impl Iterator<Item = String>) -> Result<Option<Settings>, String> {
+fn parse(arguments: &mut dyn Iterator<Item = String>) -> Result<Option<Settings>, String> {
     let mut settings = Settings {
-        vocabulary: default_vocabulary(),
+        vocabulary: places::vocabulary(),
         rounds: 31,
+        program: places::stemlist(),
+        list: false,
     };
     while let Some(argument) = arguments.next() {
         let mut value = || arguments.next().ok_or(format!("{argument} needs a value"));
         match argument.as_str() {
             "--help" => return Ok(None),
             "--vocabulary" => settings.vocabulary = value()?.into(),
+            "--program" => settings.program = value()?.into(),
+            "--list" => settings.list = true,
             "--rounds" => {
                 let rounds = value()?.parse().ok().filter(|&rounds| rounds > 0);
                 settings.rounds = rounds.ok_or("--rounds needs a number above 0")?;
@@ -67,10 +64,43 @@ fn parse(mut arguments: impl Iterator<Item = String>) -> Result<Option<Settings>
 }
 
 fn run(settings: &Settings) -> Result<(), String> {
+    if settings.list {
+        return list();
+    }
+    calls(settings)?;
+    programs(settings)
+}
+
+#[cfg(feature = "oracle")]
+fn list() -> Result<(), String> {
+    program::list().map_err(|error| error.to_string())
+}
+
+#[cfg(feature = "oracle")]
+fn programs(settings: &Settings) -> Result<(), String> {
+    if settings.program.is_file() {
+        let table = program::table(&settings.program, &settings.vocabulary)?;
+        println!("\n{table}");
+    }
+    Ok(())
+}
+
+#[cfg(not(feature = "oracle"))]
+fn list() -> Result<(), String> {
+    Err("--list needs the crate's stages, which this build is without".to_string())
+}
+
+#[cfg(not(feature = "oracle"))]
+fn programs(_: &Settings) -> Result<(), String> {
+    Ok(())
+}
+
+fn calls(settings: &Settings) -> Result<(), String> {
     let inputs = inputs(&settings.vocabulary)?;
     let rounds = settings.rounds;
-    println!("Median of {rounds} rounds. Ratio: Fannavy's time over the Rust's; below 1, Fannavy is faster.\n");
-    println!("| call | words | bytes a word | Fannavy ns a word | Rust ns a word | Fannavy ns a byte | Rust ns a byte | ratio |");
+    println!("Nanoseconds a word, median of {rounds} rounds. Fannavy takes bytes and checks them; the Rust takes text, or, from bytes,");
+    println!("after `str::from_utf8`. Ratio: Fannavy's time over the Rust's; below 1, Fannavy is faster.\n");
+    println!("| call | words | bytes a word | Fannavy | Rust | ratio | Rust from bytes | ratio |");
     println!("|---|---|--:|--:|--:|--:|--:|--:|");
     for pair in PAIRS {
         for input in &inputs {
@@ -83,14 +113,13 @@ fn run(settings: &Settings) -> Result<(), String> {
 
 fn row(pair: &Pair, input: &Input, times: &Times) -> String {
     let bytes = input.bytes() as f64 / input.words.len() as f64;
+    let beside = |rust: f64| format!("{rust:.1} | {:.2}", times.proved / rust);
     format!(
-        "| {} | {} | {bytes:.1} | {:.1} | {:.1} | {:.3} | {:.3} | {:.2} |",
+        "| {} | {} | {bytes:.1} | {:.1} | {} | {} |",
         pair.name,
         input.name,
         times.proved,
-        times.rust,
-        times.proved / bytes,
-        times.rust / bytes,
-        times.proved / times.rust
+        beside(times.rust),
+        times.from_bytes.map_or(" | ".to_string(), beside)
     )
 }

@@ -1,8 +1,10 @@
 //! Times of the two sides over the same words, round by round in turn.
 
 use crate::inputs::Input;
-use crate::pairs::Pair;
+use crate::pairs::{Output, Pair};
+use fannavy::{pass_room, LIMIT};
 use std::hint::black_box;
+use std::str::from_utf8;
 use std::time::{Duration, Instant};
 
 // A round goes over the words as often as it takes to see this many bytes.
@@ -12,49 +14,60 @@ const BYTES: usize = 2 << 20;
 pub struct Times {
     pub proved: f64,
     pub rust: f64,
+    /// The Rust's where it takes text and a host has bytes, as for the proved side.
+    pub from_bytes: Option<f64>,
 }
 
 /// Runs this many rounds, after one that is not counted; the error is a message that the sides
 /// gave different answers.
 pub fn measure(pair: &Pair, input: &Input, rounds: usize) -> Result<Times, String> {
+    let from_bytes = |word: &str, output: &mut Output| {
+        let text = from_utf8(word.as_bytes());
+        text.map_or(0, |text| (pair.rust)(text, output))
+    };
+    let sides: [&Side; 3] = [&pair.proved, &pair.rust, &from_bytes];
     let passes = BYTES.div_ceil(input.bytes().max(1));
-    let mut proved = Vec::new();
-    let mut rust = Vec::new();
+    let mut times: [Vec<Duration>; 3] = Default::default();
     for round in 0..=rounds {
-        let (proved_time, proved_sum) = time(pair.proved, &input.words, passes);
-        let (rust_time, rust_sum) = time(pair.rust, &input.words, passes);
-        if proved_sum != rust_sum {
+        let measured = sides.map(|side| time(side, &input.words, passes));
+        if measured.iter().any(|(_, sum)| *sum != measured[0].1) {
             return Err(format!(
                 "{} on {}: the answers differ",
                 pair.name, input.name
             ));
         }
         if round > 0 {
-            proved.push(proved_time);
-            rust.push(rust_time);
+            for (times, (time, _)) in times.iter_mut().zip(measured) {
+                times.push(time);
+            }
         }
     }
     let words = (input.words.len() * passes) as f64;
+    let [proved, rust, from_bytes] = times.map(|times| median(times) / words);
     Ok(Times {
-        proved: median(proved) / words,
-        rust: median(rust) / words,
+        proved,
+        rust,
+        from_bytes: pair.takes_text.then_some(from_bytes),
     })
 }
 
+type Side<'a> = dyn Fn(&str, &mut Output) -> usize + 'a;
+
 // The time of some passes over the words, and the sum of the answers.
-fn time(call: fn(&str) -> usize, words: &[String], passes: usize) -> (Duration, usize) {
+fn time(call: &Side, words: &[String], passes: usize) -> (Duration, usize) {
+    let mut output: Output = [0; pass_room(LIMIT)];
     let mut sum = 0usize;
     let start = Instant::now();
     for _ in 0..passes {
         for word in words {
-            sum = sum.wrapping_add(black_box(call(black_box(word))));
+            sum = sum.wrapping_add(black_box(call(black_box(word), &mut output)));
         }
     }
     (start.elapsed(), sum)
 }
 
-// In nanoseconds.
-fn median(mut times: Vec<Duration>) -> f64 {
+/// In nanoseconds.
+pub fn median(mut times: Vec<Duration>) -> f64 {
     times.sort_unstable();
     times[times.len() / 2].as_nanos() as f64
 }

@@ -1,16 +1,86 @@
 //! The calls that are timed, each with its Rust counterpart. A further pair is one more entry.
 
-use compare::ffi;
+use fannavy::{pass_room, LIMIT};
 
-/// The same work on both sides. An answer is a number, so that nothing can be left out as unused.
+/// An output long enough for every call.
+pub type Output = [u8; pass_room(LIMIT)];
+
+/// The same work on both sides. An answer is a number, so that nothing can be left out as unused. The
+/// output is lent to both; the Rust makes its own texts.
 pub struct Pair {
     pub name: &'static str,
-    pub proved: fn(&str) -> usize,
-    pub rust: fn(&str) -> usize,
+    /// Whether the Rust takes text, which a host that has bytes must check first.
+    pub takes_text: bool,
+    pub proved: fn(&str, &mut Output) -> usize,
+    pub rust: fn(&str, &mut Output) -> usize,
 }
 
-pub const PAIRS: &[Pair] = &[Pair {
-    name: "UTF-8 check",
-    proved: |word| usize::from(unsafe { ffi::fannavy_is_utf8(word.as_ptr(), word.len()) }),
-    rust: |word| usize::from(std::str::from_utf8(word.as_bytes()).is_ok()),
-}];
+pub const PAIRS: &[Pair] = &[
+    Pair {
+        name: "UTF-8 check",
+        takes_text: false,
+        proved: |word, _| usize::from(fannavy::is_utf8(word.as_bytes())),
+        rust: |word, _| usize::from(std::str::from_utf8(word.as_bytes()).is_ok()),
+    },
+    #[cfg(feature = "oracle")]
+    Pair {
+        name: "syllable check",
+        takes_text: true,
+        proved: |word, _| match fannavy::syllable(word.as_bytes()) {
+            Ok(yes) => sum(0, [yes]),
+            Err(_) => REFUSED,
+        },
+        rust: |word, _| sum(0, [oracle::more_than_one_syllable_word(word)]),
+    },
+    #[cfg(feature = "oracle")]
+    Pair {
+        name: "suffix stage",
+        takes_text: true,
+        proved: |word, _| match fannavy::stage(word.as_bytes()) {
+            Ok(stage) => sum(stage.kept.len(), [stage.yes, stage.flag]),
+            Err(_) => REFUSED,
+        },
+        rust: |word, _| {
+            let stage = oracle::stem_nominal_verb_suffixes(word);
+            sum(stage.text.len(), [stage.answer, stage.flag])
+        },
+    },
+    #[cfg(feature = "oracle")]
+    Pair {
+        name: "postlude",
+        takes_text: true,
+        proved: |word, output| match fannavy::postlude(word.as_bytes(), output) {
+            Ok(postlude) => sum(postlude.text.len(), [postlude.yes]),
+            Err(_) => REFUSED,
+        },
+        rust: |word, _| {
+            let postlude = oracle::postlude(word);
+            sum(postlude.text.len(), [postlude.answer])
+        },
+    },
+    #[cfg(feature = "oracle")]
+    Pair {
+        name: "word pass",
+        takes_text: true,
+        proved: |word, output| match fannavy::pass(word.as_bytes(), output) {
+            Ok(pass) => sum(pass.text.len(), [pass.syllable, pass.yes, pass.flag]),
+            Err(_) => REFUSED,
+        },
+        rust: |word, _| {
+            let pass = oracle::pass(word);
+            sum(pass.text.len(), [pass.syllable, pass.answer, pass.flag])
+        },
+    },
+];
+
+// No word here is refused; if one is, the sums differ.
+#[cfg(feature = "oracle")]
+const REFUSED: usize = 1 << 32;
+
+// A text's length and the answers beside it as one number.
+#[cfg(feature = "oracle")]
+fn sum<const N: usize>(length: usize, answers: [bool; N]) -> usize {
+    answers
+        .iter()
+        .fold(length, |sum, &answer| sum * 2 + usize::from(answer))
+}

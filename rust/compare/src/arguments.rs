@@ -2,13 +2,8 @@
 
 use crate::parts::{Part, PARTS};
 use crate::words::Sizes;
-use std::env;
+use shared::places;
 use std::path::PathBuf;
-
-/// Where Debian's package snowball-data puts the vocabulary.
-pub const VOCABULARY: &str = "/usr/share/snowball/data/turkish/voc.txt";
-/// The variable that names another place.
-pub const VOCABULARY_VARIABLE: &str = "FANNAVY_VOCABULARY";
 
 pub const USAGE: &str = "\
 usage: compare [OPTION...] [PART...]
@@ -18,11 +13,16 @@ differ, with both answers.
 
   --seed N           where the random words start (default 1)
   --letters N        every word of up to N characters over the stages' letters (default 4)
-  --piles N          N piles of three endings, besides every pile of one and of two (default 300000)
+  --piles N          N piles of three endings, besides every pile of one and of two; for the stages
+                     also N piles of four, and N of 15 to 18 characters (default 300000)
   --random N         N random words of each kind: text, bytes, damaged words (default 300000)
+  --long             these sizes for a run of over 100 million words for each of the stages; name the
+                     parts from syllable on, since the others take much longer
   --vocabulary PATH  one word to a line (default: the variable FANNAVY_VOCABULARY, or
                      /usr/share/snowball/data/turkish/voc.txt of Debian's snowball-data)
   --no-vocabulary    leave the vocabulary out
+  --program PATH     the program stemlist (default: the variable FANNAVY_STEMLIST, or
+                     target/bin/stemlist of the repository)
   --help             this text
 ";
 
@@ -36,6 +36,7 @@ pub enum Command {
 pub struct Settings {
     pub sizes: Sizes,
     pub vocabulary: Option<PathBuf>,
+    pub program: PathBuf,
     pub parts: Vec<&'static Part>,
 }
 
@@ -44,7 +45,8 @@ pub fn parse(arguments: impl Iterator<Item = String>) -> Result<Command, String>
     let mut arguments = arguments;
     let mut settings = Settings {
         sizes: Sizes::default(),
-        vocabulary: Some(default_vocabulary()),
+        vocabulary: Some(places::vocabulary()),
+        program: places::stemlist(),
         parts: Vec::new(),
     };
     while let Some(argument) = arguments.next() {
@@ -55,8 +57,10 @@ pub fn parse(arguments: impl Iterator<Item = String>) -> Result<Command, String>
             "--letters" => settings.sizes.letters = number(&argument, &value()?)?,
             "--piles" => settings.sizes.piles = number(&argument, &value()?)?,
             "--random" => settings.sizes.random = number(&argument, &value()?)?,
+            "--long" => settings.sizes = Sizes::long(),
             "--vocabulary" => settings.vocabulary = Some(value()?.into()),
             "--no-vocabulary" => settings.vocabulary = None,
+            "--program" => settings.program = value()?.into(),
             name => settings.parts.push(part(name)?),
         }
     }
@@ -64,13 +68,6 @@ pub fn parse(arguments: impl Iterator<Item = String>) -> Result<Command, String>
         settings.parts = PARTS.iter().collect();
     }
     Ok(Command::Run(settings))
-}
-
-/// The vocabulary's place where no argument names one.
-pub fn default_vocabulary() -> PathBuf {
-    env::var_os(VOCABULARY_VARIABLE)
-        .unwrap_or(VOCABULARY.into())
-        .into()
 }
 
 fn number<N: std::str::FromStr>(option: &str, value: &str) -> Result<N, String> {

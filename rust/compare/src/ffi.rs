@@ -1,5 +1,8 @@
-//! The exports of the proved archives. Nothing checks these lines against the Rattle source: a
-//! slice passes as a pointer, never null, and then a length.
+//! The exports of the proved archives: libfannavy.a's by the binding's own lines, and libprobe.a's.
+//! Nothing checks these lines against the Rattle source: a slice passes as a pointer, never null, and
+//! then a length.
+
+pub use fannavy::ffi::*;
 
 /// What a step of the cursor answers: whether it moved, the code point met (0 where none was), and
 /// the cursor record after it.
@@ -13,12 +16,6 @@ pub struct ProbeStep {
     pub limit_backward: usize,
 }
 
-// libfannavy.a
-extern "C" {
-    pub fn fannavy_is_utf8(w: *const u8, n: usize) -> bool;
-}
-
-// libprobe.a
 extern "C" {
     pub fn probe_previous_char(
         w: *const u8,

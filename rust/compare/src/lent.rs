@@ -3,22 +3,33 @@
 use std::fmt::{self, Display, Formatter};
 
 const GUARD: usize = 32;
-// A lead byte before the word and a continuation byte after it: a call that reads on past either
-// end finds what it was looking for, and gives another answer.
-const BEFORE: u8 = 0xEE;
-const AFTER: u8 = 0xAE;
 
 /// A copy of a word between guard bytes.
 pub struct Lent {
     word: Vec<u8>,
     guarded: Vec<u8>,
+    before: u8,
+    after: u8,
 }
 
 impl Lent {
+    /// With a lead byte before the word and a continuation byte after it: a step or a check that
+    /// reads on past either end finds what it was looking for, and gives another answer.
     pub fn new(word: &[u8]) -> Lent {
+        Lent::between(0xEE, 0xAE, word)
+    }
+
+    /// With vowels on both sides, for the stages, to the same end.
+    pub fn among_vowels(word: &[u8]) -> Lent {
+        Lent::between(b'a', b'a', word)
+    }
+
+    fn between(before: u8, after: u8, word: &[u8]) -> Lent {
         let mut lent = Lent {
             word: Vec::new(),
-            guarded: vec![BEFORE; GUARD],
+            guarded: vec![before; GUARD],
+            before,
+            after,
         };
         lent.set(word);
         lent
@@ -30,7 +41,7 @@ impl Lent {
         self.word.extend_from_slice(word);
         self.guarded.truncate(GUARD);
         self.guarded.extend_from_slice(word);
-        self.guarded.extend_from_slice(&[AFTER; GUARD]);
+        self.guarded.extend_from_slice(&[self.after; GUARD]);
     }
 
     /// The word as it was before any call.
@@ -48,7 +59,7 @@ impl Lent {
     pub fn is_untouched(&self) -> bool {
         let (before, rest) = self.guarded.split_at(GUARD);
         let (word, after) = rest.split_at(self.word.len());
-        before == [BEFORE; GUARD] && word == self.word && after == [AFTER; GUARD]
+        before == [self.before; GUARD] && word == self.word && after == [self.after; GUARD]
     }
 }
 

@@ -2,12 +2,21 @@
 //! the comparison, each a file below parts/.
 
 pub mod arguments;
+pub mod calls;
+pub mod child;
 pub mod cursor;
+pub mod desk;
 pub mod ffi;
 pub mod lent;
+#[cfg(feature = "oracle")]
+pub mod listed;
+pub mod output;
 pub mod parts;
 pub mod places;
 pub mod progress;
 pub mod report;
+pub mod rule;
+pub mod share;
 pub mod steps;
+pub mod told;
 pub mod words;

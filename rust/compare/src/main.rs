@@ -2,14 +2,15 @@
 //! part found a difference, 1 where one did, 2 for arguments it cannot follow.
 
 use compare::arguments::{self, Command, Settings, USAGE};
-use compare::parts::{Part, PARTS};
+use compare::parts::{Part, Run, PARTS};
 use compare::report::Report;
 use compare::words::Words;
+use shared::command;
+use std::path::Path;
 use std::process::ExitCode;
 
 fn main() -> ExitCode {
-    let arguments = std::env::args_os().skip(1);
-    match arguments::parse(arguments.map(|argument| argument.to_string_lossy().into_owned())) {
+    match arguments::parse(command::arguments()) {
         Ok(Command::Help) => {
             help();
             ExitCode::SUCCESS
@@ -34,6 +35,12 @@ fn help() {
 }
 
 fn run(settings: Settings) -> ExitCode {
+    let program = settings.program.as_path();
+    let needed = |part: &&Part| matches!(part.run, Run::Program(_));
+    if settings.parts.iter().any(needed) && !program.is_file() {
+        let path = program.display();
+        return refuse(&format!("no program {path}: `rt check stemlist` links it"));
+    }
     let words = match Words::new(settings.vocabulary.as_deref(), settings.sizes) {
         Ok(words) => words,
         Err(message) => return refuse(&message),
@@ -41,7 +48,7 @@ fn run(settings: Settings) -> ExitCode {
     let mut comparisons = 0;
     let mut differing = 0;
     for part in &settings.parts {
-        let (count, same) = run_part(part, &words);
+        let (count, same) = run_part(part, &words, program);
         comparisons += count;
         differing += usize::from(!same);
     }
@@ -57,15 +64,18 @@ fn run(settings: Settings) -> ExitCode {
 }
 
 // Runs and prints one part: its comparisons, and whether the sides agreed.
-fn run_part(part: &Part, words: &Words) -> (u64, bool) {
+fn run_part(part: &Part, words: &Words, program: &Path) -> (u64, bool) {
     let mut report = Report::new(part.name);
-    let outcome = (part.run)(words, &mut report);
+    let outcome = match part.run {
+        Run::Words(run) => run(words, &mut report),
+        Run::Program(run) => run(words, program, &mut report),
+    };
     let count = report.comparisons();
     drop(report);
     match outcome {
         Ok(()) => println!("{}: {count} comparisons, no difference", part.name),
         Err(ref difference) => {
-            println!("{}: DIFFERENCE at comparison {count}", part.name);
+            println!("{}: DIFFERENCE after {count} comparisons", part.name);
             println!("{difference}");
         }
     }

@@ -3,46 +3,100 @@
 
 mod characters;
 mod check;
+mod fold;
 mod limits;
 #[cfg(feature = "oracle")]
 mod literals;
+#[cfg(feature = "oracle")]
+mod program;
+mod refused;
 mod sequences;
+#[cfg(feature = "oracle")]
+mod stages;
 
 use crate::report::{Difference, Report};
 use crate::words::Words;
+use std::path::Path;
 
 pub struct Part {
     pub name: &'static str,
     /// What is compared with what, for `--help`.
     pub what: &'static str,
-    pub run: fn(&Words, &mut Report) -> Result<(), Difference>,
+    pub run: Run,
+}
+
+pub enum Run {
+    /// On the archives.
+    Words(fn(&Words, &mut Report) -> Result<(), Difference>),
+    /// On the program stemlist.
+    Program(fn(&Words, &Path, &mut Report) -> Result<(), Difference>),
 }
 
 pub const PARTS: &[Part] = &[
     Part {
         name: "sequences",
         what: "the UTF-8 check on every short byte sequence, with str::from_utf8",
-        run: sequences::run,
+        run: Run::Words(sequences::run),
     },
     Part {
         name: "check",
         what: "the UTF-8 check on words, random bytes and damaged words, with str::from_utf8",
-        run: check::run,
+        run: Run::Words(check::run),
     },
     Part {
         name: "characters",
         what: "previous_char and next_char, with str::char_indices",
-        run: characters::run,
+        run: Run::Words(characters::run),
     },
     Part {
         name: "limits",
         what: "eq_s and eq_s_b between inner limits, with str::starts_with and ends_with",
-        run: limits::run,
+        run: Run::Words(limits::run),
     },
     #[cfg(feature = "oracle")]
     Part {
         name: "literals",
         what: "eq_s and eq_s_b over the whole word, with the crate's own",
-        run: literals::run,
+        run: Run::Words(literals::run),
+    },
+    #[cfg(feature = "oracle")]
+    Part {
+        name: "syllable",
+        what: "the syllable check, with the crate's own",
+        run: Run::Words(stages::syllable),
+    },
+    #[cfg(feature = "oracle")]
+    Part {
+        name: "stage",
+        what: "the suffix stage's text, answer and flag, with the crate's own",
+        run: Run::Words(stages::stage),
+    },
+    #[cfg(feature = "oracle")]
+    Part {
+        name: "postlude",
+        what: "the postlude's text and answer, with the crate's own",
+        run: Run::Words(stages::postlude),
+    },
+    #[cfg(feature = "oracle")]
+    Part {
+        name: "pass",
+        what: "the word pass, with the crate's stages one after the other",
+        run: Run::Words(stages::pass),
+    },
+    Part {
+        name: "fold",
+        what: "the fold, with its rule character by character",
+        run: Run::Words(fold::run),
+    },
+    Part {
+        name: "refused",
+        what: "every call's refusals, with the rule: short outputs, long words, no text",
+        run: Run::Words(refused::run),
+    },
+    #[cfg(feature = "oracle")]
+    Part {
+        name: "program",
+        what: "the program stemlist's output, with the listing by the crate's stages",
+        run: Run::Program(program::run),
     },
 ];

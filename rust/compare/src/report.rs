@@ -1,8 +1,15 @@
 //! What a part found: its count of comparisons, and the first word on which the two sides differ.
 
 use crate::lent::Lent;
+use crate::output::Output;
 use crate::progress::Progress;
 use std::fmt::{self, Debug, Display, Formatter};
+use std::sync::Arc;
+
+// Progress is told once in so many words.
+const WORDS: u64 = 256;
+// As much of a word as is shown; only a line of a list is longer.
+const SHOWN: usize = 2048;
 
 /// The first difference of a part: which call, on which word, with both answers.
 pub struct Difference {
@@ -12,13 +19,42 @@ pub struct Difference {
     rust: String,
 }
 
+impl Difference {
+    /// What `call` names differs on a word; both answers as they are shown.
+    pub fn new(call: String, word: Vec<u8>, proved: String, rust: String) -> Difference {
+        Difference {
+            call,
+            word,
+            proved,
+            rust,
+        }
+    }
+
+    /// More to be said about the proved side.
+    pub fn and(mut self, message: &str) -> Difference {
+        self.proved = format!("{}; {message}", self.proved);
+        self
+    }
+}
+
 impl Display for Difference {
     fn fmt(&self, f: &mut Formatter) -> fmt::Result {
-        let hex: Vec<String> = self.word.iter().map(|b| format!("{b:02x}")).collect();
-        let text = String::from_utf8_lossy(&self.word);
+        let shown = &self.word[..self.word.len().min(SHOWN)];
+        let more = if shown.len() < self.word.len() {
+            " .."
+        } else {
+            ""
+        };
+        let hex: Vec<String> = shown.iter().map(|b| format!("{b:02x}")).collect();
+        let text = String::from_utf8_lossy(shown);
         writeln!(f, "  call     {}", self.call)?;
-        writeln!(f, "  bytes    {} ({})", hex.join(" "), self.word.len())?;
-        writeln!(f, "  as text  {text:?}")?;
+        writeln!(
+            f,
+            "  bytes    {}{more} ({})",
+            hex.join(" "),
+            self.word.len()
+        )?;
+        writeln!(f, "  as text  {text:?}{more}")?;
         writeln!(f, "  Fannavy  {}", self.proved)?;
         write!(f, "  Rust     {}", self.rust)
     }
@@ -27,15 +63,24 @@ impl Display for Difference {
 /// A part's running count.
 pub struct Report {
     comparisons: u64,
-    progress: Progress,
+    words: u64,
+    told: u64,
+    progress: Arc<Progress>,
 }
 
 impl Report {
     pub fn new(part: &'static str) -> Report {
-        Report {
-            comparisons: 0,
-            progress: Progress::new(part),
-        }
+        Report::on(Arc::new(Progress::new(part)))
+    }
+
+    /// A count from 0 for a thread of the same part.
+    pub fn fork(&self) -> Report {
+        Report::on(self.progress.clone())
+    }
+
+    /// Takes over the count of a thread.
+    pub fn join(&mut self, thread: Report) {
+        self.comparisons += thread.comparisons;
     }
 
     pub fn comparisons(&self) -> u64 {
@@ -62,6 +107,12 @@ impl Report {
         })
     }
 
+    /// Counts lines of an output that agree.
+    pub fn lines(&mut self, count: u64) {
+        self.comparisons += count;
+        self.progress.add(count, count);
+    }
+
     /// What was lent must be as it was.
     pub fn untouched(&self, lent: &Lent) -> Result<(), Difference> {
         if lent.is_untouched() {
@@ -75,9 +126,45 @@ impl Report {
         })
     }
 
+    /// After a call that gave an answer of `length` bytes nothing else may have changed.
+    pub fn stays(
+        &self,
+        lent: &Lent,
+        call: impl Display,
+        output: &Output,
+        length: usize,
+    ) -> Result<(), Difference> {
+        self.untouched(lent)?;
+        if output.stays_past(length) {
+            return Ok(());
+        }
+        Err(Difference {
+            call: call.to_string(),
+            word: lent.word().to_vec(),
+            proved: format!(
+                "changed outside the answer: {:?}",
+                output.changes_past(length)
+            ),
+            rust: "unchanged".to_string(),
+        })
+    }
+
     /// Ends a word.
     pub fn done(&mut self, lent: &Lent) -> Result<(), Difference> {
-        self.progress.word(self.comparisons);
+        self.words += 1;
+        if self.words.is_multiple_of(WORDS) {
+            self.progress.add(WORDS, self.comparisons - self.told);
+            self.told = self.comparisons;
+        }
         self.untouched(lent)
+    }
+
+    fn on(progress: Arc<Progress>) -> Report {
+        Report {
+            comparisons: 0,
+            words: 0,
+            told: 0,
+            progress,
+        }
     }
 }

@@ -1,13 +1,16 @@
 //! The words that both sides are fed. Each source visits its words one by one, the same ones for the
 //! same sizes, and stops at the visitor's first error.
 
+pub mod chains;
 pub mod damaged;
 pub mod endings;
 pub mod letters;
 pub mod long;
+pub mod named;
 pub mod odometer;
 pub mod piles;
 pub mod random;
+pub mod sixteen;
 
 use random::Random;
 use std::fs;
@@ -29,6 +32,18 @@ impl Default for Sizes {
             letters: 4,
             piles: 300_000,
             random: 300_000,
+        }
+    }
+}
+
+impl Sizes {
+    /// Over 100 million words for each of the stages.
+    pub fn long() -> Sizes {
+        Sizes {
+            seed: 1,
+            letters: 5,
+            piles: 22_000_000,
+            random: 25_000_000,
         }
     }
 }
@@ -59,14 +74,47 @@ impl Words {
         long::each(visit)
     }
 
+    /// The words for the stages: every word that is text, and more that they tell apart.
+    pub fn for_stages<E>(&self, visit: &mut dyn FnMut(&str) -> Result<(), E>) -> Result<(), E> {
+        self.texts(visit)?;
+        named::each(visit)?;
+        chains::each(visit)?;
+        piles::each_of_four(self.sizes.piles, self.random(5), visit)?;
+        sixteen::each(self.sizes.piles, self.random(6), visit)
+    }
+
     /// Byte strings, most of which are no text: random bytes, and words with some bytes damaged.
     pub fn byte_strings<E>(&self, visit: &mut dyn FnMut(&[u8]) -> Result<(), E>) -> Result<(), E> {
         damaged::each_random(self.sizes.random, self.random(3), visit)?;
         damaged::each_word(&self.vocabulary, self.sizes.random, self.random(4), visit)
     }
 
-    // A generator for each source, so that the size of one does not change the words of another.
-    fn random(&self, source: u64) -> Random {
+    /// Some words of every kind: so many of each random source, one in 16 of the vocabulary, and those
+    /// around the longest.
+    pub fn some<E>(
+        &self,
+        count: usize,
+        visit: &mut dyn FnMut(&[u8]) -> Result<(), E>,
+    ) -> Result<(), E> {
+        let few = self.vocabulary.iter().step_by(16);
+        for word in few {
+            visit(word.as_bytes())?;
+        }
+        damaged::each_random(count, self.random(7), visit)?;
+        damaged::each_word(&self.vocabulary, count, self.random(7), visit)?;
+        let visit = &mut |word: &str| visit(word.as_bytes());
+        piles::each_of_four(count, self.random(7), visit)?;
+        sixteen::each(count, self.random(7), visit)?;
+        random::each(count, self.random(7), visit)?;
+        long::each(visit)
+    }
+
+    pub fn vocabulary(&self) -> &[String] {
+        &self.vocabulary
+    }
+
+    /// A generator for each source, so that the size of one does not change the words of another.
+    pub fn random(&self, source: u64) -> Random {
         Random::new(self.sizes.seed, source)
     }
 }

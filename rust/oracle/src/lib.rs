@@ -1,5 +1,6 @@
-//! The Turkish module of rust-stemmers 1.2.0 as an oracle: three of its stages by themselves, and
-//! its whole run. The crate's files are read at build time and are not part of this repository.
+//! The Turkish module of rust-stemmers 1.2.0 as an oracle: three of its stages by themselves, the
+//! word pass composed of them, and the crate's whole run. The crate's files are read at build time
+//! and are not part of this repository.
 
 include!(concat!(env!("OUT_DIR"), "/snowball.rs"));
 
@@ -23,6 +24,15 @@ pub struct Stage<'a> {
 pub struct Postlude<'a> {
     pub text: Cow<'a, str>,
     pub answer: bool,
+}
+
+/// What the word pass leaves: the text, and the answers on the way.
+#[derive(Clone, Debug, PartialEq)]
+pub struct Pass<'a> {
+    pub text: Cow<'a, str>,
+    pub syllable: bool,
+    pub answer: bool,
+    pub flag: bool,
 }
 
 /// The suffix stage, entered at the word's end with nothing before it cut off.
@@ -52,6 +62,44 @@ pub fn postlude(word: &str) -> Postlude<'_> {
         text: env.get_current(),
         answer,
     }
+}
+
+/// The word pass, which the crate does not have, composed of its stages: a word of one syllable
+/// stays; else the suffix stage, and the postlude of what it keeps unless the flag is false.
+pub fn pass(word: &str) -> Pass<'_> {
+    if !more_than_one_syllable_word(word) {
+        return Pass {
+            text: Cow::from(word),
+            syllable: false,
+            answer: false,
+            flag: true,
+        };
+    }
+    let stage = stem_nominal_verb_suffixes(word);
+    Pass {
+        syllable: true,
+        answer: stage.answer,
+        flag: stage.flag,
+        text: after_stage(stage),
+    }
+}
+
+/// The word pass's text after the suffix stage: the postlude's, unless the flag is false.
+pub fn after_stage(stage: Stage<'_>) -> Cow<'_, str> {
+    if stage.flag {
+        mended(stage.text)
+    } else {
+        stage.text
+    }
+}
+
+// The postlude's text; one that it leaves alone is not copied.
+fn mended(text: Cow<str>) -> Cow<str> {
+    let changed = match postlude(&text).text {
+        Cow::Owned(changed) => Some(changed),
+        Cow::Borrowed(_) => None,
+    };
+    changed.map_or(text, Cow::Owned)
 }
 
 /// The crate's whole Turkish run; like the crate's own call it gives the text alone.
@@ -112,6 +160,38 @@ mod tests {
         ] {
             let p = postlude(word);
             assert_eq!((&*p.text, p.answer), (text, answer), "{}", word);
+        }
+    }
+
+    #[test]
+    fn pass_composes_the_stages() {
+        for &(word, text, syllable, answer, flag) in &[
+            ("", "", false, false, true),
+            ("lar", "lar", false, false, true),
+            ("siniz", "", true, true, true),
+            ("kanadd\u{131}r", "kanad\u{131}", true, true, true),
+            ("evler", "ev", true, true, false),
+            ("kanadlar", "kanad", true, true, false),
+            ("saatler", "saatler", true, false, true),
+            (
+                "adm\u{131}\u{15f}s\u{131}n\u{131}zcas\u{131}na",
+                "ad",
+                true,
+                true,
+                true,
+            ),
+        ] {
+            let p = pass(word);
+            let answers = (p.syllable, p.answer, p.flag);
+            assert_eq!((&*p.text, answers), (text, (syllable, answer, flag)));
+        }
+    }
+
+    #[test]
+    fn stage_says_no_where_the_syllable_check_does() {
+        for word in &["", "b", "lar", "b\u{131}m", "d\u{131}r", "ken", "mu\u{15f}"] {
+            assert!(!more_than_one_syllable_word(word));
+            assert_eq!(stage(word), kept(word, false, true));
         }
     }
 

@@ -15,18 +15,21 @@ const HARMONIES: [[char; 3]; 4] = [
 
 /// Every key that the suffix stage and the postlude search for, and the literal `ken`.
 pub fn endings() -> Vec<String> {
-    let mut endings = Vec::new();
-    for suffix in SUFFIXES {
-        for harmony in HARMONIES {
-            for d in ['d', 't'] {
-                let ending = spell(suffix, harmony, d);
-                if !endings.contains(&ending) {
-                    endings.push(ending);
-                }
+    SUFFIXES.into_iter().flat_map(spellings).collect()
+}
+
+/// Every spelling of one suffix, once each.
+pub fn spellings(suffix: &str) -> Vec<String> {
+    let mut spellings = Vec::new();
+    for harmony in HARMONIES {
+        for d in ['d', 't'] {
+            let spelling = spell(suffix, harmony, d);
+            if !spellings.contains(&spelling) {
+                spellings.push(spelling);
             }
         }
     }
-    endings
+    spellings
 }
 
 fn spell(suffix: &str, [u, a, i]: [char; 3], d: char) -> String {

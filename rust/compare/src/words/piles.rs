@@ -1,4 +1,4 @@
-//! Piles of endings on short fronts, each ending with or without a y before it.
+//! Piles of up to four endings on short fronts, each ending with or without a y before it.
 
 use super::endings::endings;
 use super::odometer;
@@ -51,8 +51,27 @@ pub fn each<E>(
     Ok(())
 }
 
-// The endings, and the endings after a y.
-fn forms() -> Vec<String> {
+/// `count` piles of four endings.
+pub fn each_of_four<E>(
+    count: usize,
+    mut random: Random,
+    visit: &mut dyn FnMut(&str) -> Result<(), E>,
+) -> Result<(), E> {
+    let forms = forms();
+    let mut word = String::new();
+    for _ in 0..count {
+        word.clear();
+        word.push_str(FRONTS[random.below(FRONTS.len())]);
+        for _ in 0..4 {
+            word.push_str(random.pick(&forms).as_str());
+        }
+        visit(&word)?;
+    }
+    Ok(())
+}
+
+/// The endings, and the endings after a y.
+pub fn forms() -> Vec<String> {
     let endings = endings();
     let joined = endings.iter().map(|ending| format!("y{ending}"));
     endings.iter().cloned().chain(joined).collect()

@@ -1,0 +1,139 @@
+/*
+ * Fannavy: Turkish stemming whose every promise is proved. For C11 and C++ on x86-64; the calls are
+ * in libfannavy.a.
+ *
+ * A word is w[0] .. w[n - 1]: one Turkish word in UTF-8, in small letters, with no zero byte at its
+ * end. A capital letter is neither a vowel nor part of an ending: fold a heading first, by
+ * fannavy_fold.
+ *
+ * Lent memory, in every call:
+ *   - no pointer is null, not even where its length is 0;
+ *   - the word and the output of one call do not overlap;
+ *   - the call reads the n bytes of the word and writes the first `length` bytes of the output. The
+ *     word stays as it was, and so does the output from `length` on. Nothing is allocated and
+ *     nothing is kept after the call, so calls may run side by side.
+ *
+ * Refusals. There is no other error than `refusal`, which gives the first of the numbers below that
+ * applies, in their order. A refused call gives its number, length 0 and false in all other fields,
+ * and the whole output stays as it was.
+ */
+#ifndef FANNAVY_H
+#define FANNAVY_H
+
+#include <stdbool.h>
+#include <stddef.h>
+#include <stdint.h>
+
+#ifdef __cplusplus
+extern "C" {
+#endif
+
+/* The longest word, in bytes: 1,024 pass and 1,025 do not. */
+#define FANNAVY_LIMIT 1024
+
+/* The least output for a word of n bytes: of fannavy_postlude and fannavy_pass; of fannavy_fold. */
+#define FANNAVY_PASS_ROOM(n) ((size_t)(n) + 2)
+#define FANNAVY_FOLD_ROOM(n) ((size_t)(n))
+
+/* The numbers in `refusal`. */
+#define FANNAVY_NOT_REFUSED UINT32_C(0)
+#define FANNAVY_OVER_LIMIT UINT32_C(1)       /* the word is longer than FANNAVY_LIMIT bytes */
+#define FANNAVY_NOT_UTF8 UINT32_C(2)         /* the word is not UTF-8 */
+#define FANNAVY_OUTPUT_TOO_SHORT UINT32_C(3) /* `room` is less than the call needs */
+
+/*
+ * Whether the bytes are UTF-8: shortest forms only, no surrogates, nothing above U+10FFFF. Takes
+ * any bytes, of any length, and never refuses.
+ */
+bool fannavy_is_utf8(const uint8_t *w, size_t n);
+
+typedef struct {
+    uint32_t refusal;
+    bool yes;
+} FannavySyllable;
+
+/*
+ * Whether the word has more than one syllable: yes where it has two vowels (a e ı i o ö u ü) or
+ * more. Refuses by the numbers 1 and 2.
+ */
+FannavySyllable fannavy_syllable(const uint8_t *w, size_t n);
+
+typedef struct {
+    uint32_t refusal;
+    size_t length;
+    bool yes;
+    bool flag;
+} FannavyStage;
+
+/*
+ * Removes the endings of a nominal verb from the word's end. What is kept is w[0] .. w[length - 1],
+ * whole characters, possibly none; there is no output.
+ *
+ *   yes   an ending was removed; where none was, length is n
+ *   flag  stemming may go on (noun endings, the postlude). False only where the plural (-lar, -ler)
+ *         was removed from the word's very end, after which nothing more is to be cut or mended.
+ *         True where no ending was found; in a refused call false, so look at `refusal` first
+ *
+ * Refuses by the numbers 1 and 2.
+ */
+FannavyStage fannavy_stage(const uint8_t *w, size_t n);
+
+typedef struct {
+    uint32_t refusal;
+    size_t length;
+    bool yes;
+} FannavyPostlude;
+
+/*
+ * Mends the end of a text from which an ending was cut, and writes it to out[0] .. out[length - 1].
+ * A final d or g, with a vowel anywhere before it, gains ı, i, u or ü by the last vowel (kanad:
+ * kanadı). Otherwise a final b, c, d or ğ becomes p, ç, t or k (ayağ: ayak). All else is copied.
+ *
+ *   yes   false for the words ad and soyad, which are copied; true for every other text, whether
+ *         anything was mended or not
+ *
+ * `room` is the output's size, FANNAVY_PASS_ROOM(n) or more whatever the word. Refuses by the
+ * numbers 1, 2 and 3.
+ */
+FannavyPostlude fannavy_postlude(const uint8_t *w, size_t n, uint8_t *out, size_t room);
+
+typedef struct {
+    uint32_t refusal;
+    size_t length;
+} FannavyFold;
+
+/*
+ * Writes the word in small letters to out[0] .. out[length - 1], where length is n: A to Z become a
+ * to z (I becomes i), and Ç Ğ Ö Ş Ü become ç ğ ö ş ü. Every other character is copied, İ too.
+ *
+ * `room` is the output's size, FANNAVY_FOLD_ROOM(n) or more. Refuses by the numbers 1, 2 and 3.
+ */
+FannavyFold fannavy_fold(const uint8_t *w, size_t n, uint8_t *out, size_t room);
+
+typedef struct {
+    uint32_t refusal;
+    size_t length;
+    bool syllable;
+    bool yes;
+    bool flag;
+} FannavyPass;
+
+/*
+ * The stem of a word, written to out[0] .. out[length - 1], possibly nothing. A word of one syllable
+ * or none (fannavy_syllable) is copied. Of any other the endings are removed (fannavy_stage), and
+ * what is kept is mended (fannavy_postlude) where the flag is true, copied where it is false.
+ *
+ *   syllable  the answer of fannavy_syllable
+ *   yes       an ending was removed; false where `syllable` is
+ *   flag      as fannavy_stage gives it; true where `syllable` is false, though nothing was mended
+ *
+ * `room` is the output's size, FANNAVY_PASS_ROOM(n) or more whatever the word. Refuses by the
+ * numbers 1, 2 and 3.
+ */
+FannavyPass fannavy_pass(const uint8_t *w, size_t n, uint8_t *out, size_t room);
+
+#ifdef __cplusplus
+}
+#endif
+
+#endif

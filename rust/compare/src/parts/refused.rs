@@ -1,0 +1,77 @@
+//! Refused calls, held to the rule: outputs of every size below the need, words that are no text,
+//! words over the limit, and several causes at once.
+
+use crate::desk::Desk;
+use crate::ffi::{FannavyFold, FannavyPass, FannavyPostlude, FannavyStage, FannavySyllable};
+use crate::lent::Lent;
+use crate::report::{Difference, Report};
+use crate::share::share_out;
+use crate::words::damaged::EDGE_BYTES;
+use crate::words::Words;
+
+type Outcome = Result<(), Difference>;
+
+// Lengths of words over the limit, and the longest that is not.
+const LENGTHS: [usize; 7] = [1024, 1025, 1026, 1027, 1280, 2048, 65_536];
+
+pub fn run(words: &Words, report: &mut Report) -> Outcome {
+    let texts = |visit: &mut dyn FnMut(&str) -> _| words.for_stages(visit);
+    share_out(texts, report, || {
+        let mut desk = Desk::new(Lent::new(b""));
+        move |word: &str, report: &mut Report| every_room(&mut desk, word.as_bytes(), report)
+    })?;
+    let byte_strings = |visit: &mut dyn FnMut(&[u8]) -> _| words.byte_strings(visit);
+    share_out(byte_strings, report, || {
+        let mut desk = Desk::new(Lent::new(b""));
+        move |word: &[u8], report: &mut Report| some_rooms(&mut desk, word, report)
+    })?;
+    share_out(around_the_limit, report, || {
+        let mut desk = Desk::new(Lent::new(b""));
+        move |word: &[u8], report: &mut Report| some_rooms(&mut desk, word, report)
+    })
+}
+
+// Every size of the output up to the first that is enough.
+fn every_room(desk: &mut Desk, word: &[u8], report: &mut Report) -> Outcome {
+    desk.set(word);
+    for room in 0..=word.len() + 2 {
+        with_output(desk, room, report)?;
+    }
+    desk.done(report)
+}
+
+// Every call; the outputs empty, about as long as is enough, and much longer.
+fn some_rooms(desk: &mut Desk, word: &[u8], report: &mut Report) -> Outcome {
+    desk.set(word);
+    desk.refuses::<FannavySyllable>(0, report)?;
+    desk.refuses::<FannavyStage>(0, report)?;
+    let n = word.len();
+    for room in [0, n.saturating_sub(1), n, n + 1, n + 2, n + 200] {
+        with_output(desk, room, report)?;
+    }
+    desk.done(report)
+}
+
+fn with_output(desk: &mut Desk, room: usize, report: &mut Report) -> Outcome {
+    desk.refuses::<FannavyPostlude>(room, report)?;
+    desk.refuses::<FannavyFold>(room, report)?;
+    desk.refuses::<FannavyPass>(room, report)
+}
+
+// Words of each length, text and with one byte at some place that makes them no text.
+fn around_the_limit<E>(visit: &mut dyn FnMut(&[u8]) -> Result<(), E>) -> Result<(), E> {
+    for length in LENGTHS {
+        for filler in [b'a', b'b', b'z'] {
+            let mut word = vec![filler; length];
+            visit(&word)?;
+            for place in [0, 1, length / 2, 1022, 1023, length - 1] {
+                for byte in EDGE_BYTES {
+                    word[place] = byte;
+                    visit(&word)?;
+                }
+                word[place] = filler;
+            }
+        }
+    }
+    Ok(())
+}

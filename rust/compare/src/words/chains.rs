@@ -1,0 +1,108 @@
+//! Every chain of endings that a branch of the suffix stage can take, on every front of up to two
+//! letters.
+
+use super::endings::spellings;
+use super::letters;
+
+// A place in a chain: the suffixes that may stand there, in turkish.sbl's notation. A leading y may
+// be left out, and the empty suffix leaves the whole place out.
+type Place = &'static [&'static str];
+
+const MUS: Place = &["ymUş"];
+const DU_SA: Place = &["yDU", "yDUm", "yDUn", "yDUk", "ysA", "ysAm", "ysAn", "ysAk"];
+const DUR: Place = &["DUr"];
+const LAR: Place = &["lAr"];
+const MIDDLE: Place = &["sUnUz", "lAr", "yUm", "sUn", "yUz", ""];
+
+// The branches in their order, from the front to the word's end.
+const BRANCHES: &[&[Place]] = &[
+    &[MUS],
+    &[DU_SA],
+    &[&["yken"]],
+    &[MUS, MIDDLE, &["cAsInA"]],
+    &[&["DUr", "ymUş", ""], LAR],
+    &[DU_SA, LAR],
+    &[DU_SA, &["nUz"]],
+    &[&["ymUş", ""], &["sUnUz", "yUz", "sUn", "yUm"]],
+    &[DUR],
+    &[MUS, MIDDLE, DUR],
+];
+
+/// Every chain, in every spelling, on every front.
+pub fn each<E>(visit: &mut dyn FnMut(&str) -> Result<(), E>) -> Result<(), E> {
+    let chains = all();
+    let mut word = String::new();
+    letters::each(2, &mut |front| {
+        for chain in &chains {
+            word.clear();
+            word.push_str(front);
+            word.push_str(chain);
+            visit(&word)?;
+        }
+        Ok(())
+    })
+}
+
+/// The chains of all branches.
+pub fn all() -> Vec<String> {
+    BRANCHES.iter().flat_map(chains).collect()
+}
+
+// The chains of a branch.
+fn chains(places: &&[Place]) -> Vec<String> {
+    places.iter().fold(vec![String::new()], longer)
+}
+
+// Each chain with each form of one more place.
+fn longer(chains: Vec<String>, place: &Place) -> Vec<String> {
+    let forms = forms(place);
+    chains
+        .iter()
+        .flat_map(|chain| forms.iter().map(move |form| format!("{chain}{form}")))
+        .collect()
+}
+
+// The spellings of a place's suffixes, those of a leading y with it and without.
+fn forms(place: &Place) -> Vec<String> {
+    let mut forms = Vec::new();
+    for suffix in *place {
+        forms.extend(spellings(suffix));
+        if let Some(rest) = suffix.strip_prefix('y') {
+            forms.extend(spellings(rest));
+        }
+    }
+    forms
+}
+
+#[cfg(test)]
+mod tests {
+    use super::*;
+
+    #[test]
+    fn chains_are_all_there() {
+        let all = all();
+        for chain in ["yken", "ymışsınızcasına", "müştür", "seler", "tınız", "sun"] {
+            assert!(all.contains(&chain.to_string()), "{chain}");
+        }
+        let one = 8 + 64 + 16 + 2;
+        let two = 8 * 27 * 2;
+        let three = (8 + 8 + 1 + 80) * 2;
+        let four = 80 * 4;
+        let five = 9 * 24;
+        let six = (8 * 27 + 1) * 8;
+        assert_eq!(all.len(), one + two + three + four + five + six);
+    }
+
+    #[cfg(feature = "oracle")]
+    #[test]
+    fn every_branch_has_a_chain_that_is_taken_whole() {
+        let taken = |chain: &String| {
+            let kept = |word: String| oracle::stem_nominal_verb_suffixes(&word).text.len();
+            let whole = |front: &&str| kept(format!("{front}{chain}")) == front.len();
+            ["a", "ab", "aba"].iter().any(whole)
+        };
+        for branch in BRANCHES {
+            assert!(chains(branch).iter().any(taken), "{branch:?}");
+        }
+    }
+}

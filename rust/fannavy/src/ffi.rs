@@ -1,0 +1,80 @@
+//! The exports of libfannavy.a, as include/fannavy.h has them, and the only unsafe code here. Nothing
+//! checks these lines against the Rattle source: a slice passes as a pointer, never null, and then a
+//! length. The comparison with the Rust calls through them.
+
+#[repr(C)]
+#[derive(Clone, Copy, Debug, PartialEq, Eq)]
+pub struct FannavySyllable {
+    pub refusal: u32,
+    pub yes: bool,
+}
+
+#[repr(C)]
+#[derive(Clone, Copy, Debug, PartialEq, Eq)]
+pub struct FannavyStage {
+    pub refusal: u32,
+    pub length: usize,
+    pub yes: bool,
+    pub flag: bool,
+}
+
+#[repr(C)]
+#[derive(Clone, Copy, Debug, PartialEq, Eq)]
+pub struct FannavyPostlude {
+    pub refusal: u32,
+    pub length: usize,
+    pub yes: bool,
+}
+
+#[repr(C)]
+#[derive(Clone, Copy, Debug, PartialEq, Eq)]
+pub struct FannavyFold {
+    pub refusal: u32,
+    pub length: usize,
+}
+
+#[repr(C)]
+#[derive(Clone, Copy, Debug, PartialEq, Eq)]
+pub struct FannavyPass {
+    pub refusal: u32,
+    pub length: usize,
+    pub syllable: bool,
+    pub yes: bool,
+    pub flag: bool,
+}
+
+extern "C" {
+    pub fn fannavy_is_utf8(w: *const u8, n: usize) -> bool;
+    pub fn fannavy_syllable(w: *const u8, n: usize) -> FannavySyllable;
+    pub fn fannavy_stage(w: *const u8, n: usize) -> FannavyStage;
+    pub fn fannavy_postlude(w: *const u8, n: usize, out: *mut u8, room: usize) -> FannavyPostlude;
+    pub fn fannavy_fold(w: *const u8, n: usize, out: *mut u8, room: usize) -> FannavyFold;
+    pub fn fannavy_pass(w: *const u8, n: usize, out: *mut u8, room: usize) -> FannavyPass;
+}
+
+// Each call on slices. A reference is what the archive asks for: not null, as long as it says, and
+// an exclusive one overlaps no other.
+
+pub(crate) fn is_utf8(w: &[u8]) -> bool {
+    unsafe { fannavy_is_utf8(w.as_ptr(), w.len()) }
+}
+
+pub(crate) fn syllable(w: &[u8]) -> FannavySyllable {
+    unsafe { fannavy_syllable(w.as_ptr(), w.len()) }
+}
+
+pub(crate) fn stage(w: &[u8]) -> FannavyStage {
+    unsafe { fannavy_stage(w.as_ptr(), w.len()) }
+}
+
+pub(crate) fn postlude(w: &[u8], out: &mut [u8]) -> FannavyPostlude {
+    unsafe { fannavy_postlude(w.as_ptr(), w.len(), out.as_mut_ptr(), out.len()) }
+}
+
+pub(crate) fn fold(w: &[u8], out: &mut [u8]) -> FannavyFold {
+    unsafe { fannavy_fold(w.as_ptr(), w.len(), out.as_mut_ptr(), out.len()) }
+}
+
+pub(crate) fn pass(w: &[u8], out: &mut [u8]) -> FannavyPass {
+    unsafe { fannavy_pass(w.as_ptr(), w.len(), out.as_mut_ptr(), out.len()) }
+}

@@ -1,0 +1,184 @@
+//! Turkish stemming whose every promise is proved: the calls of libfannavy.a on slices.
+//!
+//! A word is one Turkish word in UTF-8, in small letters; [`fold`] a heading first. A call that is
+//! lent an output writes its text at the output's start and leaves the bytes past it as they were.
+//! Nothing is allocated.
+//!
+//! ```
+//! let word = "kanaddır".as_bytes();
+//! let mut out = [0; fannavy::pass_room(fannavy::LIMIT)];
+//! let pass = fannavy::pass(word, &mut out)?;
+//! assert_eq!(pass.text, "kanadı".as_bytes());
+//! assert!(pass.syllable && pass.yes && pass.flag);
+//! # Ok::<(), fannavy::Refusal>(())
+//! ```
+//!
+//! The archive is the one that `rt staticlib fannavy` wrote; the variable `FANNAVY_STATICLIB` names
+//! its folder where that is not the repository's target/staticlib.
+
+#![deny(unsafe_code)]
+#![warn(missing_docs)]
+
+#[allow(unsafe_code, missing_docs)]
+pub mod ffi;
+mod refusal;
+
+use refusal::refused;
+pub use refusal::Refusal;
+
+/// The longest word, in bytes: 1,024 pass and 1,025 do not.
+pub const LIMIT: usize = 1024;
+
+/// The least output of [`postlude`] and [`pass`] for a word of `n` bytes.
+pub const fn pass_room(n: usize) -> usize {
+    n + 2
+}
+
+/// The least output of [`fold`] for a word of `n` bytes.
+pub const fn fold_room(n: usize) -> usize {
+    n
+}
+
+/// What the suffix stage answers.
+#[derive(Clone, Copy, Debug, PartialEq, Eq)]
+pub struct Stage<'a> {
+    /// What is kept: the front part of the word, possibly empty, whole characters.
+    pub kept: &'a [u8],
+    /// Whether an ending was removed.
+    pub yes: bool,
+    /// Whether stemming may go on: false only where the plural was removed from the very end.
+    pub flag: bool,
+}
+
+/// What the postlude answers.
+#[derive(Clone, Copy, Debug, PartialEq, Eq)]
+pub struct Postlude<'a> {
+    /// The text written, at the output's start.
+    pub text: &'a [u8],
+    /// False for the words `ad` and `soyad` alone.
+    pub yes: bool,
+}
+
+/// What the word pass answers.
+#[derive(Clone, Copy, Debug, PartialEq, Eq)]
+pub struct Pass<'a> {
+    /// The text written, at the output's start; possibly empty.
+    pub text: &'a [u8],
+    /// The answer of [`syllable`].
+    pub syllable: bool,
+    /// Whether an ending was removed; false where `syllable` is.
+    pub yes: bool,
+    /// As [`Stage::flag`]; true where `syllable` is false.
+    pub flag: bool,
+}
+
+/// Whether the bytes are UTF-8. Takes any bytes, of any length, and never refuses.
+///
+/// ```
+/// assert!(fannavy::is_utf8("ağaç".as_bytes()));
+/// assert!(!fannavy::is_utf8(b"a\xC4"));
+/// ```
+pub fn is_utf8(bytes: &[u8]) -> bool {
+    ffi::is_utf8(bytes)
+}
+
+/// Whether the word has two vowels or more.
+///
+/// ```
+/// assert_eq!(fannavy::syllable("evler".as_bytes()), Ok(true));
+/// assert_eq!(fannavy::syllable("lar".as_bytes()), Ok(false));
+/// assert_eq!(fannavy::syllable(b"\xFF"), Err(fannavy::Refusal::NotUtf8));
+/// ```
+pub fn syllable(word: &[u8]) -> Result<bool, Refusal> {
+    let answer = ffi::syllable(word);
+    refused(answer.refusal)?;
+    Ok(answer.yes)
+}
+
+/// The suffix stage: removes the endings of a nominal verb from the word's end.
+///
+/// ```
+/// let stage = fannavy::stage("arabayken".as_bytes())?;
+/// assert_eq!(stage.kept, b"araba");
+/// assert!(stage.yes && stage.flag);
+///
+/// let stage = fannavy::stage("evler".as_bytes())?;
+/// assert_eq!(stage.kept, b"ev");
+/// assert!(stage.yes && !stage.flag);
+///
+/// let stage = fannavy::stage("saatler".as_bytes())?;
+/// assert_eq!(stage.kept, b"saatler");
+/// assert!(!stage.yes && stage.flag);
+///
+/// let long = [b'a'; fannavy::LIMIT + 1];
+/// assert_eq!(fannavy::stage(&long), Err(fannavy::Refusal::OverLimit));
+/// # Ok::<(), fannavy::Refusal>(())
+/// ```
+pub fn stage(word: &[u8]) -> Result<Stage<'_>, Refusal> {
+    let answer = ffi::stage(word);
+    refused(answer.refusal)?;
+    Ok(Stage {
+        kept: &word[..answer.length],
+        yes: answer.yes,
+        flag: answer.flag,
+    })
+}
+
+/// The postlude: mends the last consonant of a text from which an ending was cut. The output has
+/// [`pass_room`] bytes or more.
+///
+/// ```
+/// let mut out = [0; 8];
+/// assert_eq!(fannavy::postlude("kanad".as_bytes(), &mut out)?.text, "kanadı".as_bytes());
+/// assert_eq!(fannavy::postlude("ayağ".as_bytes(), &mut out)?.text, b"ayak");
+/// assert!(!fannavy::postlude(b"soyad", &mut out)?.yes);
+///
+/// let refusal = fannavy::postlude(b"soyad", &mut out[..6]);
+/// assert_eq!(refusal, Err(fannavy::Refusal::OutputTooShort));
+/// # Ok::<(), fannavy::Refusal>(())
+/// ```
+pub fn postlude<'a>(word: &[u8], out: &'a mut [u8]) -> Result<Postlude<'a>, Refusal> {
+    let answer = ffi::postlude(word, out);
+    refused(answer.refusal)?;
+    Ok(Postlude {
+        text: &out[..answer.length],
+        yes: answer.yes,
+    })
+}
+
+/// The word in small letters: A to Z, Ç Ğ Ö Ş Ü; every other character is copied. It is as long as
+/// the word, and so is the least output ([`fold_room`]).
+///
+/// ```
+/// let mut out = [0; 7];
+/// assert_eq!(fannavy::fold("AĞAÇ 1".as_bytes(), &mut out), Err(fannavy::Refusal::OutputTooShort));
+/// assert_eq!(fannavy::fold("AĞAÇ".as_bytes(), &mut out)?, "ağaç".as_bytes());
+/// # Ok::<(), fannavy::Refusal>(())
+/// ```
+pub fn fold<'a>(word: &[u8], out: &'a mut [u8]) -> Result<&'a [u8], Refusal> {
+    let answer = ffi::fold(word, out);
+    refused(answer.refusal)?;
+    Ok(&out[..answer.length])
+}
+
+/// The word pass: the suffix stage of a word that has two vowels or more, and the postlude of what
+/// it keeps, unless the flag is false; any other word is copied. The output has [`pass_room`] bytes
+/// or more.
+///
+/// ```
+/// let mut out = [0; 32];
+/// assert_eq!(fannavy::pass("kanaddır".as_bytes(), &mut out)?.text, "kanadı".as_bytes());
+/// assert_eq!(fannavy::pass(b"siniz", &mut out)?.text, b"");
+/// assert_eq!(fannavy::pass(b"lar", &mut out)?.text, b"lar");
+/// # Ok::<(), fannavy::Refusal>(())
+/// ```
+pub fn pass<'a>(word: &[u8], out: &'a mut [u8]) -> Result<Pass<'a>, Refusal> {
+    let answer = ffi::pass(word, out);
+    refused(answer.refusal)?;
+    Ok(Pass {
+        text: &out[..answer.length],
+        syllable: answer.syllable,
+        yes: answer.yes,
+        flag: answer.flag,
+    })
+}

@@ -1,0 +1,86 @@
+//! Why a call refuses.
+
+use crate::LIMIT;
+use std::error::Error;
+use std::fmt::{self, Display, Formatter};
+
+/// Why a call refused, the first that applies in this order. A refused call changes no byte of its
+/// output.
+#[derive(Clone, Copy, Debug, PartialEq, Eq, Hash)]
+pub enum Refusal {
+    /// The word is longer than [`LIMIT`] bytes.
+    OverLimit,
+    /// The word is not UTF-8.
+    NotUtf8,
+    /// The output is shorter than the call needs.
+    OutputTooShort,
+}
+
+impl Refusal {
+    /// The number under which the archive and its header know the refusal.
+    pub const fn number(self) -> u32 {
+        match self {
+            Refusal::OverLimit => 1,
+            Refusal::NotUtf8 => 2,
+            Refusal::OutputTooShort => 3,
+        }
+    }
+}
+
+impl Display for Refusal {
+    fn fmt(&self, f: &mut Formatter) -> fmt::Result {
+        match self {
+            Refusal::OverLimit => write!(f, "the word is over {LIMIT} bytes"),
+            Refusal::NotUtf8 => write!(f, "the word is not UTF-8"),
+            Refusal::OutputTooShort => write!(f, "the output is too short for the word"),
+        }
+    }
+}
+
+impl Error for Refusal {}
+
+// What the number in an answer means. The archive linked has numbers that these lines do not know
+// only where the two are of different editions, and then no answer can be relied on.
+pub(crate) fn refused(number: u32) -> Result<(), Refusal> {
+    match number {
+        0 => Ok(()),
+        1 => Err(Refusal::OverLimit),
+        2 => Err(Refusal::NotUtf8),
+        3 => Err(Refusal::OutputTooShort),
+        other => {
+            panic!("libfannavy.a refuses by the number {other}, which this crate does not know")
+        }
+    }
+}
+
+#[cfg(test)]
+mod tests {
+    use super::*;
+
+    #[test]
+    fn numbers_come_back() {
+        assert_eq!(refused(0), Ok(()));
+        for refusal in [
+            Refusal::OverLimit,
+            Refusal::NotUtf8,
+            Refusal::OutputTooShort,
+        ] {
+            assert_eq!(refused(refusal.number()), Err(refusal));
+        }
+    }
+
+    #[test]
+    #[should_panic(expected = "by the number 4")]
+    fn an_unknown_number_is_not_passed_over() {
+        let _ = refused(4);
+    }
+
+    #[test]
+    fn messages_tell_the_refusals_apart() {
+        assert_eq!(Refusal::NotUtf8.to_string(), "the word is not UTF-8");
+        assert_ne!(
+            Refusal::OverLimit.to_string(),
+            Refusal::OutputTooShort.to_string()
+        );
+    }
+}

@@ -1,0 +1,82 @@
+//! One line of the listing, in the form that document 01 gives the program stemlist.
+
+use std::str::from_utf8;
+
+/// The longest word, in bytes.
+pub const LIMIT: usize = 1024;
+
+/// Appends the line of a word, closed by LF: word, syllable check, stage, flag, kept text and the
+/// pass's text, parted by tabs; or the number that refuses it.
+pub fn append(word: &[u8], listing: &mut Vec<u8>) {
+    match text(word) {
+        Ok(word) => append_fields(word, listing),
+        Err(number) => listing.extend_from_slice(&[b'!', b'\t', number]),
+    }
+    listing.push(b'\n');
+}
+
+// The word as text, or the digit of the first number that refuses the line.
+fn text(word: &[u8]) -> Result<&str, u8> {
+    if word.len() > LIMIT {
+        return Err(b'1');
+    }
+    let text = from_utf8(word).map_err(|_| b'2')?;
+    if text.contains('\t') {
+        return Err(b'4');
+    }
+    Ok(text)
+}
+
+// Each stage is run once.
+fn append_fields(word: &str, listing: &mut Vec<u8>) {
+    let syllable = oracle::more_than_one_syllable_word(word);
+    let stage = oracle::stem_nominal_verb_suffixes(word);
+    let [first, second] = [syllable, stage.answer].map(|yes| if yes { b'Y' } else { b'N' });
+    let third = b'0' + u8::from(stage.flag);
+    listing.extend_from_slice(word.as_bytes());
+    listing.extend_from_slice(&[b'\t', first, b'\t', second, b'\t', third, b'\t']);
+    listing.extend_from_slice(stage.text.as_bytes());
+    listing.push(b'\t');
+    if syllable {
+        listing.extend_from_slice(oracle::after_stage(stage).as_bytes());
+    } else {
+        listing.extend_from_slice(word.as_bytes());
+    }
+}
+
+#[cfg(test)]
+mod tests {
+    use super::append;
+
+    fn listed(word: &[u8]) -> String {
+        let mut line = Vec::new();
+        append(word, &mut line);
+        assert_eq!(line.pop(), Some(b'\n'));
+        String::from_utf8(line).expect("a line is text")
+    }
+
+    #[test]
+    fn the_scope_s_two_lines() {
+        assert_eq!(listed(b"evler"), "evler\tY\tY\t0\tev\tev");
+        assert_eq!(listed(b"siniz"), "siniz\tY\tY\t1\t\t");
+    }
+
+    #[test]
+    fn kept_text_and_pass_may_differ() {
+        let word = "kanaddır";
+        assert_eq!(listed(word.as_bytes()), "kanaddır\tY\tY\t1\tkanad\tkanadı");
+        assert_eq!(listed(b"ad"), "ad\tN\tN\t1\tad\tad");
+        assert_eq!(listed(b""), "\tN\tN\t1\t\t");
+    }
+
+    #[test]
+    fn the_first_number_refuses() {
+        assert_eq!(listed(b"ev\tler"), "!\t4");
+        assert_eq!(listed(b"ev\t\xFF"), "!\t2");
+        assert_eq!(listed(&[b'\t'; 1024]), "!\t4");
+        assert_eq!(listed(&[b'\t'; 1025]), "!\t1");
+        assert_eq!(listed(&[0xFF; 1025]), "!\t1");
+        assert_eq!(listed(&[0xFF; 1024]), "!\t2");
+        assert!(listed(&[b'b'; 1024]).contains("b\tN\tN\t1\tb"));
+    }
+}

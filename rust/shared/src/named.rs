@@ -1,0 +1,25 @@
+//! The words that document 01 names.
+
+pub const NAMED: [&str; 21] = [
+    "",
+    "siniz",
+    "sinizdir",
+    "evler",
+    "lar",
+    "kalemlar",
+    "saatler",
+    "arabayken",
+    "evyken",
+    "abken",
+    "aken",
+    "doktorsunuz",
+    "ad",
+    "soyad",
+    "kanad",
+    "bd",
+    "bg",
+    "ayağ",
+    "ağac",
+    "kanaddır",
+    "evcesine",
+];

@@ -1,0 +1,20 @@
+//! Where files are looked for when no argument names them.
+
+use std::env;
+use std::path::PathBuf;
+
+/// The vocabulary: the variable FANNAVY_VOCABULARY, or where Debian's package snowball-data puts it.
+pub fn vocabulary() -> PathBuf {
+    let debian = "/usr/share/snowball/data/turkish/voc.txt";
+    named("FANNAVY_VOCABULARY", debian)
+}
+
+/// The program stemlist: the variable FANNAVY_STEMLIST, or where `rt check` links it.
+pub fn stemlist() -> PathBuf {
+    let linked = concat!(env!("CARGO_MANIFEST_DIR"), "/../../target/bin/stemlist");
+    named("FANNAVY_STEMLIST", linked)
+}
+
+fn named(variable: &str, otherwise: &str) -> PathBuf {
+    env::var_os(variable).unwrap_or(otherwise.into()).into()
+}
