@@ -23,7 +23,7 @@ fn write_two(out: &mut [u8], at: usize, more: usize, a: u8, b: u8)
 }
 
 // Writes the text of a repair of w, and gives its length.
-pub fn write_repair(w: &[u8], r: Repair, out: &mut [u8]) -> usize
+pub(crate) fn write_repair(w: &[u8], r: Repair, out: &mut [u8]) -> usize
     requires { ⌜ (r .keep ≤ length (now w)) × (r .more ≤ 2) × (r .keep + r .more ≤ length (now out)) ⌝ }
     ensures { λ n. ⌜ (n ≡ length (repairText (now (w .entry)) r)) × (now (out .exit) ≡ written (repairText (now (w .entry)) r) (now (out .entry))) ⌝ }
 {
