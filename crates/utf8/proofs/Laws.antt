@@ -5,7 +5,7 @@ pub mod Encoding
 pub mod Decoding
 pub mod Table37
 pub mod Validity
-pub mod Ends
+pub mod Neighbours
 pub mod CheckEncoded
 pub mod CheckAccepted
 pub mod Widths

@@ -3,6 +3,6 @@ pub mod Scalar
 pub mod Encoding
 pub mod Text
 pub mod Validity
-pub mod Ends
 pub mod Characters
+pub mod Neighbours
 pub mod Steps

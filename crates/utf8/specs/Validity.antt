@@ -5,7 +5,6 @@ use Prim.Native.Nat.{ℕ, _-_}
 use mathlib.Core.Bool.{Bool, true, false, cond, _&&_}
 use mathlib.Core.List.{List, [], _∷_}
 use lib.Dec.{leb, eqb}
-use Rattle.utf8.specs.declared.validity.Due.{Due}
 
 -- a row of the table: first bytes from `from` to `upto` are followed by `more` bytes, the next of them from `low` to `high`
 pub record Row : Type 0 where
@@ -31,7 +30,14 @@ table37 =
     ∷ row 0xF4 0xF4 3 0x80 0x8F
     ∷ []
 
--- the states: `more` bytes due, the next of them from `low` to `high`; and refused
+-- a state: whether no byte was refused, and what the bytes so far ask for, `need` more, the next of them from `low` to `high`
+pub record Due : Type 0 where
+  pub ok : Bool
+  pub need : ℕ
+  pub low : ℕ
+  pub high : ℕ
+
+-- `more` bytes due, and refused
 unfoldable pub due : ℕ → ℕ → ℕ → Due
 due more low high = record { ok = true; need = more; low = low; high = high }
 

@@ -10,10 +10,7 @@ ghost use Rattle.utf8.specs.Characters.{continuation, goesOn, lastWidth,
 pub fn is_continuation(b: u8) -> bool
     ensures { λ r. ⌜ r ≡ continuation b ⌝ }
 {
-    if b < 0x80 {
-        return false;
-    }
-    b <= 0xBF
+    (0x80 <= b) & (b <= 0xBF)
 }
 
 // Whether, going back from place c, the k-th byte goes on with a character that begins before it.

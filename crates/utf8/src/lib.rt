@@ -3,5 +3,6 @@
 pub mod characters;
 pub mod cursor;
 pub mod literal;
+mod short;
 pub mod step;
 pub mod validity;

@@ -1,187 +1,85 @@
-// The UTF-8 check, a character a turn: what a character's bytes so far ask of the next one is a small state by value.
+// The UTF-8 check, by neighbours: each byte is held to the three before it. Every byte gets the same tests, whatever the others gave, so
+// that many can be looked at in one step.
+use crate::short;
 ghost use mathlib.Core.Path.{_≡_};
-ghost use Prim.Native.Nat.{_≤_, _<_};
-ghost use lib.ListN.{length};
-ghost use Rattle.utf8.specs.Validity.{lead, due, next, isText};
-ghost use Rattle.utf8.specs.Ends.{Ends};
+ghost use Rattle.utf8.specs.Validity.{lead, isText};
+ghost use Rattle.utf8.specs.Neighbours.{owed, follows, textAfter};
 
-// What the bytes so far ask for: `need` continuation bytes, the next of them from `low` to `high`.
-pub struct Due {
-    pub ok: bool,
-    pub need: u8,
-    pub low: u8,
-    pub high: u8,
-}
-
-// What a character's first byte asks for; not ok where no character begins with it.
-fn after_lead(b: u8) -> Due
-    ensures { λ r. ⌜ r ≡ lead b ⌝ }
+// Whether a character begins with the byte.
+fn begins(x: u8) -> bool
+    ensures { λ r. ⌜ r ≡ lead x .ok ⌝ }
 {
-    if b < 0x80 {
-        return Due {
-            ok: true,
-            need: 0,
-            low: 0x80,
-            high: 0xBF,
-        };
-    }
-    if b < 0xC2 {
-        return Due {
-            ok: false,
-            need: 0,
-            low: 0x80,
-            high: 0xBF,
-        };
-    }
-    if b < 0xE0 {
-        return Due {
-            ok: true,
-            need: 1,
-            low: 0x80,
-            high: 0xBF,
-        };
-    }
-    if b < 0xE1 {
-        return Due {
-            ok: true,
-            need: 2,
-            low: 0xA0,
-            high: 0xBF,
-        };
-    }
-    if b < 0xED {
-        return Due {
-            ok: true,
-            need: 2,
-            low: 0x80,
-            high: 0xBF,
-        };
-    }
-    if b < 0xEE {
-        return Due {
-            ok: true,
-            need: 2,
-            low: 0x80,
-            high: 0x9F,
-        };
-    }
-    if b < 0xF0 {
-        return Due {
-            ok: true,
-            need: 2,
-            low: 0x80,
-            high: 0xBF,
-        };
-    }
-    if b < 0xF1 {
-        return Due {
-            ok: true,
-            need: 3,
-            low: 0x90,
-            high: 0xBF,
-        };
-    }
-    if b < 0xF4 {
-        return Due {
-            ok: true,
-            need: 3,
-            low: 0x80,
-            high: 0xBF,
-        };
-    }
-    if b < 0xF5 {
-        return Due {
-            ok: true,
-            need: 3,
-            low: 0x80,
-            high: 0x8F,
-        };
-    }
-    Due {
-        ok: false,
-        need: 0,
-        low: 0x80,
-        high: 0xBF,
-    }
+    (x < 0x80) | ((0xC2 <= x) & (x < 0xF5))
 }
 
-// The state after one byte more.
-fn after(d: Due, b: u8) -> Due
-    ensures { λ r. ⌜ r ≡ next d b ⌝ }
+// The least byte that may follow a, where one must.
+fn lowest(a: u8) -> u8
+    ensures { λ r. ⌜ r ≡ lead a .low ⌝ }
 {
-    if d.need == 0 {
-        return after_lead(b);
+    if a == 0xE0 {
+        return 0xA0;
     }
-    if b < d.low {
-        return Due {
-            ok: false,
-            need: 0,
-            low: 0x80,
-            high: 0xBF,
-        };
+    if a == 0xF0 {
+        return 0x90;
     }
-    if d.high < b {
-        return Due {
-            ok: false,
-            need: 0,
-            low: 0x80,
-            high: 0xBF,
-        };
-    }
-    Due {
-        ok: true,
-        need: d.need - 1,
-        low: 0x80,
-        high: 0xBF,
-    }
+    0x80
 }
 
-// The place after the character of which d is what its bytes before place i ask for; 0 where it is not ended as it must be.
-fn rest_of_char(w: &[u8], i: usize, d: Due) -> usize
-    requires { ⌜ (0 < i) × (i ≤ length (now w)) ⌝ }
-    ensures { λ r. ⌜ Ends (now (w .entry)) d i r ⌝ }
+// The greatest byte that may follow a, where one must.
+fn highest(a: u8) -> u8
+    ensures { λ r. ⌜ r ≡ lead a .high ⌝ }
 {
-    let mut at = i;
-    let mut asks = d;
-    while 0 < asks.need {
-        if w.len() <= at {
-            return 0;
-        }
-        asks = after(asks, w[at]);
-        at += 1;
-        if !asks.ok {
-            return 0;
-        }
+    if a == 0xED {
+        return 0x9F;
     }
-    at
+    if a == 0xF4 {
+        return 0x8F;
+    }
+    0xBF
 }
 
-// The place after the character that begins at place i; 0 where none does.
-fn end_of_char(w: &[u8], i: usize) -> usize
-    requires { ⌜ i < length (now w) ⌝ }
-    ensures { λ r. ⌜ (Ends (now (w .entry)) (due 0 0x80 0xBF) i r) × ((r ≡ 0 → ⊥) → i < r) ⌝ }
+// Whether the three bytes before, the nearest first, leave one of their character due.
+fn is_owed(a: u8, b: u8, c: u8) -> bool
+    ensures { λ r. ⌜ r ≡ owed a b c ⌝ }
 {
-    let b = w[i];
-    if b < 0x80 {
-        return i + 1;
-    }
-    let d = after_lead(b);
-    if !d.ok {
-        return 0;
-    }
-    rest_of_char(w, i + 1, d)
+    (0xC0 <= a) | (0xE0 <= b) | (0xF0 <= c)
 }
 
-// Whether the bytes are UTF-8: shortest forms only, no surrogates, at most U+10FFFF. Takes any slice.
+// Whether x may follow those three.
+fn may_follow(a: u8, b: u8, c: u8, x: u8) -> bool
+    ensures { λ r. ⌜ r ≡ follows a b c x ⌝ }
+{
+    let due = is_owed(a, b, c);
+    (due & ((lowest(a) <= x) & (x <= highest(a)))) | (!due & begins(x))
+}
+
+// Whether each byte may follow the ones before it, and none is due at the end.
+fn each_follows(w: &[u8]) -> bool
+    ensures { λ r. ⌜ r ≡ textAfter 0 0 0 (now (w .entry)) ⌝ }
+{
+    let mut i = 0;
+    let mut a = 0u8;
+    let mut b = 0u8;
+    let mut c = 0u8;
+    let mut ok = true;
+    while i < w.len() {
+        let x = w[i];
+        ok = ok & may_follow(a, b, c, x);
+        c = b;
+        b = a;
+        a = x;
+        i += 1;
+    }
+    ok & !is_owed(a, b, c)
+}
+
+// Whether the bytes are UTF-8: shortest forms only, no surrogates, at most U+10FFFF. Takes any slice. Most words have characters of
+// one and two bytes only, for which fewer tests do.
 pub fn is_utf8(w: &[u8]) -> bool
     ensures { λ r. ⌜ r ≡ isText (now (w .entry)) ⌝ }
 {
-    let mut i = 0;
-    while i < w.len() {
-        i = end_of_char(w, i);
-        if i == 0 {
-            return false;
-        }
+    if short::each_follows(w) {
+        return true;
     }
-    true
+    each_follows(w)
 }

@@ -35,7 +35,7 @@ pub enum Run {
 pub const PARTS: &[Part] = &[
     Part {
         name: "sequences",
-        what: "the UTF-8 check on every short byte sequence, with str::from_utf8",
+        what: "the UTF-8 check on every short sequence and on edges at every place, with str::from_utf8",
         run: Run::Words(sequences::run),
     },
     Part {

@@ -1,6 +1,7 @@
 -- What a passed test says of its parts, and how its parts make it pass or fail, for the whole repository. Assumes nothing.
 use mathlib.Core.Path.{_≡_, refl}
-use mathlib.Core.Bool.{Bool, true, false, _&&_, false≢true}
+use mathlib.Core.Logic.{_⊎_, inl, inr}
+use mathlib.Core.Bool.{Bool, true, false, cond, not, _&&_, _||_, or-false, false≢true}
 
 pub and-left : (a b : Bool) → a && b ≡ true → a ≡ true
 and-left true b e = refl
@@ -20,3 +21,18 @@ pub and-each : (a b c : Bool) → a && b && c ≡ true → (a ≡ true) × (b �
 and-each true true c e = (refl, refl, e)
 and-each true false c e = absurd (false≢true e)
 and-each false b c e = absurd (false≢true e)
+
+-- a test that passes by one of two
+pub or-either : (a b : Bool) → a || b ≡ true → (a ≡ true) ⊎ (b ≡ true)
+or-either true b e = inl refl
+or-either false b e = inr e
+
+-- what is asked only where a test passes
+pub guarded : (t : Bool) {p q : Bool} → (t ≡ true → p ≡ q) → t && p ≡ t && q
+guarded true h = h refl
+guarded false h = refl
+
+-- a choice between two tests, made of tests alone
+pub chosen : (t p q : Bool) → t && p || not t && q ≡ cond t p q
+chosen true p q = or-false p
+chosen false p q = refl

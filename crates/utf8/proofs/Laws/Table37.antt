@@ -1,15 +1,15 @@
 -- How a first byte finds its row of table 3-7: past the rows that end below it, into the row that has it, or before the rows
 -- that begin above it. Assumes nothing.
 use Prim.Native.Nat.{ℕ, zero, suc, _≤_, _<_}
-use mathlib.Core.Path.{_≡_, refl, _∙_, ap}
-use mathlib.Core.Bool.{Bool, true, false, cond, _&&_}
+use mathlib.Core.Path.{_≡_, refl, sym, _∙_, ap}
+use mathlib.Core.Bool.{Bool, true, false, cond, _&&_, _||_}
 use mathlib.Core.List.{List, [], _∷_}
 use lib.ListN.{length, drop, getD}
 use lib.Seq.{drop-cons}
-use lib.Dec.{leb}
-use borrow.Author.Tests.{le-leb, lt-leb, leb-true}
-use Rattle.utf8.specs.declared.validity.Due.{Due}
-use Rattle.utf8.specs.Validity.{Row, row, due, refused, leadIn, lead, table37}
+use lib.Dec.{ltb, leb}
+use native.Mathlib.Omega.{arith}
+use borrow.Author.Tests.{le-leb, lt-leb, leb-true, leb-false, ltb-true, ltb-false}
+use Rattle.utf8.specs.Validity.{Row, Due, row, due, refused, leadIn, lead, table37}
 
 -- the first k rows end below b
 abbrev pub Past : ℕ → List Row → ℕ → Type 0
@@ -83,3 +83,53 @@ leadIn-elim P Q (r ∷ rs) b q f z = go (leb (r .from) b) (leb b (r .upto)) refl
 pub lead-elim : (P : Due → Type 0) (Q : Row → Type 0) (b : ℕ) → Each Q table37 → ((r : Row) → Q r → r .from ≤ b → b ≤ r .upto → P (asked r)) → P refused → P (lead b)
 unfolding lead
 lead-elim P Q b = leadIn-elim P Q table37 b
+
+-- ---- what the rows say together ----
+
+-- a character begins with every byte from the second row's first to the last row's last
+pub lead-rows : (x : ℕ) → 0xC2 ≤ x → x < 0xF5 → lead x .ok ≡ true
+unfolding table37 due
+lead-rows x l h =
+    below 0xE0 (λ u. ap ok (lead-in 1 x (omega arith) (omega arith) (omega arith) (omega arith))) (λ f.
+    below 0xE1 (λ u. ap ok (lead-in 2 x (omega arith) (omega arith) (omega arith) (omega arith))) (λ f.
+    below 0xED (λ u. ap ok (lead-in 3 x (omega arith) (omega arith) (omega arith) (omega arith))) (λ f.
+    below 0xEE (λ u. ap ok (lead-in 4 x (omega arith) (omega arith) (omega arith) (omega arith))) (λ f.
+    below 0xF0 (λ u. ap ok (lead-in 5 x (omega arith) (omega arith) (omega arith) (omega arith))) (λ f.
+    below 0xF1 (λ u. ap ok (lead-in 6 x (omega arith) (omega arith) (omega arith) (omega arith))) (λ f.
+    below 0xF4 (λ u. ap ok (lead-in 7 x (omega arith) (omega arith) (omega arith) (omega arith))) (λ f.
+    ap ok (lead-in 8 x (omega arith) (omega arith) (omega arith) (omega arith)))))))))
+  where
+    ok : Due → Bool
+    ok d = d .ok
+
+    below : (n : ℕ) → (x < n → lead x .ok ≡ true) → (n ≤ x → lead x .ok ≡ true) → lead x .ok ≡ true
+    below n p q = go (ltb x n) refl
+      where
+        go : (t : Bool) → ltb x n ≡ t → lead x .ok ≡ true
+        go true e = p (ltb-true x n e)
+        go false e = q (ltb-false x n e)
+
+-- the first bytes of all rows
+pub lead-ok : (x : ℕ) → ltb x 0x80 || leb 0xC2 x && ltb x 0xF5 ≡ lead x .ok
+unfolding table37 due refused
+lead-ok x = go (ltb x 0x80) (leb 0xC2 x) (ltb x 0xF5) refl refl refl
+  where
+    go : (p q r : Bool) → ltb x 0x80 ≡ p → leb 0xC2 x ≡ q → ltb x 0xF5 ≡ r → p || q && r ≡ lead x .ok
+    go true q r e f g = let h = ltb-true x 0x80 e in sym (ap (λ (d : Due). d .ok) (lead-in 0 x (omega arith) (omega arith) (omega arith) (omega arith)))
+    go false true true e f g = sym (lead-rows x (leb-true 0xC2 x f) (ltb-true x 0xF5 g))
+    go false true false e f g = let h = ltb-false x 0xF5 g in sym (ap (λ (d : Due). d .ok) (lead-none 9 x (omega arith) (omega arith)))
+    go false false r e f g = let h = ltb-false x 0x80 e in let k = leb-false 0xC2 x f in sym (ap (λ (d : Due). d .ok) (lead-none 1 x (omega arith) (omega arith)))
+
+-- only E0 and F0 raise the least byte that may follow
+pub lead-low : (a : ℕ) → (a ≡ 0xE0 → ⊥) → (a ≡ 0xF0 → ⊥) → lead a .low ≡ 0x80
+unfolding table37 due refused
+lead-low a p q = lead-elim (λ (d : Due). d .low ≡ 0x80) (λ (r : Row). r .from ≤ a → a ≤ r .upto → r .low ≡ 0x80) a
+    (λ f u. refl, (λ f u. refl, (λ f u. absurd (p (omega arith)), (λ f u. refl, (λ f u. refl, (λ f u. refl, (λ f u. absurd (q (omega arith)), (λ f u. refl, (λ f u. refl, tt)))))))))
+    (λ r h f u. h f u) refl
+
+-- only ED and F4 lower the greatest
+pub lead-high : (a : ℕ) → (a ≡ 0xED → ⊥) → (a ≡ 0xF4 → ⊥) → lead a .high ≡ 0xBF
+unfolding table37 due refused
+lead-high a p q = lead-elim (λ (d : Due). d .high ≡ 0xBF) (λ (r : Row). r .from ≤ a → a ≤ r .upto → r .high ≡ 0xBF) a
+    (λ f u. refl, (λ f u. refl, (λ f u. refl, (λ f u. refl, (λ f u. absurd (p (omega arith)), (λ f u. refl, (λ f u. refl, (λ f u. refl, (λ f u. absurd (q (omega arith)), tt)))))))))
+    (λ r h f u. h f u) refl

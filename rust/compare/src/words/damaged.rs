@@ -8,8 +8,8 @@ pub const EDGE_BYTES: [u8; 24] = [
     0xEE, 0xEF, 0xF0, 0xF1, 0xF3, 0xF4, 0xF5, 0xFF,
 ];
 
-// Overlong forms, surrogates, and code points above the last, each next to a form that is text.
-const SEQUENCES: [&[u8]; 14] = [
+/// Overlong forms, surrogates, and code points above the last, each next to a form that is text.
+pub const SEQUENCES: [&[u8]; 14] = [
     b"\xC0\x80",
     b"\xC1\xBF",
     b"\xC2\x80",
