@@ -9,3 +9,4 @@ pub mod syllable;
 pub mod tables;
 pub mod tail;
 pub mod vowel;
+pub mod walk;

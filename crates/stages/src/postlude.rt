@@ -1,13 +1,12 @@
 // The postlude (turkish.rs, `r_postlude` and what it calls), on the first n bytes of a word. It rebuilds no text: it answers how many
 // bytes stay and what follows them.
-use crate::vowel;
+use crate::walk;
 use utf8::characters;
 use utf8::literal;
 ghost use mathlib.Core.Path.{_≡_};
 ghost use Prim.Native.Nat.{_≤_, _<_};
 ghost use lib.ListN.{length};
 ghost use Rattle.utf8.specs.Characters.{before};
-ghost use Rattle.turkish.specs.Harmony.{lastVowel};
 ghost use Rattle.turkish.specs.Postlude.{reserved, gained, hard};
 ghost use Rattle.stages.specs.Repairs.{appended, shortRepair, repairOf};
 
@@ -39,23 +38,6 @@ pub fn is_reserved_word(w: &[u8], n: usize) -> bool
     false
 }
 
-// The last vowel before place c, 0 where there is none.
-pub fn last_vowel(w: &[u8], c: usize) -> u32
-    requires { ⌜ c ≤ length (now w) ⌝ }
-    ensures { λ r. ⌜ r ≡ lastVowel (before (now (w .entry)) c) ⌝ }
-{
-    let mut at = c;
-    while 0 < at {
-        let n = characters::last_width(w, at);
-        at -= n;
-        let ch = characters::char_at(w, at, n);
-        if vowel::is_vowel(ch) {
-            return ch;
-        }
-    }
-    0
-}
-
 // The vowel that a final d or g gains after the last vowel v.
 fn gained_after(v: u32) -> u32
     ensures { λ r. ⌜ r ≡ gained v ⌝ }
@@ -81,10 +63,12 @@ pub fn append_U_to_stems_ending_with_d_or_g(w: &[u8], n: usize) -> u32
     let start = n - k;
     let ch = characters::char_at(w, start, k);
     if ch == 0x64 {
-        return gained_after(last_vowel(w, start));
+        let last = walk::last_vowel(w, start);
+        return gained_after(last.ch);
     }
     if ch == 0x67 {
-        return gained_after(last_vowel(w, start));
+        let last = walk::last_vowel(w, start);
+        return gained_after(last.ch);
     }
     0
 }

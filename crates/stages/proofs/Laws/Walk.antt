@@ -8,7 +8,7 @@ use native.Mathlib.Omega.{arith}
 use Rattle.utf8.specs.Characters.{lastWidth, lastChar, charAt, before}
 use Rattle.utf8.proofs.Laws.Characters.{before-zero, before-step, lastWidth-pos, lastWidth-four, lastWidth-le}
 use Rattle.turkish.specs.Letters.{any}
-use Rattle.turkish.specs.Harmony.{vowel, partner, lastVowel, beyond, harmony, syllables}
+use Rattle.turkish.specs.Harmony.{vowel, partner, lastVowel, beyond, harmony}
 
 -- ---- one turn ----
 
@@ -56,11 +56,6 @@ pub lastVowel-stops : {l cs : List ℕ} {c : ℕ} → l ≡ c ∷ cs → vowel c
 unfolding lastVowel
 lastVowel-stops e d = rw (e, d)
 
--- there is none at the word's start
-pub lastVowel-none : {l : List ℕ} → l ≡ [] → 0 ≡ lastVowel l
-unfolding lastVowel
-lastVowel-none e = rw e
-
 -- ---- what stands beyond it ----
 
 -- a character that is no vowel is skipped
@@ -94,20 +89,3 @@ harmony-stops e d = ap₂ (λ (v : ℕ) (bs : List ℕ). any (partner v) bs) (la
 pub harmony-none : {l : List ℕ} → l ≡ [] → false ≡ harmony l
 unfolding harmony
 harmony-none {l} e = any-none (partner (lastVowel l)) (sym (beyond-none e))
-
--- ---- syllables ----
-
--- a character that is no vowel is skipped
-pub syllables-skips : {l cs : List ℕ} {c : ℕ} → l ≡ c ∷ cs → vowel c ≡ false → syllables cs ≡ syllables l
-unfolding syllables
-syllables-skips e d = ap (any vowel) (beyond-skips e d)
-
--- at a vowel the rest is searched for another
-pub syllables-stops : {l cs : List ℕ} {c : ℕ} → l ≡ c ∷ cs → vowel c ≡ true → any vowel cs ≡ syllables l
-unfolding syllables
-syllables-stops e d = ap (any vowel) (beyond-stops e d)
-
--- there are none at the word's start
-pub syllables-none : {l : List ℕ} → l ≡ [] → false ≡ syllables l
-unfolding syllables
-syllables-none e = any-none vowel (sym (beyond-none e))

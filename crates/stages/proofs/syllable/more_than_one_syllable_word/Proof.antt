@@ -1,73 +1,20 @@
--- `stages::syllable::more_than_one_syllable_word` meets its contract. The loop's invariant: what is left to walk has two
--- vowels where all of it has two. The measure is the place. Assumes nothing.
-use Prim.Native.Nat.{_≤_}
-use mathlib.Core.Path.{_≡_, refl, sym, _∙_}
+-- `stages::syllable::more_than_one_syllable_word` meets its contract: a vowel stands before the last one. Assumes nothing.
 use native.Mathlib.Omega.{arith}
 use borrow.Author.Needs.{needs}
-use Rattle.utf8.specs.Characters.{before}
-use Rattle.turkish.specs.Harmony.{syllables}
-use Rattle.stages.proofs.Laws.Walk.{turn-width, turn-char, turn-none, syllables-skips, syllables-stops, syllables-none}
+use denote.Ref.{now}
+use Rattle.stages.proofs.Laws.LastVowel.{last-at-le, syllables-last}
 use Rattle.stages.proofs.syllable.more_than_one_syllable_word.Statement.{statement}
 use Rattle.stages.proofs.syllable.more_than_one_syllable_word.Tie as tie
 
-abbrev Inv-loop : tie.InvT-loop
-Inv-loop w c at₀ at = (at ≤ c) × (syllables (before w at) ≡ syllables (before w c))
+last-vowel-requires : tie.Need-last-vowel-requires
+last-vowel-requires c κs = search needs
 
-abbrev μ-loop : tie.MeasureT-loop
-μ-loop w c at₀ at = at
+last-vowel-requires-2 : tie.Need-last-vowel-requires-2
+last-vowel-requires-2 c κs = omega (arith, last-at-le _ _ _ (c .last-vowel .ensures))
 
-loop-holds : tie.Need-loop-holds Inv-loop μ-loop
-loop-holds c = (omega arith, refl)
-
-last-width-requires : tie.Need-last-width-requires Inv-loop μ-loop
-last-width-requires c κs = search needs
-
-sub-at : tie.Need-sub-at Inv-loop μ-loop
-sub-at c = omega (arith, turn-width _ _ _ (c .before .loop-test .taken) (c .last-width .ensures))
-
-char-at-requires : tie.Need-char-at-requires Inv-loop μ-loop
-char-at-requires c κs = omega (arith, turn-width _ _ _ (c .before .loop-test .taken) (c .last-width .ensures))
-
-is-vowel-requires : tie.Need-is-vowel-requires Inv-loop μ-loop
-is-vowel-requires c κs = search needs
-
-vowel-before-requires : tie.Need-vowel-before-requires Inv-loop μ-loop
-vowel-before-requires c κs = search needs
-
-returns : tie.Need-returns Inv-loop μ-loop
-returns c =
-    let turn = c .before .before .before in
-    let step = turn-char _ _ _ _ (turn .before .before .loop-test .taken) (turn .before .last-width .ensures) (turn .char-at .ensures) in
-    c .vowel-before .ensures ∙ syllables-stops step (sym (c .before .before .is-vowel .ensures) ∙ c .before .if1 .taken)
-    ∙ turn .before .before .before .loop .inv .1
-
-loop-less : tie.Need-loop-less Inv-loop μ-loop
-loop-less c =
-    let turn = c .before .before .before in
-    omega (arith, turn-width _ _ _ (turn .before .loop-test .taken) (turn .last-width .ensures))
-
-loop-again : tie.Need-loop-again Inv-loop μ-loop
-loop-again c =
-    let turn = c .before .before in
-    let step = turn-char _ _ _ _ (turn .before .before .loop-test .taken) (turn .before .last-width .ensures) (turn .char-at .ensures) in
-    (omega arith, syllables-skips step (sym (c .before .is-vowel .ensures) ∙ c .if1 .left) ∙ turn .before .before .before .loop .inv .1)
-
-returns-2 : tie.Need-returns-2 Inv-loop μ-loop
-returns-2 c = syllables-none (turn-none _ _ (c .loop-test .left)) ∙ c .before .loop .inv .1
+returns : tie.Need-returns
+returns c = syllables-last _ _ _ _ (c .before .before .last-vowel .ensures) (c .before .last-vowel2 .ensures)
 
 pub more-than-one-syllable-word-spec : {M : Type 1} → statement M
 more-than-one-syllable-word-spec =
-    tie.close
-    (tie.spec
-    Inv-loop
-    μ-loop
-    loop-holds
-    last-width-requires
-    sub-at
-    char-at-requires
-    is-vowel-requires
-    vowel-before-requires
-    returns
-    loop-less
-    loop-again
-    returns-2)
+    tie.close (tie.spec last-vowel-requires last-vowel-requires-2 returns)

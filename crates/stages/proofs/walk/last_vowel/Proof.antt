@@ -1,18 +1,17 @@
--- `stages::syllable::vowel_before` meets its contract. The loop's invariant: what is left to walk has a vowel where all of it
--- has one. The measure is the place. Assumes nothing.
+-- `stages::walk::last_vowel` meets its contract. The loop's invariant: what is left to walk has the last vowel of all of it. The
+-- measure is the place. Assumes nothing.
 use Prim.Native.Nat.{_≤_}
 use mathlib.Core.Path.{_≡_, refl, sym, _∙_}
 use native.Mathlib.Omega.{arith}
 use borrow.Author.Needs.{needs}
-use Rattle.utf8.specs.Characters.{before}
-use Rattle.turkish.specs.Letters.{any}
-use Rattle.turkish.specs.Harmony.{vowel}
-use Rattle.stages.proofs.Laws.Walk.{turn-width, turn-char, turn-none, any-skips, any-stops, any-none}
-use Rattle.stages.proofs.syllable.vowel_before.Statement.{statement}
-use Rattle.stages.proofs.syllable.vowel_before.Tie as tie
+use Rattle.stages.specs.LastVowel.{lastVowelOf}
+use Rattle.stages.proofs.Laws.Walk.{turn-width, turn-char}
+use Rattle.stages.proofs.Laws.LastVowel.{lastVowelOf-skips, lastVowelOf-stops, lastVowelOf-none}
+use Rattle.stages.proofs.walk.last_vowel.Statement.{statement}
+use Rattle.stages.proofs.walk.last_vowel.Tie as tie
 
 abbrev Inv-loop : tie.InvT-loop
-Inv-loop w c at₀ at = (at ≤ c) × (any vowel (before w at) ≡ any vowel (before w c))
+Inv-loop w c at₀ at = (at ≤ c) × (lastVowelOf w at ≡ lastVowelOf w c)
 
 abbrev μ-loop : tie.MeasureT-loop
 μ-loop w c at₀ at = at
@@ -36,7 +35,7 @@ returns : tie.Need-returns Inv-loop μ-loop
 returns c =
     let turn = c .before .before in
     let step = turn-char _ _ _ _ (turn .before .before .loop-test .taken) (turn .before .last-width .ensures) (turn .char-at .ensures) in
-    any-stops vowel step (sym (c .before .is-vowel .ensures) ∙ c .if1 .taken) ∙ turn .before .before .before .loop .inv .1
+    lastVowelOf-stops _ _ _ _ (turn .before .last-width .ensures) step (sym (c .before .is-vowel .ensures) ∙ c .if1 .taken) ∙ turn .before .before .before .loop .inv .1
 
 loop-less : tie.Need-loop-less Inv-loop μ-loop
 loop-less c =
@@ -47,13 +46,13 @@ loop-again : tie.Need-loop-again Inv-loop μ-loop
 loop-again c =
     let turn = c .before .before in
     let step = turn-char _ _ _ _ (turn .before .before .loop-test .taken) (turn .before .last-width .ensures) (turn .char-at .ensures) in
-    (omega arith, any-skips vowel step (sym (c .before .is-vowel .ensures) ∙ c .if1 .left) ∙ turn .before .before .before .loop .inv .1)
+    (omega arith, lastVowelOf-skips _ _ _ _ (turn .before .last-width .ensures) step (sym (c .before .is-vowel .ensures) ∙ c .if1 .left) ∙ turn .before .before .before .loop .inv .1)
 
 returns-2 : tie.Need-returns-2 Inv-loop μ-loop
-returns-2 c = any-none vowel (turn-none _ _ (c .loop-test .left)) ∙ c .before .loop .inv .1
+returns-2 c = lastVowelOf-none _ _ (c .loop-test .left) ∙ c .before .loop .inv .1
 
-pub vowel-before-spec : {M : Type 1} → statement M
-vowel-before-spec =
+pub last-vowel-spec : {M : Type 1} → statement M
+last-vowel-spec =
     tie.close
     (tie.spec
     Inv-loop

@@ -1,0 +1,91 @@
+-- The walk to the last vowel: what a turn does to its answer, and what stands before the place that it gives. Assumes nothing.
+use Prim.Native.Nat.{ℕ, suc, _-_, _≤_}
+use mathlib.Core.Path.{_≡_, refl, sym, ap, ap₂, _∙_}
+use mathlib.Core.Bool.{Bool, true, false, cond, not, _||_, false≢true}
+use mathlib.Core.List.{List, [], _∷_}
+use native.Mathlib.Omega.{arith}
+use lib.ListN.{drop}
+use lib.Dec.{eqb}
+use borrow.Author.Tests.{ne-eqb}
+use Rattle.utf8.specs.Characters.{lastWidth, before, back}
+use Rattle.utf8.proofs.Laws.Characters.{before-zero, before-back, back-le}
+use Rattle.turkish.specs.Letters.{any, among, text}
+use Rattle.turkish.specs.Harmony.{vowels, vowel, lastVowel, beyond, syllables}
+use Rattle.stages.specs.declared.walk.LastVowel.{LastVowel}
+use Rattle.stages.specs.LastVowel.{toVowel, lastVowelOf}
+use Rattle.stages.proofs.Laws.Walk.{lastVowel-skips, lastVowel-stops}
+
+abbrev found : ℕ → ℕ → LastVowel
+found v at = record { ch = v; at = at }
+
+-- ---- a turn ----
+
+-- a character that is no vowel is skipped
+pub lastVowelOf-skips : (w : List ℕ) (at n ch : ℕ) → n ≡ lastWidth w at → before w at ≡ ch ∷ before w (at - n) → vowel ch ≡ false
+    → lastVowelOf w (at - n) ≡ lastVowelOf w at
+unfolding lastVowelOf
+lastVowelOf-skips w at n ch e step d = ap₂ found (lastVowel-skips step d) place
+  where
+    further : toVowel (before w at) ≡ suc (toVowel (before w (at - n)))
+    further = unfold toVowel in rw (step, d)
+
+    place : back w (at - n) (toVowel (before w (at - n))) ≡ back w at (toVowel (before w at))
+    place = unfold back in rw (further, e)
+
+-- a vowel ends the walk
+pub lastVowelOf-stops : (w : List ℕ) (at n ch : ℕ) → n ≡ lastWidth w at → before w at ≡ ch ∷ before w (at - n) → vowel ch ≡ true
+    → found ch (at - n) ≡ lastVowelOf w at
+unfolding lastVowelOf
+lastVowelOf-stops w at n ch e step d = ap₂ found (lastVowel-stops step d) place
+  where
+    one : toVowel (before w at) ≡ 1
+    one = unfold toVowel in rw (step, d)
+
+    place : at - n ≡ back w at (toVowel (before w at))
+    place = unfold back in rw (one, e)
+
+-- there is none at the word's start
+pub lastVowelOf-none : (w : List ℕ) (at : ℕ) → at ≤ 0 → found 0 0 ≡ lastVowelOf w at
+unfolding lastVowelOf lastVowel toVowel back
+lastVowelOf-none w at h = let e : at ≡ 0 = omega arith in rw (e, before-zero w)
+
+-- ---- what it gives ----
+
+drop-toVowel : (cs : List ℕ) → drop (toVowel cs) cs ≡ beyond cs
+unfolding toVowel beyond
+drop-toVowel [] = refl
+drop-toVowel (c ∷ cs) = go (vowel c) (drop-toVowel cs)
+  where
+    go : (t : Bool) → drop (toVowel cs) cs ≡ beyond cs → drop (cond t 0 (toVowel cs)) cs ≡ cond t cs (beyond cs)
+    go true h = refl
+    go false h = h
+
+-- of an answer l of the walk from place c: its vowel is the last one, its place lies before c, and before its place stands what is
+-- beyond the last vowel
+module _ (w : List ℕ) (c : ℕ) (l : LastVowel) (e : l ≡ lastVowelOf w c) where
+  pub last-ch : l .ch ≡ lastVowel (before w c)
+  unfolding lastVowelOf
+  last-ch = ap (λ (x : LastVowel). x .ch) e
+
+  pub last-at-le : l .at ≤ c
+  unfolding lastVowelOf
+  last-at-le = rw e (back-le w c (toVowel (before w c)))
+
+  pub last-beyond : before w (l .at) ≡ beyond (before w c)
+  unfolding lastVowelOf
+  last-beyond = rw e (before-back w c (toVowel (before w c)) ∙ drop-toVowel (before w c))
+
+-- a vowel is there where one of the characters is a vowel
+any-lastVowel : (cs : List ℕ) → not (eqb (lastVowel cs) 0) ≡ any vowel cs
+unfolding lastVowel any
+any-lastVowel [] = refl
+any-lastVowel (c ∷ cs) = go (vowel c) refl (any-lastVowel cs)
+  where
+    go : (t : Bool) → vowel c ≡ t → not (eqb (lastVowel cs) 0) ≡ any vowel cs → not (eqb (cond t c (lastVowel cs)) 0) ≡ t || any vowel cs
+    go true e h = ap not (ne-eqb c 0 (λ z. false≢true (unfold vowel vowels among text in sym (ap vowel z) ∙ e)))
+    go false e h = h
+
+-- two vowels: a walk from the last one's place finds another
+pub syllables-last : (w : List ℕ) (c : ℕ) (l o : LastVowel) → l ≡ lastVowelOf w c → o ≡ lastVowelOf w (l .at) → not (eqb (o .ch) 0) ≡ syllables (before w c)
+unfolding syllables
+syllables-last w c l o e f = rw (last-ch w (l .at) o f) (any-lastVowel (before w (l .at))) ∙ ap (any vowel) (last-beyond w c l e)
