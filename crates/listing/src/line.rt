@@ -144,7 +144,7 @@ fn put_refused(out: &mut [u8], at: usize, n: u32) -> usize
 }
 
 // Writes the output line of one word at place `at`, refused or not, and gives the place after it.
-pub fn put_line(out: &mut [u8], at: usize, w: &[u8]) -> usize
+pub(crate) fn put_line(out: &mut [u8], at: usize, w: &[u8]) -> usize
     requires { ⌜ at + 3084 ≤ length (now out) ⌝ }
     ensures { λ r. ⌜ (r ≡ at + length (listLine (now (w .entry)))) × (now (out .exit) ≡ put at (listLine (now (w .entry))) (now (out .entry))) ⌝ }
 {

@@ -9,6 +9,7 @@ use lib.ListN.{length, take, drop, take-append-drop, length-append, length-drop,
 use lib.Seq.{take-append-le, drop-append-le, take-take, length-take-le}
 use lib.Dec.{ltb, eqb}
 use borrow.Author.Tests.{ltb-true, ltb-false, lt-ltb, eqb-true, eqb-false, eq-eqb, ne-eqb}
+use Rattle.utf8.proofs.Laws.Booleans.{cond-both}
 use Rattle.utf8.specs.Encoding.{encode, encodeAll}
 use Rattle.utf8.specs.Text.{TextOf}
 use Rattle.utf8.specs.Characters.{goesOn, lastWidth, charAt, lastChar, beforeWithin, before, back}
@@ -20,7 +21,7 @@ use Rattle.turkish.specs.Postlude.{reserved, gained, appendU, hard, harden, pos
 use Rattle.turkish.specs.Calls.{bytes}
 use Rattle.stages.specs.declared.postlude.Repair.{Repair}
 use Rattle.stages.specs.Repairs.{repairText, unchanged, shortRepair, appended, hardened, repairOf}
-use Rattle.stages.proofs.Laws.Repairs.{cond-both, before-empty, gained-elim, hard-short, appended-short}
+use Rattle.stages.proofs.Laws.Repairs.{before-empty, gained-elim, hard-short, appended-short}
 
 -- ---- the bytes before a place ----
 

@@ -6,7 +6,6 @@ use mathlib.Core.Bool.{Bool, true, false, cond, _&&_, and-true}
 use mathlib.Core.List.{List, [], _∷_, reverseAux, reverse, reverse-reverse}
 use native.Mathlib.Omega.{arith}
 use native.Mathlib.Nat.{zero-add}
-use native.Mathlib.Numerals.{add-one}
 use lib.ListN.{length, take, drop, getD, length-take, length-drop, length-reverse}
 use lib.Dec.{leb, ltb, eqb, leb·zero, leb·suc-zero, leb·suc-suc}
 use borrow.Author.Tests.{ltb-true, ltb-false, le-leb, lt-leb, eqb-true, eqb-false, eq-eqb, ne-eqb}
@@ -16,7 +15,8 @@ use Rattle.utf8.specs.Characters.{continuation, goesOn, lastWidth, lastChar, ch
 use Rattle.utf8.specs.Steps.{stands, same, standsAt, eqSB}
 use Rattle.utf8.proofs.Laws.Booleans.{and-left, and-right, and-false}
 use Rattle.utf8.proofs.Laws.Widths.{width-one}
-use Rattle.utf8.proofs.Laws.CharAt.{take-drop-cons, charAt-one}
+use Rattle.utf8.proofs.Laws.CharAt.{charAt-one}
+use Rattle.utf8.proofs.Laws.Steps.{standsAt-cons}
 use Rattle.utf8.proofs.Laws.Characters.{lastWidth-pos, lastWidth-le, before-zero, before-step}
 use Rattle.turkish.specs.Letters.{starts}
 
@@ -84,11 +84,6 @@ module _ (w : List ℕ) (c : ℕ) (l : c < length w) where
         rw (before-step w (suc c) (omega arith), ne-eqb b (lastChar w (suc c)) (λ e. d (sym (lastChar-byte (lastWidth-char (omega arith))) ∙ sym e)))
 
 -- ---- the literal ----
-
--- one byte of a literal, and the rest of it one place on
-pub standsAt-cons : (w : List ℕ) (c b : ℕ) (s : List ℕ) → c < length w → standsAt w c (b ∷ s) ≡ eqb (getD w c 0) b && standsAt w (suc c) s
-unfolding standsAt same
-standsAt-cons w c b s l = rw (take-drop-cons w c (length s) l, add-one c)
 
 -- an ASCII byte at place c is asked for alike as the first of the bytes that stand at c and as the nearest character before c + 1
 literal-byte : (w r s : List ℕ) (c b : ℕ) → c < length w → b < 0x80

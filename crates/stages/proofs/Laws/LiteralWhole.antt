@@ -12,7 +12,8 @@ use Rattle.utf8.specs.Characters.{lastWidth, lastChar, before}
 use Rattle.utf8.specs.Steps.{same, standsAt}
 use Rattle.utf8.proofs.Laws.Booleans.{and-left, and-right, and-false}
 use Rattle.utf8.proofs.Laws.Characters.{before-zero, before-step}
-use Rattle.stages.proofs.Laws.Literal.{ascii, ascii-reverseAux, lastWidth-byte, lastChar-byte, lastWidth-char, standsAt-cons}
+use Rattle.utf8.proofs.Laws.Steps.{standsAt-cons}
+use Rattle.stages.proofs.Laws.Literal.{ascii, ascii-reverseAux, lastWidth-byte, lastChar-byte, lastWidth-char}
 
 -- a test of the last character against an ASCII one, and then of the place before it, is a test of the last byte
 last-byte : (w : List ℕ) (c b : ℕ) (f : ℕ → Bool) → c < length w → b < 0x80

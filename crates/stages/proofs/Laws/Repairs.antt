@@ -3,12 +3,13 @@
 use Prim.Native.Nat.{ℕ, _-_, _/_, _%_, _+_, _≤_, _<_}
 use mathlib.Core.Path.{_≡_, refl, sym, _∙_}
 use mathlib.Core.Logic.{_⊎_, inl, inr}
-use mathlib.Core.Bool.{Bool, true, false, cond, _&&_, _||_, or-false}
+use mathlib.Core.Bool.{true, false, _&&_, _||_, or-false}
 use mathlib.Core.List.{List, [], _∷_}
 use native.Mathlib.Omega.{arith}
 use lib.ListN.{length}
 use lib.Dec.{eqb}
 use borrow.Author.Tests.{lt-ltb, le-ltb, eq-eqb, ne-eqb}
+use Rattle.utf8.proofs.Laws.Booleans.{cond-both}
 use Rattle.utf8.specs.Characters.{lastWidth, charAt, lastChar, before}
 use Rattle.utf8.specs.Steps.{standsAt}
 use Rattle.utf8.proofs.Laws.Characters.{before-zero, before-step}
@@ -21,11 +22,6 @@ use Rattle.stages.proofs.Laws.Literal.{ascii}
 use Rattle.stages.proofs.Laws.LiteralWhole.{literal-whole}
 
 -- ---- a choice ----
-
--- what holds of both holds of the one chosen
-pub cond-both : {A : Type 0} (P : A → Type 0) (t : Bool) (x y : A) → P x → P y → P (cond t x y)
-cond-both P true x y p q = p
-cond-both P false x y p q = q
 
 -- what holds of both numbers holds of the one that it is
 pub either-number : (P : ℕ → Type 0) (v a b : ℕ) → (v ≡ a) ⊎ (v ≡ b) → P a → P b → P v

@@ -32,6 +32,14 @@ pub guarded : (t : Bool) {p q : Bool} → (t ≡ true → p ≡ q) → t && p �
 guarded true h = h refl
 guarded false h = refl
 
+-- what holds of both sides of a choice holds of what is chosen; each side may know the test's answer
+pub cond-cases : {A : Type 0} (P : A → Type 0) (t : Bool) {x y : A} → (t ≡ true → P x) → (t ≡ false → P y) → P (cond t x y)
+cond-cases P true f g = f refl
+cond-cases P false f g = g refl
+
+pub cond-both : {A : Type 0} (P : A → Type 0) (t : Bool) (x y : A) → P x → P y → P (cond t x y)
+cond-both P t x y p q = cond-cases P t (λ e. p) (λ e. q)
+
 -- a choice between two tests, made of tests alone
 pub chosen : (t p q : Bool) → t && p || not t && q ≡ cond t p q
 chosen true p q = or-false p

@@ -1,11 +1,12 @@
 -- The steps' answers, by the tests that decide them. Assumes nothing.
-use Prim.Native.Nat.{ℕ, zero, suc, _+_, _-_, _≤_, _<_}
+use Prim.Native.Nat.{ℕ, suc, _+_, _-_, _≤_, _<_}
 use mathlib.Core.Path.{_≡_, refl, sym, ap, ap₂, _∙_}
 use mathlib.Core.Bool.{Bool, true, false, _&&_}
-use mathlib.Core.List.{List, [], _∷_}
-use native.Mathlib.Nat.{add-assoc, add-zero}
+use mathlib.Core.List.{List, _∷_}
+use native.Mathlib.Nat.{add-zero}
 use native.Mathlib.Numerals.{add-one}
-use lib.ListN.{length, take, drop, getD, drop-of-length-le}
+use native.Mathlib.Omega.{arith}
+use lib.ListN.{length, drop, getD, drop-of-length-le}
 use lib.Seq.{drop-cons}
 use lib.Dec.{leb, ltb, eqb}
 use borrow.Author.Tests.{leb-true, le-leb, lt-leb, lt-ltb, le-ltb, eq-eqb, ne-eqb}
@@ -86,16 +87,17 @@ nextChar-moves w r e h = rw (e, le-leb (r .cursor + firstWidth w (r .cursor)) (r
 -- ---- standsAt ----
 
 -- one byte of the literal, and the rest of it one place on
-standsAt-cons : (w : List ℕ) (j b : ℕ) (s : List ℕ) → j < length w → standsAt w j (b ∷ s) ≡ eqb (getD w j 0) b && standsAt w (j + 1) s
+pub standsAt-cons : (w : List ℕ) (j b : ℕ) (s : List ℕ) → j < length w → standsAt w j (b ∷ s) ≡ eqb (getD w j 0) b && standsAt w (suc j) s
 unfolding standsAt same
-standsAt-cons w j b s h = rw (take-drop-cons w j (length s) h)
+standsAt-cons w j b s h = rw (take-drop-cons w j (length s) h, add-one j)
 
 -- the same at the literal's k-th byte
 standsAt-at : (w : List ℕ) (i k : ℕ) (s : List ℕ) → k < length s → i + k < length w
     → standsAt w (i + k) (drop k s) ≡ eqb (getD w (i + k) 0) (getD s k 0) && standsAt w (i + (k + 1)) (drop (k + 1) s)
 standsAt-at w i k s l h =
+    let e : suc (i + k) ≡ i + (k + 1) = omega arith in
     ap (standsAt w (i + k)) (drop-cons s k 0 l) ∙ standsAt-cons w (i + k) (getD s k 0) (drop (suc k) s) h
-    ∙ ap₂ (λ (m n : ℕ). eqb (getD w (i + k) 0) (getD s k 0) && standsAt w m (drop n s)) (add-assoc i k 1) (sym (add-one k))
+    ∙ ap₂ (λ (m n : ℕ). eqb (getD w (i + k) 0) (getD s k 0) && standsAt w m (drop n s)) e (sym (add-one k))
 
 pub standsAt-differs : (w : List ℕ) (i k : ℕ) (s : List ℕ) → k < length s → i + k < length w → (getD w (i + k) 0 ≡ getD s k 0 → ⊥)
     → standsAt w (i + k) (drop k s) ≡ false

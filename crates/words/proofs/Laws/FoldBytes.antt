@@ -2,7 +2,7 @@
 -- the first does not matter, and only a first byte from 0xC3 to 0xC5, which has one byte after it, matters to the next. Assumes nothing.
 use Prim.Native.Nat.{ℕ, zero, suc, _+_, _/_, _%_, _≤_, _<_}
 use mathlib.Core.Path.{_≡_, refl, sym, ap, _∙_}
-use mathlib.Core.Bool.{Bool, true, false, cond, _&&_, false≢true}
+use mathlib.Core.Bool.{true, false, _&&_, false≢true}
 use mathlib.Core.List.{List, [], _∷_, _++_, map, reverse, append-nil, reverse-cons, reverse-reverse, map-append}
 use native.Mathlib.Omega.{arith}
 use lib.ListN.{length, getD}
@@ -10,7 +10,7 @@ use lib.Dec.{eqb, leb}
 use borrow.Author.Tests.{leb-true, le-leb, eqb-true, eqb-false}
 use Rattle.utf8.specs.Encoding.{encode, encodeAll}
 use Rattle.utf8.specs.Text.{TextOf}
-use Rattle.utf8.proofs.Laws.Booleans.{and-left, and-right}
+use Rattle.utf8.proofs.Laws.Booleans.{and-left, and-right, cond-cases}
 use Rattle.utf8.proofs.Laws.Encoding.{encode-elim, encode-one}
 use Rattle.utf8.proofs.TextCharacters.{before-text}
 use Rattle.turkish.specs.WordPass.{foldChar, fold}
@@ -62,11 +62,6 @@ getD-foldBytes p zero (b ∷ bs) h = refl
 getD-foldBytes p (suc i) (b ∷ bs) h = getD-foldBytes b i bs (omega arith)
 
 -- ---- one character ----
-
--- a case on a test, with what the test says
-cond-cases : (P : ℕ → Type 0) (t : Bool) {x y : ℕ} → (t ≡ true → P x) → (t ≡ false → P y) → P (cond t x y)
-cond-cases P true f g = f refl
-cond-cases P false f g = g refl
 
 -- a character that the fold leaves
 abbrev Left : ℕ → Type 0
