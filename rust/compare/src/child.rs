@@ -1,12 +1,14 @@
 //! A program run as a child process: fed on its standard input from a thread, its standard output
-//! handed on as it comes.
+//! handed on as it comes, and killed where it hangs.
 
 use std::io::{self, PipeWriter, Read, Write};
 use std::os::fd::OwnedFd;
 use std::os::unix::net::UnixDatagram;
 use std::path::Path;
-use std::process::{ChildStderr, Command, Stdio};
+use std::process::{Child, ChildStderr, Command, ExitStatus, Stdio};
+use std::sync::mpsc::{self, RecvTimeoutError, SyncSender};
 use std::thread;
+use std::time::{Duration, Instant};
 
 // As much of a program's complaint as is shown.
 const COMPLAINT: u64 = 4096;
@@ -29,12 +31,14 @@ pub struct Input<'a> {
     pub feed: Feed,
 }
 
-/// Runs the program until its output ends or `take` says no. The error is a message: it could not be
-/// run, ended badly or complained.
+/// Runs the program until its output ends or `take` says no, and kills it where it gives neither
+/// output nor its end for `limit`. The error is a message: it could not be run, hung, ended badly
+/// or complained.
 pub fn run(
     program: &Path,
     input: Input,
-    mut take: impl FnMut(&[u8]) -> bool,
+    limit: Duration,
+    take: impl FnMut(&[u8]) -> bool,
 ) -> Result<(), String> {
     let failed = |error: io::Error| format!("{}: {error}", program.display());
     let (stdin, sender) = open(input.feed).map_err(failed)?;
@@ -44,42 +48,87 @@ pub fn run(
         .stderr(Stdio::piped())
         .spawn()
         .map_err(failed)?;
-    let (stdout, stderr) = (child.stdout.take(), child.stderr.take());
-    thread::scope(|scope| {
-        // A program that does not read to the end says so by its output.
-        scope.spawn(|| sender.feed(input));
-        let complaint = scope.spawn(|| stderr.map_or(String::new(), complaint));
-        let ended = stdout.map_or(Ok(false), |stdout| hand_on(stdout, &mut take));
-        if !matches!(ended, Ok(true)) {
-            let _ = child.kill();
-        }
-        let status = child.wait().map_err(failed)?;
-        let complaint = complaint.join().unwrap_or_default();
-        if !ended.map_err(failed)? {
-            return Ok(());
-        }
-        if !status.success() {
-            return Err(format!("ended with {status}, standard error {complaint:?}"));
-        }
-        if !complaint.is_empty() {
-            return Err(format!("wrote to standard error {complaint:?}"));
-        }
-        Ok(())
-    })
+    let stderr = child.stderr.take();
+    // The threads own what they use, and those of a program that hangs are not waited for: a
+    // process that it started may hold its pipes open after it.
+    let bytes = input.bytes.to_vec();
+    // A program that does not read to the end says so by its output.
+    thread::spawn(move || sender.feed(&bytes, input.times, input.feed));
+    let complaint = thread::spawn(|| stderr.map_or(String::new(), complaint));
+    let ended = follow(&mut child, limit, take);
+    // This does nothing to a program that has ended.
+    let _ = child.kill().and_then(|()| child.wait());
+    match ended.map_err(failed)? {
+        Some(status) => judge(status, &complaint.join().unwrap_or_default()),
+        None => Ok(()),
+    }
 }
 
-// Whether the output came to its end.
-fn hand_on(mut stdout: impl Read, take: &mut impl FnMut(&[u8]) -> bool) -> io::Result<bool> {
-    let mut block = vec![0; 1 << 16];
+// Hands on the output, and waits for the end; none where `take` said no.
+fn follow(
+    child: &mut Child,
+    limit: Duration,
+    mut take: impl FnMut(&[u8]) -> bool,
+) -> io::Result<Option<ExitStatus>> {
+    let Some(stdout) = child.stdout.take() else {
+        return Ok(None);
+    };
+    let (sender, blocks) = mpsc::sync_channel(1);
+    thread::spawn(|| send_on(stdout, sender));
     loop {
-        match stdout.read(&mut block) {
-            Ok(0) => return Ok(true),
-            Ok(count) if take(&block[..count]) => {}
-            Ok(_) => return Ok(false),
-            Err(error) if error.kind() == io::ErrorKind::Interrupted => {}
-            Err(error) => return Err(error),
+        match blocks.recv_timeout(limit) {
+            Ok(block) => {
+                if !take(&block?) {
+                    return Ok(None);
+                }
+            }
+            Err(RecvTimeoutError::Disconnected) => return wait(child, limit).map(Some),
+            Err(RecvTimeoutError::Timeout) => return Err(hangs(limit)),
         }
     }
+}
+
+// Sends the output on in blocks, until it ends or no more is taken.
+fn send_on(mut stdout: impl Read, blocks: SyncSender<io::Result<Vec<u8>>>) {
+    let mut block = vec![0; 1 << 16];
+    loop {
+        let read = match stdout.read(&mut block) {
+            Ok(0) => return,
+            Ok(count) => Ok(block[..count].to_vec()),
+            Err(error) if error.kind() == io::ErrorKind::Interrupted => continue,
+            Err(error) => Err(error),
+        };
+        if blocks.send(read).is_err() {
+            return;
+        }
+    }
+}
+
+// The end of a program whose output has ended, which should come in a moment.
+fn wait(child: &mut Child, limit: Duration) -> io::Result<ExitStatus> {
+    let start = Instant::now();
+    while start.elapsed() < limit {
+        if let Some(status) = child.try_wait()? {
+            return Ok(status);
+        }
+        thread::sleep(Duration::from_millis(1));
+    }
+    Err(hangs(limit))
+}
+
+fn hangs(limit: Duration) -> io::Error {
+    let message = format!("neither output nor its end for {limit:?}, killed");
+    io::Error::new(io::ErrorKind::TimedOut, message)
+}
+
+fn judge(status: ExitStatus, complaint: &str) -> Result<(), String> {
+    if !status.success() {
+        return Err(format!("ended with {status}, standard error {complaint:?}"));
+    }
+    if !complaint.is_empty() {
+        return Err(format!("wrote to standard error {complaint:?}"));
+    }
+    Ok(())
 }
 
 fn complaint(stderr: ChildStderr) -> String {
@@ -108,10 +157,10 @@ fn open(feed: Feed) -> io::Result<(Stdio, Sender)> {
 }
 
 impl Sender {
-    fn feed(mut self, input: Input) -> io::Result<()> {
-        let (Feed::Pipe(size) | Feed::Packets(size)) = input.feed;
-        for _ in 0..input.times {
-            for piece in input.bytes.chunks(size) {
+    fn feed(mut self, bytes: &[u8], times: usize, feed: Feed) -> io::Result<()> {
+        let (Feed::Pipe(size) | Feed::Packets(size)) = feed;
+        for _ in 0..times {
+            for piece in bytes.chunks(size) {
                 self.send(piece)?;
             }
         }
@@ -134,11 +183,12 @@ mod tests {
     use super::*;
 
     const FEEDS: [Feed; 3] = [Feed::Pipe(3), Feed::Packets(1), Feed::Packets(3)];
+    const LIMIT: Duration = Duration::from_secs(60);
 
     fn through(program: &str, bytes: &[u8], times: usize, feed: Feed) -> (Vec<u8>, bool) {
         let mut output = Vec::new();
         let input = Input { bytes, times, feed };
-        let outcome = run(Path::new(program), input, |block| {
+        let outcome = run(Path::new(program), input, LIMIT, |block| {
             output.extend_from_slice(block);
             true
         });
@@ -169,6 +219,20 @@ mod tests {
             times: 1_000_000,
             feed: Feed::Pipe(1000),
         };
-        assert!(run(Path::new("cat"), input, |_| false).is_ok());
+        assert!(run(Path::new("cat"), input, LIMIT, |_| false).is_ok());
+    }
+
+    #[test]
+    fn a_program_that_hangs_is_killed() {
+        for commands in ["exec sleep 60", "exec sleep 60 >&- 2>&-"] {
+            let input = Input {
+                bytes: commands.as_bytes(),
+                times: 1,
+                feed: Feed::Pipe(100),
+            };
+            let outcome = run(Path::new("sh"), input, Duration::from_millis(200), |_| true);
+            let message = outcome.expect_err("it hangs");
+            assert!(message.contains("neither output"), "{message}");
+        }
     }
 }

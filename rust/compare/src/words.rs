@@ -16,6 +16,9 @@ use random::Random;
 use std::fs;
 use std::path::Path;
 
+/// What a source calls with each word that is text.
+pub type Visit<'a, E> = &'a mut dyn FnMut(&str) -> Result<(), E>;
+
 /// How many words of each source; see `--help`.
 #[derive(Clone, Copy)]
 pub struct Sizes {
@@ -64,7 +67,7 @@ impl Words {
     }
 
     /// Every word that is text, source by source.
-    pub fn texts<E>(&self, visit: &mut dyn FnMut(&str) -> Result<(), E>) -> Result<(), E> {
+    pub fn texts<E>(&self, visit: Visit<E>) -> Result<(), E> {
         for word in &self.vocabulary {
             visit(word)?;
         }
@@ -75,7 +78,7 @@ impl Words {
     }
 
     /// The words for the stages: every word that is text, and more that they tell apart.
-    pub fn for_stages<E>(&self, visit: &mut dyn FnMut(&str) -> Result<(), E>) -> Result<(), E> {
+    pub fn for_stages<E>(&self, visit: Visit<E>) -> Result<(), E> {
         self.texts(visit)?;
         named::each(visit)?;
         chains::each(visit)?;

@@ -5,61 +5,53 @@ use crate::cursor::Cursor;
 use crate::lent::Lent;
 use crate::places::Places;
 use crate::report::{Difference, Report};
-use crate::steps::{next_char, previous_char};
+use crate::steps::{self, on_texts, Way};
 use crate::words::Words;
 
-pub fn run(words: &Words, report: &mut Report) -> Result<(), Difference> {
-    let mut lent = Lent::new(b"");
-    let mut places = Places::default();
-    words.texts(&mut |word| {
-        lent.set(word.as_bytes());
-        places.read(word);
+type Outcome = Result<(), Difference>;
+
+pub fn run(words: &Words, report: &mut Report) -> Outcome {
+    on_texts(words, report, |_, lent, places, report| {
         for &(from, to) in &places.ranges {
-            walk_back(&mut lent, &places, from, to, report)?;
-            walk_on(&mut lent, &places, from, to, report)?;
+            both_ways(lent, places, from, to, report)?;
         }
-        report.done(&lent)
+        Ok(())
     })
 }
 
-// From the range's end to its start, and one more step, which must stay.
-fn walk_back(
+// From the range's end to its start, and from its start to its end.
+fn both_ways(
     lent: &mut Lent,
     places: &Places,
     from: usize,
     to: usize,
     report: &mut Report,
-) -> Result<(), Difference> {
+) -> Outcome {
+    let Places { places, points, .. } = places;
+    let (start, end) = (places[from], places[to]);
     let mut at = Cursor {
-        cursor: places.places[to],
-        limit: places.places[to],
-        limit_backward: places.places[from],
+        cursor: end,
+        limit: end,
+        limit_backward: start,
     };
-    for i in (from..to).rev() {
-        let next = at.moves(places.points[i], places.places[i]);
-        previous_char(lent, at, next, report)?;
-        at.cursor = next.cursor;
-    }
-    previous_char(lent, at, at.stays(), report)
+    let back = (from..to).rev().map(|i| (points[i], places[i]));
+    walk(Way::Back, lent, at, back, report)?;
+    at.cursor = start;
+    let on = (from..to).map(|i| (points[i], places[i + 1]));
+    walk(Way::On, lent, at, on, report)
 }
 
-// From the range's start to its end, and one more step, which must stay.
-fn walk_on(
+// Steps over these code points, each to the place beside it, and one more step, which must stay.
+fn walk(
+    way: Way,
     lent: &mut Lent,
-    places: &Places,
-    from: usize,
-    to: usize,
+    mut at: Cursor,
+    characters: impl Iterator<Item = (u32, usize)>,
     report: &mut Report,
-) -> Result<(), Difference> {
-    let mut at = Cursor {
-        cursor: places.places[from],
-        limit: places.places[to],
-        limit_backward: places.places[from],
-    };
-    for i in from..to {
-        let next = at.moves(places.points[i], places.places[i + 1]);
-        next_char(lent, at, next, report)?;
-        at.cursor = next.cursor;
+) -> Outcome {
+    for (point, place) in characters {
+        steps::character(way, lent, at, at.moves(point, place), report)?;
+        at.cursor = place;
     }
-    next_char(lent, at, at.stays(), report)
+    steps::character(way, lent, at, at.stays(), report)
 }

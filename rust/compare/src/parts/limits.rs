@@ -2,27 +2,22 @@
 
 use crate::cursor::Cursor;
 use crate::lent::Lent;
-use crate::places::Places;
 use crate::report::{Difference, Report};
-use crate::steps::{eq_s, eq_s_b};
+use crate::steps::{self, on_texts, Way};
 use crate::words::Words;
 
 pub fn run(words: &Words, report: &mut Report) -> Result<(), Difference> {
-    let mut lent = Lent::new(b"");
     let mut literal = Lent::new(b"");
-    let mut places = Places::default();
-    words.texts(&mut |word| {
-        lent.set(word.as_bytes());
-        places.read(word);
+    on_texts(words, report, |word, lent, places, report| {
         for &(from, to) in &places.ranges {
             let inside = &word[places.places[from]..places.places[to]];
             for piece in pieces(word, &places.places, from, to) {
                 literal.set(piece.as_bytes());
                 let at = places.places[from];
-                compare(&mut lent, &mut literal, at, inside, piece, report)?;
+                compare(lent, &mut literal, at, inside, piece, report)?;
             }
         }
-        report.done(&lent)
+        Ok(())
     })
 }
 
@@ -58,11 +53,11 @@ fn compare(
     };
     let stands = inside.ends_with(piece);
     let expected = at.passes(stands, to.wrapping_sub(piece.len()));
-    eq_s_b(lent, literal, at, expected, report)?;
+    steps::literal(Way::Back, lent, literal, at, expected, report)?;
 
     at.cursor = from;
     // At the limit `eq_s` says no to any literal, the empty one too.
     let stands = !inside.is_empty() && inside.starts_with(piece);
     let expected = at.passes(stands, from + piece.len());
-    eq_s(lent, literal, at, expected, report)
+    steps::literal(Way::On, lent, literal, at, expected, report)
 }

@@ -3,9 +3,8 @@
 
 use crate::cursor::Cursor;
 use crate::lent::Lent;
-use crate::places::Places;
 use crate::report::{Difference, Report};
-use crate::steps::{eq_s, eq_s_b};
+use crate::steps::{self, on_texts, Way};
 use crate::words::Words;
 use oracle::SnowballEnv;
 
@@ -13,12 +12,8 @@ use oracle::SnowballEnv;
 const LITERALS: [&str; 6] = ["", "ken", "ad", "soyad", "ğ", "ç"];
 
 pub fn run(words: &Words, report: &mut Report) -> Result<(), Difference> {
-    let mut lent = Lent::new(b"");
     let mut literal = Lent::new(b"");
-    let mut places = Places::default();
-    words.texts(&mut |word| {
-        lent.set(word.as_bytes());
-        places.read(word);
+    on_texts(words, report, |word, lent, places, report| {
         let mut env = SnowballEnv::create(word);
         for number in 0..places.places.len() {
             env.cursor = places.places[number];
@@ -27,10 +22,10 @@ pub fn run(words: &Words, report: &mut Report) -> Result<(), Difference> {
                 .chain(pieces(word, &places.places, number))
             {
                 literal.set(piece.as_bytes());
-                compare(&mut env, &mut lent, piece, &mut literal, report)?;
+                compare(&mut env, lent, piece, &mut literal, report)?;
             }
         }
-        report.done(&lent)
+        Ok(())
     })
 }
 
@@ -62,11 +57,13 @@ fn compare(
         limit_backward: env.limit_backward,
     };
     let stands = env.eq_s_b(piece);
-    eq_s_b(lent, literal, at, at.passes(stands, env.cursor), report)?;
+    let expected = at.passes(stands, env.cursor);
+    steps::literal(Way::Back, lent, literal, at, expected, report)?;
     env.cursor = at.cursor;
 
     let stands = env.eq_s(piece);
-    eq_s(lent, literal, at, at.passes(stands, env.cursor), report)?;
+    let expected = at.passes(stands, env.cursor);
+    steps::literal(Way::On, lent, literal, at, expected, report)?;
     env.cursor = at.cursor;
     Ok(())
 }

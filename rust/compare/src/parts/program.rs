@@ -8,7 +8,10 @@ use crate::words::damaged::EDGE_BYTES;
 use crate::words::random::Random;
 use crate::words::Words;
 use std::path::Path;
+use std::time::Duration;
 
+// A program that gives neither output nor its end for so long hangs.
+const LIMIT: Duration = Duration::from_secs(60);
 // Lists are fed one after the other, each of about so many bytes.
 const LIST: usize = 4 << 20;
 // Writes of a size that cuts neither at characters nor at the reader's own blocks.
@@ -60,7 +63,7 @@ impl Runs<'_> {
         };
         let mut held = Held::new(list, times);
         let mut told = 0;
-        let outcome = child::run(self.program, input, |block| {
+        let outcome = child::run(self.program, input, LIMIT, |block| {
             let go_on = held.take(block);
             self.report.lines(held.lines() - told);
             told = held.lines();
@@ -68,7 +71,7 @@ impl Runs<'_> {
         });
         let end = held.end(name);
         let Err(message) = outcome else { return end };
-        // A program that ends badly may also end early.
+        // A program that ends badly or hangs may also lack output.
         Err(match end {
             Ok(()) => {
                 let well = "ends well and silent".to_string();

@@ -3,6 +3,7 @@
 
 use super::endings::spellings;
 use super::letters;
+use super::Visit;
 
 // A place in a chain: the suffixes that may stand there, in turkish.sbl's notation. A leading y may
 // be left out, and the empty suffix leaves the whole place out.
@@ -29,7 +30,7 @@ const BRANCHES: &[&[Place]] = &[
 ];
 
 /// Every chain, in every spelling, on every front.
-pub fn each<E>(visit: &mut dyn FnMut(&str) -> Result<(), E>) -> Result<(), E> {
+pub fn each<E>(visit: Visit<E>) -> Result<(), E> {
     let chains = all();
     let mut word = String::new();
     letters::each(2, &mut |front| {

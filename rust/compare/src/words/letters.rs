@@ -2,6 +2,7 @@
 
 use super::endings::endings;
 use super::odometer;
+use super::Visit;
 
 const VOWELS: &str = "aeıioöuü";
 // y and g, which the stages test by themselves; then characters of 2, 3 and 4 bytes that are no
@@ -20,7 +21,7 @@ pub fn alphabet() -> Vec<char> {
 }
 
 /// Every word of up to `most` characters.
-pub fn each<E>(most: usize, visit: &mut dyn FnMut(&str) -> Result<(), E>) -> Result<(), E> {
+pub fn each<E>(most: usize, visit: Visit<E>) -> Result<(), E> {
     let alphabet = alphabet();
     let mut word = String::new();
     for length in 0..=most {

@@ -1,5 +1,7 @@
 //! Words around the longest that the stages take: 1,022 to 1,025 bytes, of several make-ups.
 
+use super::Visit;
+
 const LENGTHS: std::ops::RangeInclusive<usize> = 1022..=1025;
 // One width throughout, or a mixture; with vowels or without.
 const FILLERS: [&str; 9] = [
@@ -16,7 +18,7 @@ const FILLERS: [&str; 9] = [
 const TAILS: [&str; 7] = ["", "lar", "mişsinizcesine", "sınızdır", "d", "ğ", "乡"];
 
 /// Every filler with every tail at every length, padded by the letter b before or after the filler.
-pub fn each<E>(visit: &mut dyn FnMut(&str) -> Result<(), E>) -> Result<(), E> {
+pub fn each<E>(visit: Visit<E>) -> Result<(), E> {
     for length in LENGTHS {
         for filler in FILLERS {
             for tail in TAILS {

@@ -1,11 +1,12 @@
 //! The words that document 01 names, and every word one letter away from one of them.
 
 use super::letters::alphabet;
+use super::Visit;
 use shared::named::NAMED;
 
 /// Each word, and at each of its characters the word without it, with another letter for it, and
 /// with one more letter before it or at the end.
-pub fn each<E>(visit: &mut dyn FnMut(&str) -> Result<(), E>) -> Result<(), E> {
+pub fn each<E>(visit: Visit<E>) -> Result<(), E> {
     let letters = alphabet();
     for word in NAMED {
         visit(word)?;

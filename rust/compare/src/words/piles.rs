@@ -2,7 +2,8 @@
 
 use super::endings::endings;
 use super::odometer;
-use super::random::Random;
+use super::random::{each_drawn, Random};
+use super::Visit;
 
 // No vowel, one, or several that harmonise or do not; vowels and consonants at the end; the two
 // reserved words.
@@ -26,48 +27,33 @@ const FRONTS: [&str; 16] = [
 ];
 
 /// Every pile of one and of two endings on every front, then `count` piles of three.
-pub fn each<E>(
-    count: usize,
-    mut random: Random,
-    visit: &mut dyn FnMut(&str) -> Result<(), E>,
-) -> Result<(), E> {
+pub fn each<E>(count: usize, mut random: Random, visit: Visit<E>) -> Result<(), E> {
     let forms = forms();
     let mut word = String::new();
-    let mut pile = |front: &str, digits: &[usize]| {
-        word.clear();
-        word.push_str(front);
-        word.extend(digits.iter().map(|&digit| forms[digit].as_str()));
-        visit(&word)
-    };
     for front in FRONTS {
         for height in 1..=2 {
-            odometer::each(forms.len(), height, &mut |digits| pile(front, digits))?;
+            odometer::each(forms.len(), height, &mut |digits| {
+                word.clear();
+                word.push_str(front);
+                word.extend(digits.iter().map(|&digit| forms[digit].as_str()));
+                visit(&word)
+            })?;
         }
     }
-    for _ in 0..count {
-        let digits = [(); 3].map(|()| random.below(forms.len()));
-        pile(FRONTS[random.below(FRONTS.len())], &digits)?;
-    }
-    Ok(())
+    each_drawn(count, visit, |word| {
+        let pile = [(); 3].map(|()| random.pick(&forms).as_str());
+        word.push_str(FRONTS[random.below(FRONTS.len())]);
+        word.extend(pile);
+    })
 }
 
 /// `count` piles of four endings.
-pub fn each_of_four<E>(
-    count: usize,
-    mut random: Random,
-    visit: &mut dyn FnMut(&str) -> Result<(), E>,
-) -> Result<(), E> {
+pub fn each_of_four<E>(count: usize, mut random: Random, visit: Visit<E>) -> Result<(), E> {
     let forms = forms();
-    let mut word = String::new();
-    for _ in 0..count {
-        word.clear();
+    each_drawn(count, visit, |word| {
         word.push_str(FRONTS[random.below(FRONTS.len())]);
-        for _ in 0..4 {
-            word.push_str(random.pick(&forms).as_str());
-        }
-        visit(&word)?;
-    }
-    Ok(())
+        word.extend((0..4).map(|_| random.pick(&forms).as_str()));
+    })
 }
 
 /// The endings, and the endings after a y.

@@ -2,6 +2,7 @@
 
 use super::endings::endings;
 use super::letters::alphabet;
+use super::Visit;
 
 /// The generator SplitMix64.
 pub struct Random {
@@ -50,22 +51,29 @@ const EDGE_POINTS: [char; 10] = [
 ];
 
 /// `count` random words, some of which end as the stages expect.
-pub fn each<E>(
-    count: usize,
-    mut random: Random,
-    visit: &mut dyn FnMut(&str) -> Result<(), E>,
-) -> Result<(), E> {
+pub fn each<E>(count: usize, mut random: Random, visit: Visit<E>) -> Result<(), E> {
     let letters = alphabet();
     let endings = endings();
-    let mut word = String::new();
-    for _ in 0..count {
-        word.clear();
+    each_drawn(count, visit, |word| {
         for _ in 0..random.below(20) {
             word.push(character(&mut random, &letters));
         }
         for _ in 0..random.below(3) {
             word.push_str(random.pick(&endings).as_str());
         }
+    })
+}
+
+/// Visits `count` words, each of which `draw` puts into an empty string.
+pub fn each_drawn<E>(
+    count: usize,
+    visit: Visit<E>,
+    mut draw: impl FnMut(&mut String),
+) -> Result<(), E> {
+    let mut word = String::new();
+    for _ in 0..count {
+        word.clear();
+        draw(&mut word);
         visit(&word)?;
     }
     Ok(())

@@ -5,16 +5,13 @@ use super::chains;
 use super::letters::alphabet;
 use super::piles;
 use super::random::Random;
+use super::Visit;
 
 const LEAST: usize = 15;
 const MOST: usize = 18;
 
 /// `count` such words.
-pub fn each<E>(
-    count: usize,
-    mut random: Random,
-    visit: &mut dyn FnMut(&str) -> Result<(), E>,
-) -> Result<(), E> {
+pub fn each<E>(count: usize, mut random: Random, visit: Visit<E>) -> Result<(), E> {
     let letters = alphabet();
     let forms = counted(piles::forms());
     let chains = counted(chains::all());
