@@ -86,28 +86,26 @@ lead-elim P Q b = leadIn-elim P Q table37 b
 
 -- ---- what the rows say together ----
 
--- a character begins with every byte from the second row's first to the last row's last
-pub lead-rows : (x : ℕ) → 0xC2 ≤ x → x < 0xF5 → lead x .ok ≡ true
-unfolding table37 due
-lead-rows x l h =
-    below 0xE0 (λ u. ap ok (lead-in 1 x (omega arith) (omega arith) (omega arith) (omega arith))) (λ f.
-    below 0xE1 (λ u. ap ok (lead-in 2 x (omega arith) (omega arith) (omega arith) (omega arith))) (λ f.
-    below 0xED (λ u. ap ok (lead-in 3 x (omega arith) (omega arith) (omega arith) (omega arith))) (λ f.
-    below 0xEE (λ u. ap ok (lead-in 4 x (omega arith) (omega arith) (omega arith) (omega arith))) (λ f.
-    below 0xF0 (λ u. ap ok (lead-in 5 x (omega arith) (omega arith) (omega arith) (omega arith))) (λ f.
-    below 0xF1 (λ u. ap ok (lead-in 6 x (omega arith) (omega arith) (omega arith) (omega arith))) (λ f.
-    below 0xF4 (λ u. ap ok (lead-in 7 x (omega arith) (omega arith) (omega arith) (omega arith))) (λ f.
-    ap ok (lead-in 8 x (omega arith) (omega arith) (omega arith) (omega arith)))))))))
-  where
-    ok : Due → Bool
-    ok d = d .ok
+-- rows that follow on one another, from byte n to below m
+abbrev Chain : ℕ → List Row → ℕ → Type 0
+Chain n [] m = n ≡ m
+Chain n (r ∷ rs) m = (r .from ≡ n) × Chain (suc (r .upto)) rs m
 
-    below : (n : ℕ) → (x < n → lead x .ok ≡ true) → (n ≤ x → lead x .ok ≡ true) → lead x .ok ≡ true
-    below n p q = go (ltb x n) refl
-      where
-        go : (t : Bool) → ltb x n ≡ t → lead x .ok ≡ true
-        go true e = p (ltb-true x n e)
-        go false e = q (ltb-false x n e)
+-- such rows leave out no byte
+leadIn-chain : (n m : ℕ) (rs : List Row) (x : ℕ) → Chain n rs m → n ≤ x → x < m → leadIn rs x .ok ≡ true
+unfolding leadIn due
+leadIn-chain n m [] x h l u = absurd (omega arith)
+leadIn-chain n m (r ∷ rs) x h l u =
+    go (leb x (r .upto)) refl (λ f. leadIn-chain (suc (r .upto)) m rs x (h .1) f u)
+  where
+    go : (t : Bool) → leb x (r .upto) ≡ t → (r .upto < x → leadIn rs x .ok ≡ true) → leadIn (r ∷ rs) x .ok ≡ true
+    go true e k = ap (λ (d : Due). d .ok) (in-row r rs x (omega arith) (leb-true x (r .upto) e))
+    go false e k = ap (λ (d : Due). d .ok) (above-row r rs x (leb (r .from) x) (leb-false x (r .upto) e)) ∙ k (leb-false x (r .upto) e)
+
+-- all rows but the first do
+pub lead-rows : (x : ℕ) → 0xC2 ≤ x → x < 0xF5 → lead x .ok ≡ true
+unfolding lead table37
+lead-rows x l h = ap (λ (d : Due). d .ok) (past-rows 1 table37 x (omega arith)) ∙ leadIn-chain 0xC2 0xF5 (drop 1 table37) x (omega arith) l h
 
 -- the first bytes of all rows
 pub lead-ok : (x : ℕ) → ltb x 0x80 || leb 0xC2 x && ltb x 0xF5 ≡ lead x .ok
