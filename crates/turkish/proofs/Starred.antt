@@ -1,5 +1,5 @@
--- The words that document 01 marks for proof ("Words with their outcome"), as one table, proved over the definitions that the
--- calls' contracts cite. Assumes nothing.
+-- The words that document 01 marks for proof ("Words with their outcome"), as one table, and a second one of the words that tell its
+-- plausible misreadings apart, both proved over the definitions that the calls' contracts cite. Assumes nothing.
 use Prim.Native.Nat.{ℕ, _+_}
 use Prim.Native.String.{String}
 use mathlib.Core.Path.{_≡_, refl}
@@ -81,13 +81,28 @@ table =
     ∷ passOf "kanaddır" "kanadı" true true true
     ∷ []
 
--- every starred word has its outcome
-pub starred : map (λ (r : Row). r .found) table ≡ map (λ (r : Row). r .expected) table
-unfolding table stageOf postludeOf passOf word
+-- what a misreading would get wrong ("Plausible, yet not Turkish as turkish.sbl has it"): branch 2's cut kept where ymUs_ fails, a
+-- flag cleared wherever lAr fits, ğ repaired by the d/g rule, the postlude run after branch 3; the other two are starred
+unfoldable pub misread : List Row
+misread =
+    stageOf "evcesine" "evcesine" false true
+    ∷ stageOf "ablardır" "ablar" true true
+    ∷ stageOf "evmişlerdir" "ev" true true
+    ∷ postludeOf "ayağ" "ayak" true
+    ∷ passOf "kitablar" "kitab" true true false
+    ∷ []
+
+-- each row has what is expected
+abbrev pub Met : List Row → Type 0
+Met rows = map (λ (r : Row). r .found) rows ≡ map (λ (r : Row). r .expected) rows
+
+-- every word of both tables has its outcome
+pub outcomes : Met table × Met misread
+unfolding table misread stageOf postludeOf passOf word
     stageCall stagePart keptLength postludeCall postludeText postludeRefusal passCall passText passRefusal refusalInto accepted refusal limit chars bytes
     encodeAll encode decode isText accepts next lead leadIn table37 due refused before beforeWithin lastChar charAt lastWidth width goesOn continuation placeBack
     pass passStage postlude postludeAnswer reserved same appendU gained harden hard
     kept stage staged stem branch1 branch2 branch3 branch4 branch5 branch6 person try run markOf optionalY key asking first after more
     marked yUm sUn yUz sUnUz lAr nUz DUr cAsInA yDU ysA ymUs yken
     syllables harmony beyond lastVowel partner partnersIn partnerTable vowel vowels starts among any back text
-starred = refl
+outcomes = (refl, refl)

@@ -2,20 +2,18 @@
 -- a line or two from the files named for what they prove. That the code gives these definitions' answers is the contracts' part.
 -- Assumes nothing.
 use Prim.Native.Nat.{ℕ, _+_, _≤_, _<_}
-use mathlib.Core.Path.{_≡_, refl, sym, _∙_}
-use mathlib.Core.Bool.{Bool, true, false, cond, not}
-use mathlib.Core.List.{List, map, List·Memᴰ}
+use mathlib.Core.Path.{_≡_}
+use mathlib.Core.Bool.{true, false, cond}
+use mathlib.Core.List.{List, List·Memᴰ}
 use mathlib.Core.Logic.{_↔_}
 use lib.ListN.{length, take}
 use lib.Dec.{eqb}
-use Rattle.utf8.specs.Text.{TextOf}
 use Rattle.utf8.specs.Validity.{isText}
-use Rattle.utf8.specs.Characters.{continuation}
 use Rattle.turkish.specs.Letters.{starts}
 use Rattle.turkish.specs.Harmony.{syllables}
 use Rattle.turkish.specs.Stage.{stage, kept}
 use Rattle.turkish.specs.Postlude.{reserved, appendU, harden, postlude}
-use Rattle.turkish.specs.Calls.{chars, bytes, limit, accepted, keptLength, stagePart, stageCall, postludeText, postludeRefusal, postludeOut, foldText, foldRefusal, foldOut, passText, passRefusal, passOut}
+use Rattle.turkish.specs.Calls.{chars, bytes, accepted, keptLength, stagePart, stageCall, postludeText, postludeRefusal, postludeOut, foldText, foldRefusal, foldOut, passText, passRefusal, passOut}
 use Rattle.turkish.proofs.Laws.Bounds.{stage-most, stage-yes, stage-no}
 use Rattle.turkish.proofs.Laws.Accepted.{accepted-iff}
 use Rattle.turkish.specs.Fronts.{mostRemoved, Pair, leftEmpty, oneOf}
@@ -58,10 +56,15 @@ pub nothing-left : (w : List ℕ) → accepted w ≡ true → eqb (stageCall w .
 unfolding stageCall
 nothing-left w a = rw a (left-empty w a)
 
--- ---- the starred words of document 01 ----
+-- ---- words with their outcome ----
 
-pub starred-words : map (λ (r : Starred.Row). r .found) Starred.table ≡ map (λ (r : Starred.Row). r .expected) Starred.table
-starred-words = Starred.starred
+-- the starred words of document 01
+pub starred-words : Starred.Met Starred.table
+starred-words = Starred.outcomes .0
+
+-- the words that tell its plausible misreadings apart
+pub misreadings-told : Starred.Met Starred.misread
+misreadings-told = Starred.outcomes .1
 
 -- ---- the suffix stage ----
 
