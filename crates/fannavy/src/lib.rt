@@ -5,7 +5,7 @@ use turkish::answer::PassAnswer;
 use turkish::answer::PostludeAnswer;
 use turkish::answer::StageAnswer;
 use turkish::answer::SyllableAnswer;
-use utf8::validity;
+use words::check;
 use words::fold;
 use words::pass;
 use words::postlude;
@@ -21,7 +21,7 @@ ghost use Rattle.turkish.specs.Calls.{syllableCall, stageCall, postludeCall, po
 pub extern "C" fn fannavy_is_utf8(w: &[u8]) -> bool
     ensures { λ r. ⌜ r ≡ isText (now (w .entry)) ⌝ }
 {
-    validity::is_utf8(w)
+    check::is_utf8(w)
 }
 
 // Whether the word has two or more vowels.

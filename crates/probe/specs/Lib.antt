@@ -1,2 +1,3 @@
--- How a step's answer is laid out for the comparison.
+-- How answers are laid out for the comparison.
 pub mod Flat
+pub mod Part

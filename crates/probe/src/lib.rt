@@ -1,9 +1,14 @@
-// The cursor's steps for the comparison with the Rust: the record goes in and comes out as plain numbers. No host links this.
+// For the comparison with the Rust: the cursor's steps, the record going in and coming out as plain numbers, and the suffix stage's
+// part, copied, since no exported call can hand back a slice. No host links this.
 use utf8::cursor::Cursor;
 use utf8::literal;
 use utf8::step;
+use words::stem;
 ghost use mathlib.Core.Path.{_≡_};
+ghost use lib.ListN.{length};
 ghost use Rattle.utf8.specs.Steps.{previousChar, nextChar, eqSB, eqS};
+ghost use Rattle.turkish.specs.Calls.{stagePart};
+ghost use Rattle.probe.specs.Part.{partLength, partOut};
 ghost use Rattle.probe.specs.Flat.{flatStep, flatLiteral, cursorOf};
 
 // A step's answer, laid out flat; ch is 0 for a literal.
@@ -120,4 +125,16 @@ pub extern "C" fn probe_eq_s(
             limit_backward: backward,
         },
     ))
+}
+
+// Copies the part of the word that the suffix stage keeps, and gives its length; 0, and nothing written, where it does not fit.
+#[no_mangle]
+pub extern "C" fn probe_stem_part(w: &[u8], out: &mut [u8]) -> usize
+    ensures { λ r. ⌜ (r ≡ partLength (stagePart (now (w .entry))) (length (now (out .entry)))) × (now (out .exit) ≡ partOut (stagePart (now (w .entry))) (now (out .entry))) ⌝ }
+{
+    let part = stem::stem_part(w);
+    if out.len() < part.len() {
+        return 0;
+    }
+    bytes::copy(part, out)
 }

@@ -13,4 +13,5 @@ pub mod Marks
 pub mod Reach
 pub mod Flag
 pub mod StageAnswer
+pub mod Hardened
 pub mod Repairs

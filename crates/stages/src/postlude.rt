@@ -1,5 +1,8 @@
 // The postlude (turkish.rs, `r_postlude` and what it calls), on the first n bytes of a word. It rebuilds no text: it answers how many
 // bytes stay and what follows them.
+use crate::among::Among;
+use crate::among::find_among_b;
+use crate::tables;
 use crate::walk;
 use utf8::characters;
 use utf8::literal;
@@ -73,16 +76,19 @@ pub fn append_U_to_stems_ending_with_d_or_g(w: &[u8], n: usize) -> u32
     0
 }
 
-// A final consonant hardened: b, c, d, ğ become p, ç, t, k.
+// A final consonant hardened: A_23's b, c, d, ğ become p, ç, t, k.
 pub fn post_process_last_consonants(ch: u32) -> u32
     ensures { λ r. ⌜ r ≡ hard ch ⌝ }
 {
-    match ch {
-        0x62 => 0x70,
-        0x63 => 0xE7,
-        0x64 => 0x74,
-        0x11F => 0x6B,
-        _ => ch,
+    let last = [ch];
+    let Among::Key(i, _) = find_among_b(&last, 0, &tables::A_23, 1) else {
+        return ch;
+    };
+    match i {
+        0 => 0x70,
+        1 => 0xE7,
+        2 => 0x74,
+        _ => 0x6B,
     }
 }
 

@@ -1,5 +1,5 @@
-// The key tables of the marks (turkish.rs, A_12 to A_22), in the Rust's order. Each key stands from its end, in code points, filled
-// up with 0 to the table's width.
+// The key tables of the marks and of the postlude (turkish.rs, A_12 to A_23), in the Rust's order. Each key stands from its end, in
+// code points, filled up with 0 to the table's width.
 
 pub const A_12: [u32; 8] = [
     0x6D,
@@ -266,4 +266,11 @@ pub const A_22: [u32; 12] = [
     0x15F,
     0xFC,
     0x6D, // müş
+];
+
+pub const A_23: [u32; 4] = [
+    0x62, // b
+    0x63, // c
+    0x64, // d
+    0x11F, // ğ
 ];

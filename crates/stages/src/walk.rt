@@ -18,13 +18,14 @@ pub fn last_vowel(w: &[u8], c: usize) -> LastVowel
     ensures { λ r. ⌜ r ≡ lastVowelOf (now (w .entry)) c ⌝ }
 {
     let mut at = c;
-    while 0 < at {
+    'gopast: while 0 < at {
         let n = characters::last_width(w, at);
         at -= n;
         let ch = characters::char_at(w, at, n);
-        if vowel::is_vowel(ch) {
-            return LastVowel { ch, at };
+        if !vowel::is_vowel(ch) {
+            continue 'gopast;
         }
+        return LastVowel { ch, at };
     }
     LastVowel { ch: 0, at: 0 }
 }

@@ -1,6 +1,8 @@
 //! The proved calls on words, each known by the type of its answer.
 
-use crate::ffi::{self, FannavyFold, FannavyPass, FannavyPostlude, FannavyStage, FannavySyllable};
+use crate::ffi::{
+    self, FannavyFold, FannavyPass, FannavyPostlude, FannavyStage, FannavySyllable, StagePart,
+};
 use crate::lent::Lent;
 use crate::output::Output;
 use std::fmt::Debug;
@@ -79,6 +81,31 @@ impl Call for FannavyStage {
     // The front part of the word.
     fn text<'a>(&self, lent: &'a Lent, _: &'a Output) -> Option<&'a [u8]> {
         lent.word().get(..self.length)
+    }
+}
+
+// It has no number: a refused word gives the empty part.
+impl Call for StagePart {
+    const NAME: &'static str = "the stage's part";
+    const MORE: Option<usize> = Some(0);
+
+    fn call(lent: &mut Lent, output: &mut Output) -> Self {
+        let (w, n) = lent.slice();
+        let (out, room) = output.slice();
+        let length = unsafe { ffi::probe_stem_part(w, n, out, room) };
+        StagePart { length }
+    }
+
+    fn refused(_: u32) -> Self {
+        StagePart { length: 0 }
+    }
+
+    fn refusal(&self) -> u32 {
+        0
+    }
+
+    fn written(&self) -> usize {
+        self.length
     }
 }
 

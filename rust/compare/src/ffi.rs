@@ -16,7 +16,14 @@ pub struct ProbeStep {
     pub limit_backward: usize,
 }
 
+/// The length of the suffix stage's part, which is copied to the output; 0 on a refusal.
+#[derive(Clone, Copy, Debug, PartialEq)]
+pub struct StagePart {
+    pub length: usize,
+}
+
 extern "C" {
+    pub fn probe_stem_part(w: *const u8, n: usize, out: *mut u8, m: usize) -> usize;
     pub fn probe_previous_char(
         w: *const u8,
         n: usize,

@@ -73,6 +73,12 @@ pub const PARTS: &[Part] = &[
     },
     #[cfg(feature = "oracle")]
     Part {
+        name: "part",
+        what: "the part that the suffix stage hands back, with the crate's text",
+        run: Run::Words(stages::part),
+    },
+    #[cfg(feature = "oracle")]
+    Part {
         name: "postlude",
         what: "the postlude's text and answer, with the crate's own",
         run: Run::Words(stages::postlude),

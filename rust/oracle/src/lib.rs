@@ -1,6 +1,6 @@
-//! The Turkish module of rust-stemmers 1.2.0 as an oracle: three of its stages by themselves, the
-//! word pass composed of them, and the crate's whole run. The crate's files are read at build time
-//! and are not part of this repository.
+//! The Turkish module of rust-stemmers 1.2.0 as an oracle: three of its stages by themselves, and the
+//! word pass composed of them. The crate's files are read at build time and are not part of this
+//! repository.
 
 include!(concat!(env!("OUT_DIR"), "/snowball.rs"));
 
@@ -102,13 +102,6 @@ fn mended(text: Cow<str>) -> Cow<str> {
     changed.map_or(text, Cow::Owned)
 }
 
-/// The crate's whole Turkish run; like the crate's own call it gives the text alone.
-pub fn stem(word: &str) -> Cow<'_, str> {
-    let mut env = SnowballEnv::create(word);
-    turkish::stem(&mut env);
-    env.get_current()
-}
-
 #[cfg(test)]
 mod tests {
     use super::*;
@@ -193,13 +186,6 @@ mod tests {
             assert!(!more_than_one_syllable_word(word));
             assert_eq!(stage(word), kept(word, false, true));
         }
-    }
-
-    #[test]
-    fn whole_run_ends_after_the_plural() {
-        assert_eq!(stem("evler"), "ev");
-        assert_eq!(stem("siniz"), "");
-        assert_eq!(stem("lar"), "lar");
     }
 
     #[test]

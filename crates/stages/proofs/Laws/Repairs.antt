@@ -83,11 +83,6 @@ gained-short v = gained-elim (λ n. n < 0x800) v (omega arith) (omega arith) (om
 
 -- ---- the consonant hardened ----
 
--- no other character hardens
-pub hard-none : (c : ℕ) → (c ≡ 0x62 → ⊥) → (c ≡ 0x63 → ⊥) → (c ≡ 0x64 → ⊥) → (c ≡ 0x11F → ⊥) → c ≡ hard c
-unfolding hard
-hard-none c p q r s = rw (ne-eqb c 0x62 p, ne-eqb c 0x63 q, ne-eqb c 0x64 r, ne-eqb c 0x11F s)
-
 -- what holds of p, ç, t, k and of the character itself holds of it hardened
 pub hard-elim : (P : ℕ → Type 0) (c : ℕ) → P 0x70 → P 0xE7 → P 0x74 → P 0x6B → P c → P (hard c)
 unfolding hard

@@ -2,7 +2,9 @@
 //! words over the limit, and several causes at once.
 
 use crate::desk::Desk;
-use crate::ffi::{FannavyFold, FannavyPass, FannavyPostlude, FannavyStage, FannavySyllable};
+use crate::ffi::{
+    FannavyFold, FannavyPass, FannavyPostlude, FannavyStage, FannavySyllable, StagePart,
+};
 use crate::lent::Lent;
 use crate::report::{Difference, Report};
 use crate::share::share_out;
@@ -46,6 +48,7 @@ fn some_rooms(desk: &mut Desk, word: &[u8], report: &mut Report) -> Outcome {
     desk.refuses::<FannavySyllable>(0, report)?;
     desk.refuses::<FannavyStage>(0, report)?;
     let n = word.len();
+    desk.refuses::<StagePart>(n, report)?;
     for room in [0, n.saturating_sub(1), n, n + 1, n + 2, n + 200] {
         with_output(desk, room, report)?;
     }

@@ -2,7 +2,7 @@
 
 use crate::calls::Call;
 use crate::desk::Desk;
-use crate::ffi::{FannavyPass, FannavyPostlude, FannavyStage, FannavySyllable};
+use crate::ffi::{FannavyPass, FannavyPostlude, FannavyStage, FannavySyllable, StagePart};
 use crate::lent::Lent;
 use crate::report::{Difference, Report};
 use crate::share::share_out;
@@ -29,6 +29,14 @@ pub fn stage(words: &Words, report: &mut Report) -> Result<(), Difference> {
             flag: rust.flag,
         };
         (answer, rust.text)
+    })
+}
+
+pub fn part(words: &Words, report: &mut Report) -> Result<(), Difference> {
+    on_words(words, report, |word| {
+        let text = oracle::stem_nominal_verb_suffixes(word).text;
+        let length = text.len();
+        (StagePart { length }, text)
     })
 }
 
