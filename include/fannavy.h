@@ -1,5 +1,5 @@
 /*
- * Fannavy: Turkish stemming whose every promise is proved. For C11 and C++ on x86-64; the calls are
+ * Fannavy: Turkish stemming with proved contracts. For C11 and C++ on x86-64; the calls are
  * in libfannavy.a.
  *
  * A word is w[0] .. w[n - 1]: one Turkish word in UTF-8, in small letters, with no zero byte at its

@@ -10,7 +10,7 @@ use Rattle.listing.specs.Listing.{listLine}
 unfoldable pub put : ℕ → List ℕ → List ℕ → List ℕ
 put at s out = take at out ++ (s ++ drop (at + length s) out)
 
--- the longest line, in bytes: three times the limit and twelve
+-- room for any line, in bytes: three times the limit and twelve; the longest has one fewer
 unfoldable pub lineRoom : ℕ
 lineRoom = 3084
 

@@ -51,7 +51,8 @@ fn feed_byte(b: u8, line: &mut [u8], held: usize, out: &mut [u8], at: usize) -> 
     }
 }
 
-// The block from place `from` on, to the front of the output, as far as there is room for a whole line.
+// The block from place `from` on, to the front of the output, as far as there is room for a whole line. How far that is, `used`, is
+// free in the contract: past one byte at least where there is one, and what was fed up to there is given outright.
 pub fn feed(block: &[u8], from: usize, line: &mut [u8], held: usize, out: &mut [u8]) -> Progress
     requires { ⌜ (from ≤ length (now block)) × (length (now line) ≡ 1025) × (held ≤ 1025) × (3084 ≤ length (now out)) ⌝ }
     ensures { λ r. ⌜ (r .used ≤ length (now (block .entry))) × (from < length (now (block .entry)) → from < r .used) × (r .written ≤ length (now (out .entry))) × (Fed (take (r .used - from) (drop from (now (block .entry)))) (now (line .entry)) (now (line .exit)) (now (out .entry)) (now (out .exit)) held (r .held) 0 (r .written)) ⌝ }

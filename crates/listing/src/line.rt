@@ -18,7 +18,7 @@ ghost use Rattle.stages.specs.Repairs.{repairText};
 ghost use Rattle.listing.specs.Listing.{tab, lineRefusal, yesNo, oneZero, answers, fields, refusedLine, listLine};
 ghost use Rattle.listing.specs.Put.{put, lineLength, lineOut};
 
-// The longest output line: three times the limit, and twelve bytes.
+// Room for any output line: three times the limit, and twelve bytes.
 pub const LINE: usize = 3084;
 
 const TAB: u8 = 0x09;

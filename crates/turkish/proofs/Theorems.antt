@@ -47,7 +47,8 @@ outputs-suffice w a = (postludeText-size w a, passText-size w a, foldText-size w
 
 -- ---- demand 3 ----
 
--- two accepted words of 16 characters or more that share their last 16, with fronts alike in their vowels, fare alike
+-- two accepted words of 16 characters or more that share their last 16, with fronts alike in their vowels, fare alike: equal answers,
+-- and texts that differ in the fronts alone, unless what reaches the postlude is `ad` or `soyad` for one of them
 pub fronts-fare-alike : (u v o p : List ℕ) → Pair u v → length u + 2 ≤ length o → length v + 2 ≤ length p → CallsAlike u v o p
 fronts-fare-alike = calls-alike
 

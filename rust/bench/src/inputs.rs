@@ -1,8 +1,9 @@
-//! The words that are timed: the vocabulary, and words of 1,000 bytes of several make-ups.
+//! The words that are timed: the vocabulary, and words of 24 and of 1,000 bytes of several make-ups.
 
 use compare::words::read_vocabulary;
 use std::path::Path;
 
+const SHORT: usize = 24;
 const LONG: usize = 1000;
 const COPIES: usize = 256;
 
@@ -24,30 +25,42 @@ pub fn inputs(vocabulary: &Path) -> Result<Vec<Input>, String> {
             name: "vocabulary",
             words: read_vocabulary(vocabulary)?,
         },
-        long("1,000 bytes, ASCII", "", "evlerimizdeki", "dirler"),
-        long(
-            "1,000 bytes, Turkish",
-            "",
-            "çalıştırılmış",
-            "mışsınızcasına",
+        copies("24 bytes, ASCII", SHORT, ["", "evlerimizdeki", "dirler"]),
+        copies(
+            "24 bytes, Turkish",
+            SHORT,
+            ["", "çalıştırılmış", "mışsınız"],
         ),
-        long("1,000 bytes, 3-byte characters", "", "乡村小学", "d"),
-        long(
+        copies("1,000 bytes, ASCII", LONG, ["", "evlerimizdeki", "dirler"]),
+        copies(
+            "1,000 bytes, Turkish",
+            LONG,
+            ["", "çalıştırılmış", "mışsınızcasına"],
+        ),
+        copies(
+            "1,000 bytes, 3-byte characters",
+            LONG,
+            ["", "乡村小学", "d"],
+        ),
+        copies(
             "1,000 bytes, 4-byte characters",
-            "",
-            "\u{20061}\u{1F469}",
-            "d",
+            LONG,
+            ["", "\u{20061}\u{1F469}", "d"],
         ),
         // The harmony of every ending is looked for as far as the word's start, in vain.
-        long("1,000 bytes, vowels at both ends", "e", "bcçdfgğ", "lar"),
+        copies(
+            "1,000 bytes, vowels at both ends",
+            LONG,
+            ["e", "bcçdfgğ", "lar"],
+        ),
     ])
 }
 
-// Copies of one word of exactly `LONG` bytes: the front, the filler over and over, letters where no
-// whole character fits, and the tail.
-fn long(name: &'static str, front: &str, filler: &str, tail: &str) -> Input {
+// Copies of one word of exactly `length` bytes: a front, a filler over and over, letters where no
+// whole character fits, and a tail.
+fn copies(name: &'static str, length: usize, [front, filler, tail]: [&str; 3]) -> Input {
     let mut word = String::from(front);
-    let room = LONG - tail.len();
+    let room = length - tail.len();
     for ch in filler.chars().cycle() {
         if word.len() + ch.len_utf8() > room {
             break;
@@ -69,11 +82,13 @@ mod tests {
     use super::*;
 
     #[test]
-    fn long_words_have_their_length() {
+    fn words_have_their_length() {
         for text in ["a", "ı", "乡", "\u{20061}", "ab乡"] {
-            let input = long("", "ı", text, "乡");
-            assert!(input.words.iter().all(|word| word.len() == LONG));
-            assert_eq!(input.bytes(), LONG * COPIES);
+            for length in [SHORT, LONG] {
+                let input = copies("", length, ["ı", text, "乡"]);
+                assert!(input.words.iter().all(|word| word.len() == length));
+                assert_eq!(input.bytes(), length * COPIES);
+            }
         }
     }
 }

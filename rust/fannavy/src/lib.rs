@@ -1,4 +1,4 @@
-//! Turkish stemming whose every promise is proved: the calls of libfannavy.a on slices.
+//! Turkish stemming with proved contracts: the calls of libfannavy.a on slices.
 //!
 //! A word is one Turkish word in UTF-8, in small letters; [`fold`] a heading first. A call that is
 //! lent an output writes its text at the output's start and leaves the bytes past it as they were.
