@@ -5,8 +5,8 @@ use mathlib.Core.Bool.{Bool, cond}
 use mathlib.Core.List.{List, [], _∷_, _++_}
 use lib.ListN.{length, take}
 use lib.Dec.{eqb}
-use Rattle.turkish.specs.Letters.{among}
-use Rattle.turkish.specs.Harmony.{syllables}
+use Rattle.turkish.specs.Letters.{has}
+use Rattle.turkish.specs.Harmony.{moreThanOneSyllable}
 use Rattle.turkish.specs.Stage.{stage}
 use Rattle.turkish.specs.Calls.{chars, refusal, keptLength, passText}
 
@@ -19,7 +19,7 @@ lf = 0x0A
 
 -- number 4, the list's author's, after the word's author's numbers: a tab in a line
 unfoldable pub lineRefusal : List ℕ → ℕ
-lineRefusal w = cond (eqb (refusal w) 0) (cond (among w tab) 4 0) (refusal w)
+lineRefusal w = cond (eqb (refusal w) 0) (cond (has w tab) 4 0) (refusal w)
 
 unfoldable pub yesNo : Bool → ℕ
 yesNo t = cond t (code "Y") (code "N")
@@ -34,7 +34,7 @@ answers syllable stages flag = tab ∷ yesNo syllable ∷ tab ∷ yesNo stages �
 -- word, syllable check, stage, flag, kept text, pass result
 unfoldable pub fields : List ℕ → List ℕ
 fields w =
-    w ++ (answers (syllables (chars w)) (stage (chars w) .answer) (stage (chars w) .flag)
+    w ++ (answers (moreThanOneSyllable (chars w)) (stage (chars w) .yes) (stage (chars w) .flag)
     ++ (take (keptLength w) w ++ (tab ∷ (passText w ++ (lf ∷ [])))))
 
 -- a refused line: `!`, one tab and the number, and nothing of the word

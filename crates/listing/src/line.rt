@@ -10,8 +10,8 @@ ghost use mathlib.Core.Path.{_≡_};
 ghost use mathlib.Core.Bool.{true};
 ghost use Prim.Native.Nat.{_+_, _≤_, _<_};
 ghost use lib.ListN.{length};
-ghost use Rattle.turkish.specs.Letters.{among};
-ghost use Rattle.turkish.specs.Harmony.{syllables};
+ghost use Rattle.turkish.specs.Letters.{has};
+ghost use Rattle.turkish.specs.Harmony.{moreThanOneSyllable};
 ghost use Rattle.turkish.specs.Calls.{chars, accepted, passText};
 ghost use Rattle.stages.specs.Reach.{stemOf};
 ghost use Rattle.stages.specs.Repairs.{repairText};
@@ -27,7 +27,7 @@ const LF: u8 = 0x0A;
 
 // Whether a tab stands in the line.
 fn has_tab(w: &[u8]) -> bool
-    ensures { λ r. ⌜ r ≡ among (now (w .entry)) tab ⌝ }
+    ensures { λ r. ⌜ r ≡ has (now (w .entry)) tab ⌝ }
 {
     let mut i = 0;
     while i < w.len() {
@@ -104,7 +104,7 @@ fn put_repair(out: &mut [u8], at: usize, w: &[u8], r: Repair) -> usize
 
 // Writes the pass's text of an accepted word, whose syllable answer and stage are known.
 fn put_pass(out: &mut [u8], at: usize, w: &[u8], syllable: bool, s: Stem) -> usize
-    requires { ⌜ (accepted (now w) ≡ true) × (syllable ≡ syllables (chars (now w))) × (s ≡ stemOf (now w)) × (at + (length (now w) + 2) ≤ length (now out)) ⌝ }
+    requires { ⌜ (accepted (now w) ≡ true) × (syllable ≡ moreThanOneSyllable (chars (now w))) × (s ≡ stemOf (now w)) × (at + (length (now w) + 2) ≤ length (now out)) ⌝ }
     ensures { λ n. ⌜ (n ≡ at + length (passText (now (w .entry)))) × (now (out .exit) ≡ put at (passText (now (w .entry))) (now (out .entry))) ⌝ }
 {
     if !syllable {

@@ -15,7 +15,7 @@ use Rattle.utf8.specs.Text.{TextOf}
 use Rattle.utf8.specs.Characters.{goesOn, lastWidth, charAt, lastChar, beforeWithin, before, back}
 use Rattle.utf8.proofs.Laws.Characters.{lastWidth-le, before-step}
 use Rattle.utf8.proofs.TextCharacters.{encodeAll-append, encode-before, take-back}
-use Rattle.turkish.specs.Letters.{text, among}
+use Rattle.turkish.specs.Letters.{text, has}
 use Rattle.turkish.specs.Harmony.{lastVowel}
 use Rattle.turkish.specs.Postlude.{reserved, gained, appendU, hard, harden, postlude, postludeAnswer}
 use Rattle.turkish.specs.Calls.{bytes}
@@ -97,7 +97,7 @@ shortRepair-text w keep v h = rw (lt-ltb v 0x800 h) (go (ltb v 0x80))
 harden-appendU : (cs : List ℕ) → (appended cs ≡ 0 → ⊥) → harden (appendU cs) ≡ appended cs ∷ cs
 unfolding appended appendU harden hard
 harden-appendU [] d = absurd (d refl)
-harden-appendU (c ∷ cs) d = go (among (text "dg") c) d
+harden-appendU (c ∷ cs) d = go (has (text "dg") c) d
   where
     g : ℕ
     g = gained (lastVowel cs)
@@ -112,7 +112,7 @@ harden-appendU (c ∷ cs) d = go (among (text "dg") c) d
 appendU-none : (cs : List ℕ) → appended cs ≡ 0 → appendU cs ≡ cs
 unfolding appended appendU
 appendU-none [] e = refl
-appendU-none (c ∷ cs) e = go (among (text "dg") c) e
+appendU-none (c ∷ cs) e = go (has (text "dg") c) e
   where
     g : ℕ
     g = gained (lastVowel cs)

@@ -21,4 +21,4 @@ inHarmony false m = Fails
 
 -- the whole stage's answer
 unfoldable pub stemOf : List ℕ → Stem
-stemOf w = record { kept = keptLength w; yes = stage (chars w) .answer; flag = stage (chars w) .flag }
+stemOf w = record { kept = keptLength w; yes = stage (chars w) .yes; flag = stage (chars w) .flag }

@@ -5,7 +5,7 @@ use mathlib.Core.List.{List, [], _∷_, _++_}
 use lib.ListN.{take}
 use lib.Dec.{eqb, ltb}
 use Rattle.utf8.specs.Characters.{lastWidth, before}
-use Rattle.turkish.specs.Letters.{text, among}
+use Rattle.turkish.specs.Letters.{text, has}
 use Rattle.turkish.specs.Harmony.{lastVowel}
 use Rattle.turkish.specs.Postlude.{reserved, gained, hard}
 use Rattle.stages.specs.declared.postlude.Repair.{Repair}
@@ -27,7 +27,7 @@ shortRepair keep v =
 -- the vowel that the characters gain, 0 where they gain none
 unfoldable pub appended : List ℕ → ℕ
 appended [] = 0
-appended (c ∷ cs) = cond (among (text "dg") c) (gained (lastVowel cs)) 0
+appended (c ∷ cs) = cond (has (text "dg") c) (gained (lastVowel cs)) 0
 
 -- the last of the characters hardened, in a word whose first n bytes they are
 unfoldable pub hardened : List ℕ → ℕ → List ℕ → Repair

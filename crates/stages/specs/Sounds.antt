@@ -4,7 +4,7 @@ use mathlib.Core.Bool.{Bool, cond, _||_}
 use mathlib.Core.List.{List, [], _∷_}
 use lib.ListN.{getD, length}
 use lib.Dec.{eqb}
-use Rattle.turkish.specs.Letters.{any, among}
+use Rattle.turkish.specs.Letters.{any, has}
 use Rattle.turkish.specs.Harmony.{vowel, partnersIn, partnerTable}
 use Rattle.stages.specs.declared.vowel.Vowel.{Vowel}
 use Rattle.stages.specs.declared.vowel.Sound.{Sound}

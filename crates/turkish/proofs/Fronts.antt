@@ -33,7 +33,7 @@ pair-fares-alike u v p =
     let r : chars v ≡ chars (end u) ++ chars (front v) = rw (p .ends) (chars-parts v s) in
     record {
       syllable = rw (q, r) (n .syllable);
-      answer = rw (q, r) (n .answer);
+      yes = rw (q, r) (n .yes);
       flag = rw (q, r) (n .flag);
       texts = λ h k. let x = n .texts (rw q at h) (rw r at k) in
           (bytes (x .0), passText-front u (x .0) t q (x .1), passText-front v (x .0) s r (x .2));
@@ -48,7 +48,7 @@ module _ (w : List ℕ) (room : ℕ) (h : accepted w ≡ true) (l : length w + 2
   pass-unrefused = rw (h, le-ltb room (length w + 2) l)
 
   -- the call gives the pass's answers
-  pub call-answers : (passCall w room .syllable ≡ pass (chars w) .syllable) × (passCall w room .yes ≡ pass (chars w) .answer) × (passCall w room .flag ≡ pass (chars w) .flag)
+  pub call-answers : (passCall w room .syllable ≡ pass (chars w) .syllable) × (passCall w room .yes ≡ pass (chars w) .yes) × (passCall w room .flag ≡ pass (chars w) .flag)
   unfolding passCall
   call-answers = rw pass-unrefused (refl, refl, refl)
 
@@ -65,7 +65,7 @@ calls-alike u v o p q l m =
     let b = call-answers v (length p) (q .accepts .1) m in
     record {
       syllable = a .0 ∙ f .syllable ∙ sym (b .0);
-      answer = a .1 ∙ f .answer ∙ sym (b .1);
+      yes = a .1 ∙ f .yes ∙ sym (b .1);
       flag = a .2 ∙ f .flag ∙ sym (b .2);
       results = λ h k. let t = f .texts h k in
           (t .0, result-text u o (q .accepts .0) l ∙ t .1, result-text v p (q .accepts .1) m ∙ t .2);

@@ -8,32 +8,32 @@ use native.Mathlib.Omega.{arith}
 use lib.ListN.{length, drop, length-drop}
 use lib.Seq.{drop-append-le}
 use lib.Dec.{eqb}
-use Rattle.turkish.specs.Letters.{text, back, among, starts}
-use Rattle.turkish.specs.Harmony.{vowel, partner, lastVowel, beyond, harmony, syllables}
-use Rattle.turkish.specs.Grammar.{Out, took, more, after, asking, key, optionalY, markOf, Command, mark, _then_, _or_, nothing, unset, try, run}
+use Rattle.turkish.specs.Letters.{text, fromEnd, has, starts}
+use Rattle.turkish.specs.Harmony.{vowel, partner, lastVowel, beforeLastVowel, harmony, moreThanOneSyllable}
+use Rattle.turkish.specs.Grammar.{Out, took, more, after, asking, among, optionalY, markOf, Command, mark, _then_, _or_, nothing, unset, try, run}
 use Rattle.turkish.specs.Marks.{marked, yUm, sUn, yUz, sUnUz, lAr, nUz, DUr, cAsInA, yDU, ysA, ymUs, yken}
-use Rattle.turkish.specs.Stage.{person, branch1, branch2, branch3, branch4, branch5, branch6, stem, staged, stage, kept}
+use Rattle.turkish.specs.Stage.{person, branch1, branch2, branch3, branch4, branch5, branch6, branches, staged, stage, kept}
 use Rattle.turkish.specs.Postlude.{reserved, gained, appendU, hard, harden, postlude}
 use Rattle.turkish.specs.WordPass.{passStage, pass}
 use Rattle.turkish.proofs.Laws.Outcome.{Post, unfit, fits}
-use Rattle.turkish.proofs.Laws.Bounds.{longest, most, key-most, run-most, stage-most}
-use Rattle.turkish.proofs.Laws.Vowels.{any-vowels, partner-vowel, among-last-beyond}
+use Rattle.turkish.proofs.Laws.Bounds.{longest, most, among-most, run-most, stage-most}
+use Rattle.turkish.proofs.Laws.Vowels.{any-vowels, partner-vowel, has-last-beforeLastVowel}
 
 -- ---- alike fronts ----
 
--- characters told nearest first agree in the last vowel, or both have none, and in the set of the vowels beyond it
+-- characters told nearest first agree in the last vowel, or both have none, and in the set of the vowels before it
 pub record AlikeChars (f g : List ℕ) : Type 0 where
   pub last : lastVowel f ≡ lastVowel g
-  pub others : (v : ℕ) → vowel v ≡ true → among (beyond f) v ≡ among (beyond g) v
+  pub others : (v : ℕ) → vowel v ≡ true → has (beforeLastVowel f) v ≡ has (beforeLastVowel g) v
 
 -- they stay alike behind one more character
 alike-cons : (c : ℕ) (f g : List ℕ) → AlikeChars f g → AlikeChars (c ∷ f) (c ∷ g)
-unfolding lastVowel beyond
+unfolding lastVowel beforeLastVowel
 alike-cons c f g a =
     record {
       last = elim (vowel c) as (λ b. cond b c (lastVowel f) ≡ cond b c (lastVowel g)) [ true ↦ refl | false ↦ a .last ];
-      others = elim (vowel c) as (λ b. (v : ℕ) → vowel v ≡ true → among (cond b f (beyond f)) v ≡ among (cond b g (beyond g)) v)
-          [ true ↦ λ v h. among-last-beyond f v h ∙ rw (a .last, a .others v h) (sym (among-last-beyond g v h)) | false ↦ a .others ];
+      others = elim (vowel c) as (λ b. (v : ℕ) → vowel v ≡ true → has (cond b f (beforeLastVowel f)) v ≡ has (cond b g (beforeLastVowel g)) v)
+          [ true ↦ λ v h. has-last-beforeLastVowel f v h ∙ rw (a .last, a .others v h) (sym (has-last-beforeLastVowel g v h)) | false ↦ a .others ];
     }
 
 -- and behind a shared end
@@ -50,12 +50,12 @@ pub harmony-near : (e f g : List ℕ) → AlikeChars f g → harmony (e ++ f) �
 unfolding harmony
 harmony-near e f g a =
     rw (lastVowel-near e f g a)
-    (any-vowels (partner (lastVowel (e ++ g))) (beyond (e ++ f)) (beyond (e ++ g)) (partner-vowel (lastVowel (e ++ g))) (alike-append e f g a .others))
+    (any-vowels (partner (lastVowel (e ++ g))) (beforeLastVowel (e ++ f)) (beforeLastVowel (e ++ g)) (partner-vowel (lastVowel (e ++ g))) (alike-append e f g a .others))
 
 -- and in the syllable check
-pub syllables-near : (e f g : List ℕ) → AlikeChars f g → syllables (e ++ f) ≡ syllables (e ++ g)
-unfolding syllables
-syllables-near e f g a = any-vowels vowel (beyond (e ++ f)) (beyond (e ++ g)) (λ v h. h) (alike-append e f g a .others)
+pub moreThanOneSyllable-near : (e f g : List ℕ) → AlikeChars f g → moreThanOneSyllable (e ++ f) ≡ moreThanOneSyllable (e ++ g)
+unfolding moreThanOneSyllable
+moreThanOneSyllable-near e f g a = any-vowels vowel (beforeLastVowel (e ++ f)) (beforeLastVowel (e ++ g)) (λ v h. h) (alike-append e f g a .others)
 
 -- ---- a command ----
 
@@ -75,10 +75,10 @@ starts-append (k ∷ ks) [] f h = absurd (omega arith)
 starts-append (k ∷ ks) (c ∷ e) f h = ap (λ (t : Bool). eqb k c && t) (starts-append ks e f (omega arith))
 
 -- a table no further than its longest key
-key-append : (ks : List (List ℕ)) (e f : List ℕ) → longest ks ≤ length e → key ks (e ++ f) ≡ key ks e
-unfolding key longest
-key-append [] e f h = refl
-key-append (k ∷ ks) e f h = rw (starts-append k e f (omega arith), key-append ks e f (omega arith))
+among-append : (ks : List (List ℕ)) (e f : List ℕ) → longest ks ≤ length e → among ks (e ++ f) ≡ among ks e
+unfolding among longest
+among-append [] e f h = refl
+among-append (k ∷ ks) e f h = rw (starts-append k e f (omega arith), among-append ks e f (omega arith))
 
 -- what follows a mark's key, no further than two characters, or none
 joins-near : (j : Bool) (e f g : List ℕ) → cond j 2 0 ≤ length e
@@ -101,10 +101,10 @@ after-near q n m e f g near h (fits k {f = b} l) =
 pub run-near : (p : Command) (e f g : List ℕ) → AlikeChars f g → need p ≤ length e → run p (e ++ f) ≡ run p (e ++ g)
 unfolding run markOf need
 run-near (mark m) e f g a h =
-    rw (harmony-near e f g a, key-append (m .keys) e f (omega arith), key-append (m .keys) e g (omega arith))
+    rw (harmony-near e f g a, among-append (m .keys) e f (omega arith), among-append (m .keys) e g (omega arith))
     (ap (asking (not (m .harmonic) || harmony (e ++ g)))
     (after-near (λ (cs : List ℕ). cond (m .joins) (optionalY 0x79 cs) (took 0 true)) (longest (m .keys)) (cond (m .joins) 2 0) e f g
-    (λ x. joins-near (m .joins) x f g) h (key-most (m .keys) e)))
+    (λ x. joins-near (m .joins) x f g) h (among-most (m .keys) e)))
 run-near (p then q) e f g a h =
     rw (run-near p e f g a (omega arith)) (after-near (run q) (most p) (need q) e f g (λ x. run-near q x f g a) (omega arith) (run-most p (e ++ g)))
 run-near (p or q) e f g a h = rw (run-near p e f g a (omega arith), run-near q e f g a (omega arith))
@@ -114,14 +114,14 @@ run-near unset e f g a h = refl
 -- ---- the stage ----
 
 -- the stage's command may look at 16 characters
-need-stem : need stem ≡ 16
-unfolding need most longest stem branch1 branch2 branch3 branch4 branch5 branch6 person try marked yUm sUn yUz sUnUz lAr nUz DUr cAsInA yDU ysA ymUs yken back text
-need-stem = refl
+need-branches : need branches ≡ 16
+unfolding need most longest branches branch1 branch2 branch3 branch4 branch5 branch6 person try marked yUm sUn yUz sUnUz lAr nUz DUr cAsInA yDU ysA ymUs yken fromEnd text
+need-branches = refl
 
 -- the stage answers alike on words with a shared end of 16 characters
 pub stage-near : (e f g : List ℕ) → AlikeChars f g → 16 ≤ length e → stage (e ++ f) ≡ stage (e ++ g)
 unfolding stage
-stage-near e f g a h = ap staged (run-near stem e f g a (omega (arith, need-stem)))
+stage-near e f g a h = ap staged (run-near branches e f g a (omega (arith, need-branches)))
 
 -- of words with a shared end of 16 characters the stage keeps some of it
 kept-near : (e f g : List ℕ) → AlikeChars f g → 16 ≤ length e → (x : List ℕ) × (0 < length x) × (kept (e ++ f) ≡ x ++ f) × (kept (e ++ g) ≡ x ++ g)
@@ -142,19 +142,19 @@ postlude-near true [] f g a h p q = absurd (omega arith)
 postlude-near true (c ∷ x) f g a h p q =
     let v : ℕ = gained (lastVowel (x ++ g)) in
     rw (p, q, lastVowel-near x f g a)
-    (elim (among (text "dg") c && not (eqb v 0)) as (λ t. (y : List ℕ)
+    (elim (has (text "dg") c && not (eqb v 0)) as (λ t. (y : List ℕ)
     × (harden (cond t (v ∷ c ∷ (x ++ f)) (c ∷ (x ++ f))) ≡ y ++ f)
     × (harden (cond t (v ∷ c ∷ (x ++ g)) (c ∷ (x ++ g))) ≡ y ++ g))
     [ true ↦ (hard v ∷ c ∷ x, refl, refl) | false ↦ (hard c ∷ x, refl, refl) ])
 
 -- the text that reaches the postlude is reserved
 unfoldable pub toReserved : List ℕ → Bool
-toReserved cs = syllables cs && stage cs .flag && reserved (kept cs)
+toReserved cs = moreThanOneSyllable cs && stage cs .flag && reserved (kept cs)
 
 -- what the pass gives on two words with one end: equal answers, and texts with one end, unless a reserved text reaches the postlude
 pub record NearPasses (e f g : List ℕ) : Type 0 where
   pub syllable : pass (e ++ f) .syllable ≡ pass (e ++ g) .syllable
-  pub answer : pass (e ++ f) .answer ≡ pass (e ++ g) .answer
+  pub yes : pass (e ++ f) .yes ≡ pass (e ++ g) .yes
   pub flag : pass (e ++ f) .flag ≡ pass (e ++ g) .flag
   pub texts : toReserved (e ++ f) ≡ false → toReserved (e ++ g) ≡ false
       → (x : List ℕ) × (pass (e ++ f) .text ≡ x ++ f) × (pass (e ++ g) .text ≡ x ++ g)
@@ -162,15 +162,15 @@ pub record NearPasses (e f g : List ℕ) : Type 0 where
 -- it is that on words with a shared end of 16 characters
 pub pass-near : (e f g : List ℕ) → AlikeChars f g → 16 ≤ length e → NearPasses e f g
 unfolding pass passStage toReserved
-pass-near e f g a h = go (syllables (e ++ g)) (syllables-near e f g a) refl (stage-near e f g a h) (kept-near e f g a h)
+pass-near e f g a h = go (moreThanOneSyllable (e ++ g)) (moreThanOneSyllable-near e f g a) refl (stage-near e f g a h) (kept-near e f g a h)
   where
-    go : (t : Bool) → syllables (e ++ f) ≡ syllables (e ++ g) → syllables (e ++ g) ≡ t → stage (e ++ f) ≡ stage (e ++ g)
+    go : (t : Bool) → moreThanOneSyllable (e ++ f) ≡ moreThanOneSyllable (e ++ g) → moreThanOneSyllable (e ++ g) ≡ t → stage (e ++ f) ≡ stage (e ++ g)
         → (x : List ℕ) × (0 < length x) × (kept (e ++ f) ≡ x ++ f) × (kept (e ++ g) ≡ x ++ g) → NearPasses e f g
-    go false p s q x = record { syllable = simp (p, s); answer = simp (p, s); flag = simp (p, s); texts = λ i j. (e, simp (p, s), simp s) }
+    go false p s q x = record { syllable = simp (p, s); yes = simp (p, s); flag = simp (p, s); texts = λ i j. (e, simp (p, s), simp s) }
     go true p s q x =
         record {
           syllable = simp (p, s);
-          answer = simp (p, s, q);
+          yes = simp (p, s, q);
           flag = simp (p, s, q);
           texts = simp (p, s, q, x .2, x .3) (postlude-near (stage (e ++ g) .flag) (x .0) f g a (x .1));
         }

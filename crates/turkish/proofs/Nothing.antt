@@ -12,12 +12,12 @@ use Rattle.utf8.specs.Encoding.{encode, encodeAll, decode}
 use Rattle.utf8.specs.Characters.{continuation, width, goesOn, lastWidth, charAt, lastChar, beforeWithin, before}
 use Rattle.utf8.specs.Steps.{same}
 use Rattle.utf8.proofs.Laws.Characters.{before-zero, before-step, before-back}
-use Rattle.turkish.specs.Letters.{text, any, among, starts}
+use Rattle.turkish.specs.Letters.{text, any, has, starts}
 use Rattle.turkish.specs.Letters
-use Rattle.turkish.specs.Harmony.{vowels, vowel, partnerTable, partnersIn, partner, lastVowel, beyond, harmony}
-use Rattle.turkish.specs.Grammar.{Out, more, after, first, asking, key, markOf, mark, _or_, try, run}
+use Rattle.turkish.specs.Harmony.{vowels, vowel, partnerTable, partnersIn, partner, lastVowel, beforeLastVowel, harmony}
+use Rattle.turkish.specs.Grammar.{Out, more, after, first, asking, among, markOf, mark, _or_, try, run}
 use Rattle.turkish.specs.Marks.{marked, yUm, sUn, yUz, sUnUz, lAr, nUz, DUr, cAsInA, yDU, ysA, ymUs, yken}
-use Rattle.turkish.specs.Stage.{branch1, branch2, branch3, branch4, branch5, branch6, stem, staged, stage, kept}
+use Rattle.turkish.specs.Stage.{branch1, branch2, branch3, branch4, branch5, branch6, branches, staged, stage, kept}
 use Rattle.turkish.specs.Calls.{chars, bytes, accepted, keptLength}
 use Rattle.turkish.specs.Fronts.{leftEmpty, oneOf}
 use Rattle.turkish.proofs.Laws.Outcome.{Post, unfit, fits, post-map, post-first, post-then}
@@ -28,16 +28,16 @@ use Rattle.turkish.proofs.Laws.Leaves.{mark-leaves, unharmonic, spares,
 
 -- branch 5 leaves a character of a text that is no key of sUnUz
 branch5-leaves : (cs : List ℕ) → oneOf (sUnUz .keys) cs ≡ false → Post (λ k. k + 1 ≤ length cs) (run branch5 cs)
-unfolding run branch5 try leaves spares every unharmonic harmony any partner among partnersIn partnerTable lastVowel beyond vowel vowels text Letters.back marked yUm sUn yUz sUnUz ymUs
+unfolding run branch5 try leaves spares every unharmonic harmony any partner has partnersIn partnerTable lastVowel beforeLastVowel vowel vowels text Letters.fromEnd marked yUm sUn yUz sUnUz ymUs
 branch5-leaves cs h =
     post-then
     (post-first (mark-leaves sUnUz cs 1 (omega arith) (λ t o. absurd (false≢true (sym h ∙ o)))) (run-leaves (mark yUz or mark sUn or mark yUm) 0 cs (omega arith)))
     λ k p. post-map (λ j q. omega (arith, length-drop k cs)) (run-leaves (try (mark ymUs)) 1 (drop k cs) (omega (arith, length-drop k cs)))
 
 -- and so does the stage, as the other branches leave one of every text
-stem-leaves : (cs : List ℕ) → oneOf (sUnUz .keys) cs ≡ false → Post (λ k. k + 1 ≤ length cs) (run stem cs)
-unfolding run stem branch1 branch2 branch3 branch4 branch6 try leaves spares every unharmonic harmony any partner among partnersIn partnerTable lastVowel beyond vowel vowels text Letters.back marked lAr DUr yDU ysA ymUs yken
-stem-leaves cs h =
+branches-leaves : (cs : List ℕ) → oneOf (sUnUz .keys) cs ≡ false → Post (λ k. k + 1 ≤ length cs) (run branches cs)
+unfolding run branches branch1 branch2 branch3 branch4 branch6 try leaves spares every unharmonic harmony any partner has partnersIn partnerTable lastVowel beforeLastVowel vowel vowels text Letters.fromEnd marked lAr DUr yDU ysA ymUs yken
+branches-leaves cs h =
     let z : 0 ≤ length cs = omega arith in
     post-first (run-leaves branch1 0 cs z)
     (post-first (run-leaves branch2 0 cs z)
@@ -56,12 +56,12 @@ kept-others : (cs : List ℕ) → oneOf ([] ∷ sUnUz .keys) cs ≡ false → sa
 unfolding kept stage oneOf same
 kept-others [] h = absurd (false≢true (sym h))
 kept-others (c ∷ cs) h =
-    let s = staged-leaves (omega arith) (stem-leaves (c ∷ cs) h) in
-    rw (drop-cons (c ∷ cs) (staged (run stem (c ∷ cs)) .removed) 0 (omega arith))
+    let s = staged-leaves (omega arith) (branches-leaves (c ∷ cs) h) in
+    rw (drop-cons (c ∷ cs) (staged (run branches (c ∷ cs)) .removed) 0 (omega arith))
 
 -- nothing is kept of nothing, nor of a key of sUnUz
 kept-keys : every (λ cs. same (kept cs) []) ([] ∷ sUnUz .keys) ≡ true
-unfolding kept stage staged run stem branch1 branch2 branch3 branch4 branch5 branch6 try same every harmony any partner among partnersIn partnerTable lastVowel beyond vowel vowels text Letters.back marked yUm sUn yUz sUnUz lAr nUz DUr cAsInA yDU ysA ymUs yken starts key markOf more after first asking
+unfolding kept stage staged run branches branch1 branch2 branch3 branch4 branch5 branch6 try same every harmony any partner has partnersIn partnerTable lastVowel beforeLastVowel vowel vowels text Letters.fromEnd marked yUm sUn yUz sUnUz lAr nUz DUr cAsInA yDU ysA ymUs yken starts among markOf more after first asking
 kept-keys = refl
 
 -- the stage keeps nothing exactly of nothing and of the keys of sUnUz
@@ -80,12 +80,12 @@ before-nothing w (suc p) = rw (before-step w (suc p) (omega arith), eqb·suc-zer
 
 -- nothing and the keys of sUnUz as bytes are the five words
 bytes-keys : every (λ cs. oneOf leftEmpty (bytes cs)) ([] ∷ sUnUz .keys) ≡ true
-unfolding every oneOf same leftEmpty text bytes encodeAll encode sUnUz marked Letters.back
+unfolding every oneOf same leftEmpty text bytes encodeAll encode sUnUz marked Letters.fromEnd
 bytes-keys = refl
 
 -- and the five words as characters are those
 chars-words : every (λ w. oneOf ([] ∷ sUnUz .keys) (chars w)) leftEmpty ≡ true
-unfolding every oneOf same leftEmpty text encodeAll encode sUnUz marked Letters.back chars before beforeWithin lastChar lastWidth width goesOn continuation charAt decode
+unfolding every oneOf same leftEmpty text encodeAll encode sUnUz marked Letters.fromEnd chars before beforeWithin lastChar lastWidth width goesOn continuation charAt decode
 chars-words = refl
 
 -- an accepted word is one of the five exactly where its characters are nothing or a key of sUnUz

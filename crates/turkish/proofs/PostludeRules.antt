@@ -5,7 +5,7 @@ use mathlib.Core.Path.{_≡_, refl, ap}
 use mathlib.Core.Bool.{Bool, true, false, cond, not, _&&_}
 use mathlib.Core.List.{List, [], _∷_}
 use lib.Dec.{eqb}
-use Rattle.turkish.specs.Letters.{text, among}
+use Rattle.turkish.specs.Letters.{text, has}
 use Rattle.turkish.specs.Harmony.{lastVowel}
 use Rattle.turkish.specs.Postlude.{reserved, gained, appendU, hard, harden, postlude}
 use Rattle.turkish.proofs.Laws.Tests.{cond-test}
@@ -13,7 +13,7 @@ use Rattle.turkish.proofs.Laws.Tests.{cond-test}
 -- appendU's test: a final d or g, with some vowel before it
 unfoldable pub appends : List ℕ → Bool
 appends [] = false
-appends (c ∷ cs) = among (text "dg") c && not (eqb (gained (lastVowel cs)) 0)
+appends (c ∷ cs) = has (text "dg") c && not (eqb (gained (lastVowel cs)) 0)
 
 -- a reserved word stays
 pub reserved-stays : (cs : List ℕ) → reserved cs ≡ true → postlude cs ≡ cs
@@ -24,10 +24,10 @@ reserved-stays cs e = rw e
 pub hard-gained : (v : ℕ) → hard (gained v) ≡ gained v
 unfolding hard gained
 hard-gained v =
-    cond-test P (among (text "aı") v) (λ e. refl)
-    (cond-test P (among (text "ei") v) (λ e. refl)
-    (cond-test P (among (text "ou") v) (λ e. refl)
-    (cond-test P (among (text "öü") v) (λ e. refl) refl)))
+    cond-test P (has (text "aı") v) (λ e. refl)
+    (cond-test P (has (text "ei") v) (λ e. refl)
+    (cond-test P (has (text "ou") v) (λ e. refl)
+    (cond-test P (has (text "öü") v) (λ e. refl) refl)))
   where
     P : ℕ → Type 0
     P c = hard c ≡ c

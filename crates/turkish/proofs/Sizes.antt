@@ -14,8 +14,8 @@ use Rattle.utf8.specs.Encoding.{encode, encodeAll}
 use Rattle.utf8.proofs.Laws.Booleans.{and-right}
 use Rattle.utf8.proofs.Laws.Encoding.{encode-one}
 use Rattle.utf8.proofs.TextCharacters.{encodeAll-append, take-back}
-use Rattle.turkish.specs.Letters.{text, among}
-use Rattle.turkish.specs.Harmony.{lastVowel, syllables}
+use Rattle.turkish.specs.Letters.{text, has}
+use Rattle.turkish.specs.Harmony.{lastVowel, moreThanOneSyllable}
 use Rattle.turkish.specs.Stage.{stage, kept}
 use Rattle.turkish.specs.Postlude.{reserved, gained, appendU, hard, harden, postlude}
 use Rattle.turkish.specs.WordPass.{foldChar, fold, Passed, passStage, pass}
@@ -41,10 +41,10 @@ bytes-drop (suc n) (c ∷ cs) = omega (arith, bytes-drop n cs, bytes-cons c cs)
 gained-size : (v : ℕ) → length (encode (gained v)) ≤ 2
 unfolding gained encode
 gained-size v =
-    cond-test P (among (text "aı") v) (λ e. omega arith)
-    (cond-test P (among (text "ei") v) (λ e. omega arith)
-    (cond-test P (among (text "ou") v) (λ e. omega arith)
-    (cond-test P (among (text "öü") v) (λ e. omega arith) (omega arith))))
+    cond-test P (has (text "aı") v) (λ e. omega arith)
+    (cond-test P (has (text "ei") v) (λ e. omega arith)
+    (cond-test P (has (text "ou") v) (λ e. omega arith)
+    (cond-test P (has (text "öü") v) (λ e. omega arith) (omega arith))))
   where
     P : ℕ → Type 0
     P c = length (encode c) ≤ 2
@@ -115,7 +115,7 @@ pass-size : (cs : List ℕ) → TwoMore cs (pass cs .text)
 unfolding pass passStage kept
 pass-size cs =
     let d : length (bytes (kept cs)) ≤ length (bytes cs) = bytes-drop (stage cs .removed) cs in
-    cond-test (λ (r : Passed). TwoMore cs (r .text)) (syllables cs)
+    cond-test (λ (r : Passed). TwoMore cs (r .text)) (moreThanOneSyllable cs)
     (λ e. cond-test (TwoMore cs) (stage cs .flag) (λ e. omega (arith, postlude-size (kept cs))) (omega arith))
     (omega arith)
 

@@ -11,7 +11,7 @@ use borrow.Author.Tests.{not-true, eqb-true, eq-eqb}
 use Rattle.utf8.specs.Encoding.{encode, encodeAll}
 use Rattle.utf8.specs.Characters.{continuation}
 use Rattle.utf8.proofs.Laws.Booleans.{and-left, and-right}
-use Rattle.turkish.specs.Letters.{text, back, starts}
+use Rattle.turkish.specs.Letters.{text, fromEnd, starts}
 use Rattle.turkish.specs.Grammar.{Mark}
 use Rattle.turkish.specs.Marks.{marked, yUm, sUn, yUz, sUnUz, lAr, nUz, DUr, cAsInA, yDU, ysA, ymUs, yken}
 use Rattle.turkish.specs.Calls.{bytes}
@@ -20,7 +20,7 @@ use Rattle.turkish.proofs.Laws.Tests.{every, every-at}
 -- the tables: A_23, and the marks' keys, A_12 to A_22 and the literal `ken`
 unfoldable pub tables : List (List (List ℕ))
 tables =
-    map back ("b" ∷ "c" ∷ "d" ∷ "ğ" ∷ [])
+    map fromEnd ("b" ∷ "c" ∷ "d" ∷ "ğ" ∷ [])
     ∷ map (λ (m : Mark). m .keys) (yUm ∷ sUn ∷ yUz ∷ sUnUz ∷ lAr ∷ nUz ∷ DUr ∷ cAsInA ∷ yDU ∷ ysA ∷ ymUs ∷ yken ∷ [])
 
 -- ---- the test ----
@@ -45,7 +45,7 @@ begins k = begin (bytes k)
 
 -- every table passes
 tables-pass : every (λ ks. apart ks && every begins ks) tables ≡ true
-unfolding every apart neither starts begins begin continuation bytes encodeAll encode tables marked yUm sUn yUz sUnUz lAr nUz DUr cAsInA yDU ysA ymUs yken back text
+unfolding every apart neither starts begins begin continuation bytes encodeAll encode tables marked yUm sUn yUz sUnUz lAr nUz DUr cAsInA yDU ysA ymUs yken fromEnd text
 tables-pass = refl
 
 -- ---- what it says ----

@@ -10,7 +10,7 @@ use lib.ListN.{length, take}
 use lib.Dec.{eqb}
 use Rattle.utf8.specs.Validity.{isText}
 use Rattle.turkish.specs.Letters.{starts}
-use Rattle.turkish.specs.Harmony.{syllables}
+use Rattle.turkish.specs.Harmony.{moreThanOneSyllable}
 use Rattle.turkish.specs.Stage.{stage, kept}
 use Rattle.turkish.specs.Postlude.{reserved, appendU, harden, postlude}
 use Rattle.turkish.specs.Calls.{chars, bytes, accepted, keptLength, stagePart, stageCall, postludeText, postludeRefusal, postludeOut, foldText, foldRefusal, foldOut, passText, passRefusal, passOut}
@@ -20,7 +20,7 @@ use Rattle.turkish.specs.Fronts.{mostRemoved, Pair, leftEmpty, oneOf}
 use Rattle.turkish.specs.FareAlike.{CallsAlike}
 use Rattle.turkish.proofs.Fronts.{calls-alike}
 use Rattle.turkish.proofs.Nothing.{left-empty}
-use Rattle.turkish.proofs.Laws.Syllables.{syllables-no}
+use Rattle.turkish.proofs.Laws.Syllables.{moreThanOneSyllable-no}
 use Rattle.turkish.proofs.Sizes.{postludeText-size, passText-size, foldText-size, stagePart-front, kept-bytes}
 use Rattle.turkish.proofs.Tables.{tables, one-key}
 use Rattle.turkish.proofs.PostludeRules.{appends, postlude-one}
@@ -79,12 +79,12 @@ pub keeps-a-front : (w : List ℕ) → (stagePart w ≡ take (length (stagePart 
 keeps-a-front w = (stagePart-front w, kept-bytes w)
 
 -- a yes means that something was removed; a no that nothing was, and then the flag is true
-pub yes-removes : (cs : List ℕ) → (stage cs .answer ≡ true → 0 < stage cs .removed) × (stage cs .answer ≡ false → (stage cs .removed ≡ 0) × (stage cs .flag ≡ true))
+pub yes-removes : (cs : List ℕ) → (stage cs .yes ≡ true → 0 < stage cs .removed) × (stage cs .yes ≡ false → (stage cs .removed ≡ 0) × (stage cs .flag ≡ true))
 yes-removes cs = (stage-yes cs, stage-no cs)
 
 -- where the syllable check says no, the stage says no with flag true
-pub one-syllable-has-no-ending : (cs : List ℕ) → syllables cs ≡ false → stage cs ≡ record { removed = 0; answer = false; flag = true }
-one-syllable-has-no-ending = syllables-no
+pub one-syllable-has-no-ending : (cs : List ℕ) → moreThanOneSyllable cs ≡ false → stage cs ≡ record { removed = 0; yes = false; flag = true }
+one-syllable-has-no-ending = moreThanOneSyllable-no
 
 -- ---- the key tables and the postlude's rules ----
 

@@ -13,7 +13,7 @@ use Rattle.turkish.specs.declared.answer.StageAnswer.{StageAnswer}
 use Rattle.turkish.specs.declared.answer.PostludeAnswer.{PostludeAnswer}
 use Rattle.turkish.specs.declared.answer.FoldAnswer.{FoldAnswer}
 use Rattle.turkish.specs.declared.answer.PassAnswer.{PassAnswer}
-use Rattle.turkish.specs.Harmony.{syllables}
+use Rattle.turkish.specs.Harmony.{moreThanOneSyllable}
 use Rattle.turkish.specs.Stage.{stage}
 use Rattle.turkish.specs.Postlude.{postlude, postludeAnswer}
 use Rattle.turkish.specs.WordPass.{fold, pass}
@@ -52,7 +52,7 @@ written s out = s ++ drop (length s) out
 -- ---- syllable check ----
 
 unfoldable pub syllableCall : List ℕ → SyllableAnswer
-syllableCall w = cond (accepted w) (record { refusal = 0; yes = syllables (chars w) }) (record { refusal = refusal w; yes = false })
+syllableCall w = cond (accepted w) (record { refusal = 0; yes = moreThanOneSyllable (chars w) }) (record { refusal = refusal w; yes = false })
 
 -- ---- suffix stage ----
 
@@ -67,7 +67,7 @@ stagePart w = cond (accepted w) (take (keptLength w) w) []
 unfoldable pub stageCall : List ℕ → StageAnswer
 stageCall w =
     cond (accepted w)
-    (record { refusal = 0; length = keptLength w; yes = stage (chars w) .answer; flag = stage (chars w) .flag })
+    (record { refusal = 0; length = keptLength w; yes = stage (chars w) .yes; flag = stage (chars w) .flag })
     (record { refusal = refusal w; length = 0; yes = false; flag = false })
 
 -- ---- postlude: an output of n + 2 bytes ----
@@ -115,7 +115,7 @@ passRefusal w room = refusalInto w (length w + 2) room
 unfoldable pub passCall : List ℕ → ℕ → PassAnswer
 passCall w room =
     cond (eqb (passRefusal w room) 0)
-    (record { refusal = 0; length = length (passText w); syllable = pass (chars w) .syllable; yes = pass (chars w) .answer; flag = pass (chars w) .flag })
+    (record { refusal = 0; length = length (passText w); syllable = pass (chars w) .syllable; yes = pass (chars w) .yes; flag = pass (chars w) .flag })
     (record { refusal = passRefusal w room; length = 0; syllable = false; yes = false; flag = false })
 
 unfoldable pub passOut : List ℕ → List ℕ → List ℕ

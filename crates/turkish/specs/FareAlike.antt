@@ -12,7 +12,7 @@ use Rattle.turkish.specs.Fronts.{front, reachesReserved, result}
 
 pub record FareAlike (u v : List ℕ) : Type 0 where
   pub syllable : pass (chars u) .syllable ≡ pass (chars v) .syllable
-  pub answer : pass (chars u) .answer ≡ pass (chars v) .answer
+  pub yes : pass (chars u) .yes ≡ pass (chars v) .yes
   pub flag : pass (chars u) .flag ≡ pass (chars v) .flag
   pub texts : reachesReserved u ≡ false → reachesReserved v ≡ false
       → (e : List ℕ) × (passText u ≡ front u ++ e) × (passText v ≡ front v ++ e)
@@ -20,7 +20,7 @@ pub record FareAlike (u v : List ℕ) : Type 0 where
 -- the same of two calls of the pass, with the outputs o and p
 pub record CallsAlike (u v o p : List ℕ) : Type 0 where
   pub syllable : passCall u (length o) .syllable ≡ passCall v (length p) .syllable
-  pub answer : passCall u (length o) .yes ≡ passCall v (length p) .yes
+  pub yes : passCall u (length o) .yes ≡ passCall v (length p) .yes
   pub flag : passCall u (length o) .flag ≡ passCall v (length p) .flag
   pub results : reachesReserved u ≡ false → reachesReserved v ≡ false
       → (e : List ℕ) × (result u o ≡ front u ++ e) × (result v p ≡ front v ++ e)

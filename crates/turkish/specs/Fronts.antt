@@ -10,8 +10,8 @@ use lib.Dec.{leb}
 use Rattle.utf8.specs.Encoding.{encodeAll}
 use Rattle.utf8.specs.Characters.{back}
 use Rattle.utf8.specs.Steps.{same}
-use Rattle.turkish.specs.Letters.{text, among}
-use Rattle.turkish.specs.Harmony.{vowel, lastVowel, beyond, syllables}
+use Rattle.turkish.specs.Letters.{text, has}
+use Rattle.turkish.specs.Harmony.{vowel, lastVowel, beforeLastVowel, moreThanOneSyllable}
 use Rattle.turkish.specs.Stage.{stage, kept}
 use Rattle.turkish.specs.Postlude.{reserved}
 use Rattle.turkish.specs.Calls.{chars, accepted, passCall, passOut}
@@ -38,7 +38,7 @@ end w = drop (back w (length w) endLength) w
 -- two fronts agree in their last vowel, or both have none, and in the set of the vowels before it
 pub record Alike (f g : List ℕ) : Type 0 where
   pub last : lastVowel (chars f) ≡ lastVowel (chars g)
-  pub others : (v : ℕ) → vowel v ≡ true → among (beyond (chars f)) v ≡ among (beyond (chars g)) v
+  pub others : (v : ℕ) → vowel v ≡ true → has (beforeLastVowel (chars f)) v ≡ has (beforeLastVowel (chars g)) v
 
 -- two words of demand 3: accepted, long, one end for both, fronts alike
 pub record Pair (u v : List ℕ) : Type 0 where
@@ -49,7 +49,7 @@ pub record Pair (u v : List ℕ) : Type 0 where
 
 -- the text that reaches the postlude is `ad` or `soyad`
 unfoldable pub reachesReserved : List ℕ → Bool
-reachesReserved w = syllables (chars w) && stage (chars w) .flag && reserved (kept (chars w))
+reachesReserved w = moreThanOneSyllable (chars w) && stage (chars w) .flag && reserved (kept (chars w))
 
 -- the pass's result: the output's bytes below the length that it gives
 unfoldable pub result : List ℕ → List ℕ → List ℕ

@@ -33,9 +33,9 @@ asking true q = q
 asking false q = fail
 
 -- the characters as far as a key goes, from the table's first key that ends the text (`among`; `find_among_b`)
-unfoldable pub key : List (List ℕ) → List ℕ → Out
-key [] cs = fail
-key (k ∷ ks) cs = cond (starts k cs) (took (length k) true) (key ks cs)
+unfoldable pub among : List (List ℕ) → List ℕ → Out
+among [] cs = fail
+among (k ∷ ks) cs = cond (starts k cs) (took (length k) true) (among ks cs)
 
 -- an optional y (`mark_suffix_with_optional_y_consonant`, lines 153 to 156): a y is taken if a vowel stands before it; without a y
 -- the second character back must be a vowel. Either way the second character back is a vowel.
@@ -54,7 +54,7 @@ pub record Mark : Type 0 where
 unfoldable pub markOf : Mark → List ℕ → Out
 markOf m cs =
     asking (not (m .harmonic) || harmony cs)
-    (after (key (m .keys) cs) (λ k. cond (m .joins) (optionalY 0x79 (drop k cs)) (took 0 true)))
+    (after (among (m .keys) cs) (λ k. cond (m .joins) (optionalY 0x79 (drop k cs)) (took 0 true)))
 
 -- Snowball's commands: a mark; one after the other; the first of two that fits; `true`; and `unset` of the flag.
 -- A `delete` stands nowhere: nothing that follows one can fail, so all that a branch takes is deleted.

@@ -5,14 +5,14 @@ use Prim.Native.Char.{code}
 use mathlib.Core.Bool.{Bool, cond}
 use mathlib.Core.List.{List, [], _∷_}
 use lib.Dec.{eqb}
-use Rattle.turkish.specs.Letters.{text, any, among}
+use Rattle.turkish.specs.Letters.{text, any, has}
 
 -- the eight vowels
 unfoldable pub vowels : List ℕ
 vowels = text "aeıioöuü"
 
 unfoldable pub vowel : ℕ → Bool
-vowel c = among vowels c
+vowel c = has vowels c
 
 -- a vowel and its partners: what may stand earlier in harmony with it
 pub record Partners : Type 0 where
@@ -36,21 +36,21 @@ partnersIn [] v = []
 partnersIn (p ∷ ps) v = cond (eqb v (p .of)) (p .are) (partnersIn ps v)
 
 unfoldable pub partner : ℕ → ℕ → Bool
-partner v c = among (partnersIn partnerTable v) c
+partner v c = has (partnersIn partnerTable v) c
 
--- the vowel nearest the cursor (0 where there is none), and what stands beyond it
+-- the vowel nearest the cursor (0 where there is none), and what stands before it
 unfoldable pub lastVowel : List ℕ → ℕ
 lastVowel [] = 0
 lastVowel (c ∷ cs) = cond (vowel c) c (lastVowel cs)
 
-unfoldable pub beyond : List ℕ → List ℕ
-beyond [] = []
-beyond (c ∷ cs) = cond (vowel c) cs (beyond cs)
+unfoldable pub beforeLastVowel : List ℕ → List ℕ
+beforeLastVowel [] = []
+beforeLastVowel (c ∷ cs) = cond (vowel c) cs (beforeLastVowel cs)
 
--- somewhere beyond the last vowel stands one of its partners, other vowels being skipped
+-- somewhere before the last vowel stands one of its partners, other vowels being skipped
 unfoldable pub harmony : List ℕ → Bool
-harmony cs = any (partner (lastVowel cs)) (beyond cs)
+harmony cs = any (partner (lastVowel cs)) (beforeLastVowel cs)
 
 -- two or more vowels (`more_than_one_syllable_word`, lines 445 and 446; document 01, "Syllable check")
-unfoldable pub syllables : List ℕ → Bool
-syllables cs = any vowel (beyond cs)
+unfoldable pub moreThanOneSyllable : List ℕ → Bool
+moreThanOneSyllable cs = any vowel (beforeLastVowel cs)

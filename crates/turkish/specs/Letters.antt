@@ -11,8 +11,8 @@ unfoldable pub text : String → List ℕ
 text String.[] = []
 text (String._∷_ c s) = code c ∷ text s
 
-unfoldable pub back : String → List ℕ
-back s = reverse (text s)
+unfoldable pub fromEnd : String → List ℕ
+fromEnd s = reverse (text s)
 
 -- some character passes the test
 unfoldable pub any : (ℕ → Bool) → List ℕ → Bool
@@ -20,8 +20,8 @@ any f [] = false
 any f (c ∷ cs) = f c || any f cs
 
 -- c is one of the characters
-unfoldable pub among : List ℕ → ℕ → Bool
-among cs c = any (eqb c) cs
+unfoldable pub has : List ℕ → ℕ → Bool
+has cs c = any (eqb c) cs
 
 -- the characters begin with those of the key
 unfoldable pub starts : List ℕ → List ℕ → Bool

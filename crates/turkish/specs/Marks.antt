@@ -4,11 +4,11 @@ use Prim.Native.Nat.{ℕ}
 use Prim.Native.String.{String}
 use mathlib.Core.Bool.{Bool, true, false}
 use mathlib.Core.List.{List, [], _∷_, map}
-use Rattle.turkish.specs.Letters.{back}
+use Rattle.turkish.specs.Letters.{fromEnd}
 use Rattle.turkish.specs.Grammar.{Mark}
 
 unfoldable pub marked : Bool → List String → Bool → Mark
-marked harmonic keys joins = record { harmonic = harmonic; keys = map back keys; joins = joins }
+marked harmonic keys joins = record { harmonic = harmonic; keys = map fromEnd keys; joins = joins }
 
 -- A_12
 unfoldable pub yUm : Mark

@@ -5,26 +5,26 @@ use mathlib.Core.Bool.{Bool, cond, not, _&&_, _||_}
 use mathlib.Core.List.{List, [], _∷_}
 use lib.Dec.{eqb}
 use Rattle.utf8.specs.Steps.{same}
-use Rattle.turkish.specs.Letters.{text, back, among}
+use Rattle.turkish.specs.Letters.{text, fromEnd, has}
 use Rattle.turkish.specs.Harmony.{lastVowel}
 
 -- exactly `ad` or `soyad` (`is_reserved_word`, lines 449 to 452)
 unfoldable pub reserved : List ℕ → Bool
-reserved cs = same cs (back "ad") || same cs (back "soyad")
+reserved cs = same cs (fromEnd "ad") || same cs (fromEnd "soyad")
 
 -- the vowel that a final d or g gains after a last vowel; 0 where there is no vowel
 unfoldable pub gained : ℕ → ℕ
 gained v =
-    cond (among (text "aı") v) (code "ı")
-    (cond (among (text "ei") v) (code "i")
-    (cond (among (text "ou") v) (code "u")
-    (cond (among (text "öü") v) (code "ü") 0)))
+    cond (has (text "aı") v) (code "ı")
+    (cond (has (text "ei") v) (code "i")
+    (cond (has (text "ou") v) (code "u")
+    (cond (has (text "öü") v) (code "ü") 0)))
 
 -- a final d or g with some vowel before it gains a vowel (`append_U_to_stems_ending_with_d_or_g`, lines 430 to 438)
 unfoldable pub appendU : List ℕ → List ℕ
 appendU [] = []
 appendU (c ∷ cs) =
-    cond (among (text "dg") c && not (eqb (gained (lastVowel cs)) 0)) (gained (lastVowel cs) ∷ c ∷ cs) (c ∷ cs)
+    cond (has (text "dg") c && not (eqb (gained (lastVowel cs)) 0)) (gained (lastVowel cs) ∷ c ∷ cs) (c ∷ cs)
 
 -- b, c, d, ğ become p, ç, t, k; all else stays (A_23)
 unfoldable pub hard : ℕ → ℕ

@@ -35,21 +35,21 @@ branch5 = (mark sUnUz or mark yUz or mark sUn or mark yUm) then try (mark ymUs)
 unfoldable pub branch6 : Command
 branch6 = mark DUr then try (person then mark ymUs)
 
-unfoldable pub stem : Command
-stem = branch1 or branch2 or branch3 or branch4 or branch5 or branch6
+unfoldable pub branches : Command
+branches = branch1 or branch2 or branch3 or branch4 or branch5 or branch6
 
 -- what the stage answers: the characters that it removes, yes or no, and the flag; none fits: no, nothing removed, flag true
 pub record Staged : Type 0 where
   pub removed : ℕ
-  pub answer : Bool
+  pub yes : Bool
   pub flag : Bool
 
 unfoldable pub staged : Out → Staged
-staged fail = record { removed = 0; answer = false; flag = true }
-staged (took k f) = record { removed = k; answer = true; flag = f }
+staged fail = record { removed = 0; yes = false; flag = true }
+staged (took k f) = record { removed = k; yes = true; flag = f }
 
 unfoldable pub stage : List ℕ → Staged
-stage cs = staged (run stem cs)
+stage cs = staged (run branches cs)
 
 -- the characters that the stage keeps
 unfoldable pub kept : List ℕ → List ℕ

@@ -4,7 +4,7 @@ use Prim.Native.Char.{code}
 use mathlib.Core.Bool.{Bool, true, false, cond, _&&_}
 use mathlib.Core.List.{List, map}
 use lib.Dec.{eqb, leb}
-use Rattle.turkish.specs.Harmony.{syllables}
+use Rattle.turkish.specs.Harmony.{moreThanOneSyllable}
 use Rattle.turkish.specs.Stage.{Staged, stage, kept}
 use Rattle.turkish.specs.Postlude.{postlude}
 
@@ -25,14 +25,14 @@ fold cs = map foldChar cs
 pub record Passed : Type 0 where
   pub text : List ℕ
   pub syllable : Bool
-  pub answer : Bool
+  pub yes : Bool
   pub flag : Bool
 
 -- the stage, and where its flag is true the postlude of what it keeps
 unfoldable pub passStage : List ℕ → Passed
 passStage cs =
-    record { text = cond (stage cs .flag) (postlude (kept cs)) (kept cs); syllable = true; answer = stage cs .answer; flag = stage cs .flag }
+    record { text = cond (stage cs .flag) (postlude (kept cs)) (kept cs); syllable = true; yes = stage cs .yes; flag = stage cs .flag }
 
 -- a word of one syllable or none is copied
 unfoldable pub pass : List ℕ → Passed
-pass cs = cond (syllables cs) (passStage cs) (record { text = cs; syllable = false; answer = false; flag = true })
+pass cs = cond (moreThanOneSyllable cs) (passStage cs) (record { text = cs; syllable = false; yes = false; flag = true })

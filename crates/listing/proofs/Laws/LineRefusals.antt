@@ -9,7 +9,7 @@ use lib.ListN.{length}
 use lib.Dec.{eqb, ltb, eqb·suc-zero}
 use borrow.Author.Tests.{eq-eqb, ne-eqb}
 use Rattle.utf8.specs.Validity.{isText}
-use Rattle.turkish.specs.Letters.{among}
+use Rattle.turkish.specs.Letters.{has}
 use Rattle.turkish.specs.Calls.{limit, refusal, accepted}
 use Rattle.listing.specs.Listing.{tab, lineRefusal, fields, refusedLine, listLine}
 
@@ -22,12 +22,12 @@ module _ (w : List ℕ) (n : ℕ) (e : n ≡ refusal w) where
   lineRefusal-word h = rw (← e, ne-eqb n 0 h)
 
   -- then number 4, where a tab stands in it
-  pub lineRefusal-tab : n ≡ 0 → true ≡ among w tab → 4 ≡ lineRefusal w
+  pub lineRefusal-tab : n ≡ 0 → true ≡ has w tab → 4 ≡ lineRefusal w
   unfolding lineRefusal
   lineRefusal-tab z t = rw (← e, z, ← t)
 
   -- then none
-  pub lineRefusal-none : n ≡ 0 → false ≡ among w tab → 0 ≡ lineRefusal w
+  pub lineRefusal-none : n ≡ 0 → false ≡ has w tab → 0 ≡ lineRefusal w
   unfolding lineRefusal
   lineRefusal-none z t = rw (← e, z, ← t)
 
@@ -36,7 +36,7 @@ module _ (w : List ℕ) (n : ℕ) (e : n ≡ refusal w) where
 -- no number is more than 4
 pub lineRefusal-most : (w : List ℕ) → lineRefusal w ≤ 4
 unfolding lineRefusal refusal
-lineRefusal-most w = go (ltb limit (length w)) (isText w) (among w tab)
+lineRefusal-most w = go (ltb limit (length w)) (isText w) (has w tab)
   where
     go : (over valid t : Bool) → cond (eqb (cond over 1 (cond valid 0 2)) 0) (cond t 4 0) (cond over 1 (cond valid 0 2)) ≤ 4
     go true valid t = omega arith
@@ -48,7 +48,7 @@ module _ (w : List ℕ) (n : ℕ) (e : n ≡ lineRefusal w) where
   -- a line with no number is an accepted word
   pub lineRefusal-accepted : n ≡ 0 → accepted w ≡ true
   unfolding lineRefusal accepted
-  lineRefusal-accepted z = eq-eqb (refusal w) 0 (go (refusal w) (among w tab) (sym e ∙ z))
+  lineRefusal-accepted z = eq-eqb (refusal w) 0 (go (refusal w) (has w tab) (sym e ∙ z))
     where
       go : (m : ℕ) (t : Bool) → cond (eqb m 0) (cond t 4 0) m ≡ 0 → m ≡ 0
       go zero t q = refl

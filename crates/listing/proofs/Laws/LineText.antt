@@ -7,7 +7,7 @@ use mathlib.Core.List.{List, [], _∷_, _++_, append-assoc, append-nil}
 use native.Mathlib.Omega.{arith}
 use lib.ListN.{length, take}
 use borrow.Author.Tests.{lt-ltb, le-ltb}
-use Rattle.turkish.specs.Harmony.{syllables}
+use Rattle.turkish.specs.Harmony.{moreThanOneSyllable}
 use Rattle.turkish.specs.Calls.{chars, accepted, passText}
 use Rattle.turkish.proofs.Laws.Accepted.{accepted-iff}
 use Rattle.turkish.proofs.Sizes.{passText-size}
@@ -40,7 +40,7 @@ module _ (w : List ℕ) (r : Repair) where
 
 -- ---- the text of the pass ----
 
-module _ (w : List ℕ) (ok : accepted w ≡ true) (syllable : Bool) (y : syllable ≡ syllables (chars w)) where
+module _ (w : List ℕ) (ok : accepted w ≡ true) (syllable : Bool) (y : syllable ≡ moreThanOneSyllable (chars w)) where
   -- of a word of one syllable it is the word
   pub passText-short : syllable ≡ false → w ≡ passText w
   passText-short n = sym (pass-short w ok (sym y ∙ n))
@@ -70,7 +70,7 @@ unfolding answers
 answers-bytes syllable stages flag p q r = rw (p, q, r)
 
 -- the parts one after the other are the fields
-pub fields-parts : (w : List ℕ) (syllable : Bool) (s : Stem) → syllable ≡ syllables (chars w) → s ≡ stemOf w
+pub fields-parts : (w : List ℕ) (syllable : Bool) (s : Stem) → syllable ≡ moreThanOneSyllable (chars w) → s ≡ stemOf w
     → ((((w ++ answers syllable (s .yes) (s .flag)) ++ take (s .kept) w) ++ (tab ∷ [])) ++ passText w) ++ (lf ∷ []) ≡ fields w
 unfolding fields stemOf
 fields-parts w syllable s y q = rw (y, q) (simp append-assoc)

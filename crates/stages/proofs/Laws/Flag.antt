@@ -9,7 +9,7 @@ use lib.Dec.{eqb}
 use Rattle.utf8.proofs.Laws.Booleans.{and-left, and-right, and-false}
 use Rattle.turkish.specs.Letters.{starts}
 use Rattle.turkish.specs.Harmony.{vowel, harmony}
-use Rattle.turkish.specs.Grammar.{Out, fail, took, more, after, first, asking, key, optionalY, markOf, Command, mark, _then_, _or_, nothing, unset, try, run}
+use Rattle.turkish.specs.Grammar.{Out, fail, took, more, after, first, asking, among, optionalY, markOf, Command, mark, _then_, _or_, nothing, unset, try, run}
 use Rattle.turkish.specs.Stage.{person, branch1, branch2, branch3, branch4, branch5, branch6}
 
 -- an answer that fails, or leaves the flag at f
@@ -42,8 +42,8 @@ unfolding after
 flagged-after unfit y = unfit
 flagged-after (leaves k) y = flagged-more k (y k)
 
-flagged-key : (ks : List (List ℕ)) (cs : List ℕ) → Flagged true (key ks cs)
-unfolding key
+flagged-key : (ks : List (List ℕ)) (cs : List ℕ) → Flagged true (among ks cs)
+unfolding among
 flagged-key [] cs = unfit
 flagged-key (k ∷ ks) cs = flagged-cond (starts k cs) (leaves (length k)) (flagged-key ks cs)
 

@@ -10,7 +10,7 @@ use lib.Seq.{drop-cons, drop-drop}
 use lib.Dec.{leb, eqb}
 use borrow.Author.Tests.{leb-true, le-leb, lt-leb, eq-eqb, ne-eqb}
 use Rattle.turkish.specs.Letters.{starts}
-use Rattle.turkish.specs.Grammar.{took, key}
+use Rattle.turkish.specs.Grammar.{took, among}
 use Rattle.stages.specs.declared.among.Among.the-variants.{Key, Nothing}
 use Rattle.stages.specs.Keys.{cut, row, rowsWithin, rows, foundFrom, found, keyOut}
 
@@ -146,14 +146,14 @@ module _ (keys cs : List ℕ) (base width i : ℕ) where
 -- ---- the search as the grammar's ----
 
 -- the search from any place on answers as the grammar's key does
-key-foundFrom : (i : ℕ) (ks : List (List ℕ)) (cs : List ℕ) → key ks cs ≡ keyOut (foundFrom i ks cs)
-unfolding key keyOut foundFrom
+key-foundFrom : (i : ℕ) (ks : List (List ℕ)) (cs : List ℕ) → among ks cs ≡ keyOut (foundFrom i ks cs)
+unfolding among keyOut foundFrom
 key-foundFrom i [] cs = refl
 key-foundFrom i (k ∷ ks) cs =
-    elim (starts k cs) as (λ b. cond b (took (length k) true) (key ks cs) ≡ keyOut (cond b (Key i (length k)) (foundFrom (i + 1) ks cs)))
+    elim (starts k cs) as (λ b. cond b (took (length k) true) (among ks cs) ≡ keyOut (cond b (Key i (length k)) (foundFrom (i + 1) ks cs)))
     [ true ↦ refl | false ↦ key-foundFrom (i + 1) ks cs ]
 
 -- the search answers as the grammar's key does
-pub key-found : (ks : List (List ℕ)) (cs : List ℕ) → key ks cs ≡ keyOut (found ks cs)
+pub among-found : (ks : List (List ℕ)) (cs : List ℕ) → among ks cs ≡ keyOut (found ks cs)
 unfolding found
-key-found ks cs = key-foundFrom 0 ks cs
+among-found ks cs = key-foundFrom 0 ks cs

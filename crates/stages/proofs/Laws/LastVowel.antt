@@ -9,8 +9,8 @@ use lib.Dec.{eqb}
 use borrow.Author.Tests.{ne-eqb}
 use Rattle.utf8.specs.Characters.{lastWidth, before, back}
 use Rattle.utf8.proofs.Laws.Characters.{before-zero, before-back, back-le}
-use Rattle.turkish.specs.Letters.{any, among, text}
-use Rattle.turkish.specs.Harmony.{vowels, vowel, lastVowel, beyond, syllables}
+use Rattle.turkish.specs.Letters.{any, has, text}
+use Rattle.turkish.specs.Harmony.{vowels, vowel, lastVowel, beforeLastVowel, moreThanOneSyllable}
 use Rattle.stages.specs.declared.walk.LastVowel.{LastVowel}
 use Rattle.stages.specs.LastVowel.{toVowel, lastVowelOf}
 use Rattle.stages.proofs.Laws.Walk.{lastVowel-skips, lastVowel-stops}
@@ -51,17 +51,17 @@ lastVowelOf-none w at h = let e : at ≡ 0 = omega arith in rw (e, before-zero w
 
 -- ---- what it gives ----
 
-drop-toVowel : (cs : List ℕ) → drop (toVowel cs) cs ≡ beyond cs
-unfolding toVowel beyond
+drop-toVowel : (cs : List ℕ) → drop (toVowel cs) cs ≡ beforeLastVowel cs
+unfolding toVowel beforeLastVowel
 drop-toVowel [] = refl
 drop-toVowel (c ∷ cs) = go (vowel c) (drop-toVowel cs)
   where
-    go : (t : Bool) → drop (toVowel cs) cs ≡ beyond cs → drop (cond t 0 (toVowel cs)) cs ≡ cond t cs (beyond cs)
+    go : (t : Bool) → drop (toVowel cs) cs ≡ beforeLastVowel cs → drop (cond t 0 (toVowel cs)) cs ≡ cond t cs (beforeLastVowel cs)
     go true h = refl
     go false h = h
 
 -- of an answer l of the walk from place c: its vowel is the last one, its place lies before c, and before its place stands what is
--- beyond the last vowel
+-- before the last vowel
 module _ (w : List ℕ) (c : ℕ) (l : LastVowel) (e : l ≡ lastVowelOf w c) where
   pub last-ch : l .ch ≡ lastVowel (before w c)
   unfolding lastVowelOf
@@ -71,9 +71,9 @@ module _ (w : List ℕ) (c : ℕ) (l : LastVowel) (e : l ≡ lastVowelOf w c) wh
   unfolding lastVowelOf
   last-at-le = rw e (back-le w c (toVowel (before w c)))
 
-  pub last-beyond : before w (l .at) ≡ beyond (before w c)
+  pub last-beforeLastVowel : before w (l .at) ≡ beforeLastVowel (before w c)
   unfolding lastVowelOf
-  last-beyond = rw e (before-back w c (toVowel (before w c)) ∙ drop-toVowel (before w c))
+  last-beforeLastVowel = rw e (before-back w c (toVowel (before w c)) ∙ drop-toVowel (before w c))
 
 -- a vowel is there where one of the characters is a vowel
 any-lastVowel : (cs : List ℕ) → not (eqb (lastVowel cs) 0) ≡ any vowel cs
@@ -82,10 +82,10 @@ any-lastVowel [] = refl
 any-lastVowel (c ∷ cs) = go (vowel c) refl (any-lastVowel cs)
   where
     go : (t : Bool) → vowel c ≡ t → not (eqb (lastVowel cs) 0) ≡ any vowel cs → not (eqb (cond t c (lastVowel cs)) 0) ≡ t || any vowel cs
-    go true e h = ap not (ne-eqb c 0 (λ z. false≢true (unfold vowel vowels among text in sym (ap vowel z) ∙ e)))
+    go true e h = ap not (ne-eqb c 0 (λ z. false≢true (unfold vowel vowels has text in sym (ap vowel z) ∙ e)))
     go false e h = h
 
 -- two vowels: a walk from the last one's place finds another
-pub syllables-last : (w : List ℕ) (c : ℕ) (l o : LastVowel) → l ≡ lastVowelOf w c → o ≡ lastVowelOf w (l .at) → not (eqb (o .ch) 0) ≡ syllables (before w c)
-unfolding syllables
-syllables-last w c l o e f = rw (last-ch w (l .at) o f) (any-lastVowel (before w (l .at))) ∙ ap (any vowel) (last-beyond w c l e)
+pub moreThanOneSyllable-last : (w : List ℕ) (c : ℕ) (l o : LastVowel) → l ≡ lastVowelOf w c → o ≡ lastVowelOf w (l .at) → not (eqb (o .ch) 0) ≡ moreThanOneSyllable (before w c)
+unfolding moreThanOneSyllable
+moreThanOneSyllable-last w c l o e f = rw (last-ch w (l .at) o f) (any-lastVowel (before w (l .at))) ∙ ap (any vowel) (last-beforeLastVowel w c l e)

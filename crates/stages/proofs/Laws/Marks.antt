@@ -15,7 +15,7 @@ use Rattle.utf8.specs.Steps.{eqSB}
 use Rattle.utf8.proofs.Laws.Booleans.{and-each}
 use Rattle.turkish.specs.Letters.{starts}
 use Rattle.turkish.specs.Harmony.{harmony}
-use Rattle.turkish.specs.Grammar.{Out, fail, took, more, after, asking, key, optionalY, Mark, markOf}
+use Rattle.turkish.specs.Grammar.{Out, fail, took, more, after, asking, among, optionalY, Mark, markOf}
 use Rattle.turkish.specs.Calls.{chars}
 use Rattle.stages.specs.declared.among.Among.{Among}
 use Rattle.stages.specs.declared.among.Among.the-variants.{Key, Nothing}
@@ -24,7 +24,7 @@ use Rattle.stages.specs.declared.mark.Marked.the-variants.{To, Fails}
 use Rattle.stages.specs.Keys.{foundFrom, found, keyOut}
 use Rattle.stages.specs.Tail.{Tail}
 use Rattle.stages.specs.Reach.{reach, inHarmony}
-use Rattle.stages.proofs.Laws.Keys.{key-found}
+use Rattle.stages.proofs.Laws.Keys.{among-found}
 use Rattle.stages.proofs.Laws.TailOf.{letters, whole, found-tail}
 use Rattle.stages.proofs.Laws.OnTail.{place-le, before-place}
 use Rattle.stages.proofs.Laws.Literal.{ascii, eqSB-chars}
@@ -71,12 +71,12 @@ reach-joins at n false cs = ap To (add-zero (at + n))
 -- ---- a mark by its key ----
 
 -- a mark without a key fails
-pub mark-keyless : (m : Mark) (at : ℕ) (cs : List ℕ) → key (m .keys) cs ≡ fail → Fails ≡ reach at (markOf m cs)
+pub mark-keyless : (m : Mark) (at : ℕ) (cs : List ℕ) → among (m .keys) cs ≡ fail → Fails ≡ reach at (markOf m cs)
 unfolding markOf after reach asking
 mark-keyless m at cs e = rw e (elim (not (m .harmonic) || harmony cs) as (λ b. Fails ≡ reach at (asking b fail)) [ true ↦ refl | false ↦ refl ])
 
 -- a mark with a key of n characters reaches past it, and past the optional y that it may have, if harmony holds where it asks for it
-pub mark-key : (m : Mark) (at n : ℕ) (cs : List ℕ) {o : Marked} → key (m .keys) (drop at cs) ≡ took n true → o ≡ inHarmony
+pub mark-key : (m : Mark) (at n : ℕ) (cs : List ℕ) {o : Marked} → among (m .keys) (drop at cs) ≡ took n true → o ≡ inHarmony
     (not (m .harmonic) || harmony (drop at cs)) (cond (m .joins) (reach (at + n) (optionalY 0x79 (drop (at + n) cs))) (To (at + n)))
     → o ≡ reach at (markOf m (drop at cs))
 unfolding markOf after
@@ -89,8 +89,8 @@ mark-key m at n cs e o =
 module _ (m : Mark) (width at : ℕ) {w t p : List ℕ} {r : Among} (tail : Tail w t p) (fits : at + width ≤ 16) (keys : whole width (m .keys) ≡ true)
     (finds : r ≡ found (m .keys) (drop at t)) where
   -- the search finds the mark's keys in the word
-  key-searched : key (m .keys) (drop at (chars w)) ≡ keyOut r
-  key-searched = key-found (m .keys) (drop at (chars w)) ∙ ap keyOut (sym (finds ∙ found-tail w t p (m .keys) width at tail keys fits))
+  key-searched : among (m .keys) (drop at (chars w)) ≡ keyOut r
+  key-searched = among-found (m .keys) (drop at (chars w)) ∙ ap keyOut (sym (finds ∙ found-tail w t p (m .keys) width at tail keys fits))
 
   -- the key found is no longer than the table's width
   pub searched-le : {i n : ℕ} → r ≡ Key i n → n ≤ width
@@ -112,8 +112,8 @@ module _ (m : Mark) (width at : ℕ) {w t p : List ℕ} {r : Among} (tail : Tail
 -- the literal is the key where the step moves, and else there is none
 pub key-literal : {w t p : List ℕ} → Tail w t p → (at : ℕ) → at ≤ 16 → (s : List ℕ) → ascii s ≡ true → {l : Literal} {b : Bool}
     → l ≡ eqSB w s (record { cursor = getD p at 0; limit = getD p at 0; «limit_backward» = 0 }) → l .moved ≡ b
-    → key (reverse s ∷ []) (drop at (chars w)) ≡ cond b (took (length (reverse s)) true) fail
-unfolding key
+    → among (reverse s ∷ []) (drop at (chars w)) ≡ cond b (took (length (reverse s)) true) fail
+unfolding among
 key-literal {w} {t} {p} tail at fits s a {l} steps e =
     ap (λ (b : Bool). cond b (took (length (reverse s)) true) fail)
     (ap (starts (reverse s)) (sym (before-place tail at fits)) ∙ sym (eqSB-chars w s (getD p at 0) a (place-le tail at fits))

@@ -12,7 +12,7 @@ use lib.Dec.{eqb}
 use borrow.Author.Tests.{eq-eqb, ne-eqb}
 use Rattle.utf8.specs.Characters.{before}
 use Rattle.utf8.proofs.Laws.Characters.{back-le, before-back}
-use Rattle.turkish.specs.Letters.{text, any, among}
+use Rattle.turkish.specs.Letters.{text, any, has}
 use Rattle.turkish.specs.Harmony.{vowels, vowel, harmony}
 use Rattle.turkish.specs.Grammar.{fail, took, optionalY}
 use Rattle.turkish.specs.Calls.{chars}
@@ -41,7 +41,7 @@ inHarmony-place tail at fits asks e m = ap (λ (b : Bool). inHarmony b m) (sym e
 
 -- the optional y by the two characters that it looks at; past the word's start stands no vowel
 optionalY-two : (y : ℕ) (cs : List ℕ) → optionalY y cs ≡ cond (vowel (getD cs 1 0)) (took (cond (eqb (getD cs 0 0) y) 1 0) true) fail
-unfolding optionalY vowel vowels among any text
+unfolding optionalY vowel vowels has any text
 optionalY-two y [] = refl
 optionalY-two y (c ∷ []) = refl
 optionalY-two y (c ∷ v ∷ cs) = refl

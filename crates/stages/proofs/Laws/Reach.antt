@@ -13,9 +13,9 @@ use Rattle.utf8.specs.Characters.{back}
 use Rattle.utf8.proofs.Laws.Booleans.{and-left, and-right, and-false}
 use Rattle.turkish.specs.Letters as letters
 use Rattle.turkish.specs.Harmony.{vowel, harmony}
-use Rattle.turkish.specs.Grammar.{Out, fail, took, more, after, first, asking, key, optionalY, markOf, Command, mark, _then_, _or_, nothing, unset, try, run}
+use Rattle.turkish.specs.Grammar.{Out, fail, took, more, after, first, asking, among, optionalY, markOf, Command, mark, _then_, _or_, nothing, unset, try, run}
 use Rattle.turkish.specs.Marks.{marked, yUm, sUn, yUz, sUnUz, lAr, nUz, DUr, cAsInA, yDU, ysA, ymUs, yken}
-use Rattle.turkish.specs.Stage.{person, branch1, branch2, branch3, branch4, branch5, branch6, stem, staged, stage}
+use Rattle.turkish.specs.Stage.{person, branch1, branch2, branch3, branch4, branch5, branch6, branches, staged, stage}
 use Rattle.turkish.specs.Calls.{chars, keptLength}
 use Rattle.stages.specs.declared.mark.Marked.{Marked}
 use Rattle.stages.specs.declared.mark.Marked.the-variants.{To, Fails}
@@ -106,10 +106,10 @@ reach-most p at cs {r} {a} is to = go (run-most p cs) (sym to ∙ is)
 -- what is computed for the commands after which another follows
 pub most-parts : (most (mark cAsInA) ≡ 6) × (most person ≡ 5) × (most (mark lAr) ≡ 3) × (most (mark nUz) ≡ 3)
     × (most (mark sUnUz or mark yUz or mark sUn or mark yUm) ≡ 5) × (most (mark DUr) ≡ 3)
-unfolding most person marked yUm sUn yUz sUnUz lAr nUz DUr cAsInA letters.back letters.text
+unfolding most person marked yUm sUn yUz sUnUz lAr nUz DUr cAsInA letters.fromEnd letters.text
 most-parts = (refl, refl, refl, refl, refl, refl)
 
 -- and for the branches
 pub most-branches : (most branch1 ≡ 4) × (most branch2 ≡ 15) × (most branch3 ≡ 7) × (most branch4 ≡ 7) × (most branch5 ≡ 9) × (most branch6 ≡ 12)
-unfolding most branch1 branch2 branch3 branch4 branch5 branch6 person try marked yUm sUn yUz sUnUz lAr nUz DUr cAsInA yDU ysA ymUs yken letters.back letters.text
+unfolding most branch1 branch2 branch3 branch4 branch5 branch6 person try marked yUm sUn yUz sUnUz lAr nUz DUr cAsInA yDU ysA ymUs yken letters.fromEnd letters.text
 most-branches = (refl, refl, refl, refl, refl, refl)

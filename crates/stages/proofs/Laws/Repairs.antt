@@ -13,7 +13,7 @@ use Rattle.utf8.proofs.Laws.Booleans.{cond-both}
 use Rattle.utf8.specs.Characters.{lastWidth, charAt, lastChar, before}
 use Rattle.utf8.specs.Steps.{standsAt}
 use Rattle.utf8.proofs.Laws.Characters.{before-zero, before-step}
-use Rattle.turkish.specs.Letters.{text, back, any, among}
+use Rattle.turkish.specs.Letters.{text, fromEnd, any, has}
 use Rattle.turkish.specs.Harmony.{lastVowel}
 use Rattle.turkish.specs.Postlude.{reserved, gained, hard}
 use Rattle.stages.specs.declared.postlude.Repair.{Repair}
@@ -29,16 +29,16 @@ either-number P v a b (inl e) p q = rw e p
 either-number P v a b (inr e) p q = rw e q
 
 -- a number that is neither is not among them
-pub among-neither : (v a b : ℕ) → (v ≡ a → ⊥) → (v ≡ b → ⊥) → among (a ∷ b ∷ []) v ≡ false
-unfolding among any
-among-neither v a b p q = rw (ne-eqb v a p, ne-eqb v b q)
+pub has-neither : (v a b : ℕ) → (v ≡ a → ⊥) → (v ≡ b → ⊥) → has (a ∷ b ∷ []) v ≡ false
+unfolding has any
+has-neither v a b p q = rw (ne-eqb v a p, ne-eqb v b q)
 
 -- ---- the reserved words ----
 
 -- the characters before a place are a reserved word where the bytes before it are
 reserved-bytes : (w : List ℕ) (n : ℕ) → n ≤ length w
     → reserved (before w n) ≡ (eqb n 2 && standsAt w 0 (text "ad") || eqb n 5 && standsAt w 0 (text "soyad"))
-unfolding reserved back text ascii
+unfolding reserved fromEnd text ascii
 reserved-bytes w n h = rw (literal-whole w (text "ad") n refl h, literal-whole w (text "soyad") n refl h)
 
 -- two bytes are one where they are `ad`
@@ -62,20 +62,20 @@ pub gained-none : (v : ℕ)
 unfolding gained text
 gained-none v p q r s =
     rw (
-      among-neither v 0x61 0x131 (λ e. p (inl e)) (λ e. p (inr e)),
-      among-neither v 0x65 0x69 (λ e. q (inl e)) (λ e. q (inr e)),
-      among-neither v 0x6F 0x75 (λ e. r (inl e)) (λ e. r (inr e)),
-      among-neither v 0xF6 0xFC (λ e. s (inl e)) (λ e. s (inr e)),
+      has-neither v 0x61 0x131 (λ e. p (inl e)) (λ e. p (inr e)),
+      has-neither v 0x65 0x69 (λ e. q (inl e)) (λ e. q (inr e)),
+      has-neither v 0x6F 0x75 (λ e. r (inl e)) (λ e. r (inr e)),
+      has-neither v 0xF6 0xFC (λ e. s (inl e)) (λ e. s (inr e)),
     )
 
 -- what holds of ı, i, u, ü and of none holds of the vowel gained
 pub gained-elim : (P : ℕ → Type 0) (v : ℕ) → P 0x131 → P 0x69 → P 0x75 → P 0xFC → P 0 → P (gained v)
 unfolding gained
 gained-elim P v p q r s z =
-    cond-both P (among (text "aı") v) _ _ p
-    (cond-both P (among (text "ei") v) _ _ q
-    (cond-both P (among (text "ou") v) _ _ r
-    (cond-both P (among (text "öü") v) _ _ s z)))
+    cond-both P (has (text "aı") v) _ _ p
+    (cond-both P (has (text "ei") v) _ _ q
+    (cond-both P (has (text "ou") v) _ _ r
+    (cond-both P (has (text "öü") v) _ _ s z)))
 
 -- the vowel gained is a character of two bytes at most
 pub gained-short : (v : ℕ) → gained v < 0x800
@@ -113,20 +113,20 @@ unfolding appended
 appended-empty w n e = rw (before-empty w n e)
 
 -- characters that end in d or g gain a vowel by their last one
-pub appended-after : (cs ds : List ℕ) (c v r : ℕ) → cs ≡ c ∷ ds → among (text "dg") c ≡ true → v ≡ lastVowel ds → r ≡ gained v → r ≡ appended cs
+pub appended-after : (cs ds : List ℕ) (c v r : ℕ) → cs ≡ c ∷ ds → has (text "dg") c ≡ true → v ≡ lastVowel ds → r ≡ gained v → r ≡ appended cs
 unfolding appended
 appended-after cs ds c v r e t f g = rw (e, t, ← f) g
 
 -- others gain none
 pub appended-not : (cs ds : List ℕ) (c : ℕ) → cs ≡ c ∷ ds → (c ≡ 0x64 → ⊥) → (c ≡ 0x67 → ⊥) → 0 ≡ appended cs
 unfolding appended text
-appended-not cs ds c e p q = rw (e, among-neither c 0x64 0x67 p q)
+appended-not cs ds c e p q = rw (e, has-neither c 0x64 0x67 p q)
 
 -- the vowel that characters gain has two bytes at most
 pub appended-short : (cs : List ℕ) → appended cs < 0x800
 unfolding appended
 appended-short [] = omega arith
-appended-short (c ∷ cs) = cond-both (λ n. n < 0x800) (among (text "dg") c) (gained (lastVowel cs)) 0 (gained-short (lastVowel cs)) (omega arith)
+appended-short (c ∷ cs) = cond-both (λ n. n < 0x800) (has (text "dg") c) (gained (lastVowel cs)) 0 (gained-short (lastVowel cs)) (omega arith)
 
 -- ---- the repair ----
 

@@ -9,7 +9,7 @@ use lib.ListN.{length}
 use lib.Dec.{eqb, leb}
 use borrow.Author.Tests.{eqb-true, leb-true, ne-eqb}
 use Rattle.utf8.proofs.Laws.Booleans.{and-left, and-right}
-use Rattle.turkish.specs.Letters.{text, any, among}
+use Rattle.turkish.specs.Letters.{text, any, has}
 use Rattle.turkish.specs.Harmony.{vowels, vowel, partnersIn, partnerTable, partner}
 use Rattle.stages.specs.declared.vowel.Vowel.{Vowel}
 use Rattle.stages.specs.declared.vowel.Sound.the-variants.{Is, Other}
@@ -24,12 +24,12 @@ any-same f g [] h = refl
 any-same f g (c ∷ cs) h = rw (h c, any-same f g cs h)
 
 -- a test that no character of a list fails passes on each of them
-pub among-passes : (f : ℕ → Bool) (cs : List ℕ) (c : ℕ) → any (λ x. not (f x)) cs ≡ false → among cs c ≡ true → f c ≡ true
-unfolding among any
-among-passes f [] c h e = absurd (false≢true e)
-among-passes f (x ∷ xs) c h e = go (eqb c x) (f x) refl refl (among-passes f xs c)
+pub has-passes : (f : ℕ → Bool) (cs : List ℕ) (c : ℕ) → any (λ x. not (f x)) cs ≡ false → has cs c ≡ true → f c ≡ true
+unfolding has any
+has-passes f [] c h e = absurd (false≢true e)
+has-passes f (x ∷ xs) c h e = go (eqb c x) (f x) refl refl (has-passes f xs c)
   where
-    go : (s t : Bool) → eqb c x ≡ s → f x ≡ t → (any (λ y. not (f y)) xs ≡ false → among xs c ≡ true → f c ≡ true) → f c ≡ true
+    go : (s t : Bool) → eqb c x ≡ s → f x ≡ t → (any (λ y. not (f y)) xs ≡ false → has xs c ≡ true → f c ≡ true) → f c ≡ true
     go s false p q k = absurd (true≢false (rw q at h))
     go true true p q k = ap f (eqb-true c x p) ∙ q
     go false true p q k = k (rw q at h) (rw p at e)
@@ -37,8 +37,8 @@ among-passes f (x ∷ xs) c h e = go (eqb c x) (f x) refl refl (among-passes f x
 -- ---- partners ----
 
 -- one to four partners are all kept
-pub vowelOf-partners : (ps : List ℕ) (c : ℕ) → 0 < length ps → length ps ≤ 4 → partners (vowelOf ps) c ≡ among ps c
-unfolding partners vowelOf among any
+pub vowelOf-partners : (ps : List ℕ) (c : ℕ) → 0 < length ps → length ps ≤ 4 → partners (vowelOf ps) c ≡ has ps c
+unfolding partners vowelOf has any
 vowelOf-partners [] c h k = absurd (omega arith)
 vowelOf-partners (a ∷ []) c h k = simp (or-self, or-false)
 vowelOf-partners (a ∷ b ∷ []) c h k = simp (or-self, or-false)
@@ -53,7 +53,7 @@ few c = leb 1 (length (partnersIn partnerTable c)) && leb (length (partnersIn pa
 -- each vowel has
 vowel-few : (c : ℕ) → vowel c ≡ true → few c ≡ true
 unfolding vowel vowels text any partnersIn partnerTable few
-vowel-few c e = among-passes few vowels c refl e
+vowel-few c e = has-passes few vowels c refl e
 
 -- a vowel's partners are the definition's
 vowelOf-partner : (ch c : ℕ) → vowel ch ≡ true → partners (vowelOf (partnersIn partnerTable ch)) c ≡ partner ch c
@@ -96,7 +96,7 @@ soundOf-partners ch v cs e =
 -- a code point that is none of the eight vowels has another sound
 pub soundOf-none : (ch : ℕ) → (ch ≡ 0x61 → ⊥) → (ch ≡ 0x65 → ⊥) → (ch ≡ 0x69 → ⊥) → (ch ≡ 0x6F → ⊥)
     → (ch ≡ 0x75 → ⊥) → (ch ≡ 0xF6 → ⊥) → (ch ≡ 0xFC → ⊥) → (ch ≡ 0x131 → ⊥) → soundOf ch ≡ Other
-unfolding soundOf vowel vowels text among any
+unfolding soundOf vowel vowels text has any
 soundOf-none ch a e i o u ö ü ı =
     rw (ne-eqb ch 0x61 a, ne-eqb ch 0x65 e, ne-eqb ch 0x131 ı, ne-eqb ch 0x69 i)
     (rw (ne-eqb ch 0x6F o, ne-eqb ch 0xF6 ö, ne-eqb ch 0x75 u, ne-eqb ch 0xFC ü))

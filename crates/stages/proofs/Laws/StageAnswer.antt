@@ -8,7 +8,7 @@ use native.Mathlib.Omega.{arith}
 use lib.ListN.{length, getD}
 use Rattle.utf8.specs.Characters.{back}
 use Rattle.turkish.specs.Grammar.{Out, fail, took, first, run}
-use Rattle.turkish.specs.Stage.{stem, staged, stage}
+use Rattle.turkish.specs.Stage.{branches, staged, stage}
 use Rattle.turkish.specs.Calls.{chars, keptLength}
 use Rattle.stages.specs.declared.mark.Marked.{Marked}
 use Rattle.stages.specs.declared.mark.Marked.the-variants.{To, Fails}
@@ -42,12 +42,12 @@ unfolding first
 first-failed o q is fails = ap (λ (x : Out). first x q) (fail-is o is fails)
 
 -- the stage's answer where a branch fits
-pub stemOf-took : (w t p : List ℕ) (k : ℕ) (f : Bool) → Tail w t p → run stem (chars w) ≡ took k f
+pub stemOf-took : (w t p : List ℕ) (k : ℕ) (f : Bool) → Tail w t p → run branches (chars w) ≡ took k f
     → record { kept = getD p k 0; yes = true; flag = f } ≡ stemOf w
 unfolding stemOf keptLength stage staged
 stemOf-took w t p k f tail e = rw (tail .p-is k (omega (arith, rw e at (stage-most (chars w)))), e)
 
 -- and where none does
-pub stemOf-fail : (w : List ℕ) → run stem (chars w) ≡ fail → record { kept = length w; yes = false; flag = true } ≡ stemOf w
+pub stemOf-fail : (w : List ℕ) → run branches (chars w) ≡ fail → record { kept = length w; yes = false; flag = true } ≡ stemOf w
 unfolding stemOf keptLength stage staged back
 stemOf-fail w e = rw e

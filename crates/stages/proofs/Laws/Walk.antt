@@ -8,7 +8,7 @@ use native.Mathlib.Omega.{arith}
 use Rattle.utf8.specs.Characters.{lastWidth, lastChar, charAt, before}
 use Rattle.utf8.proofs.Laws.Characters.{before-zero, before-step, lastWidth-pos, lastWidth-four, lastWidth-le}
 use Rattle.turkish.specs.Letters.{any}
-use Rattle.turkish.specs.Harmony.{vowel, partner, lastVowel, beyond, harmony}
+use Rattle.turkish.specs.Harmony.{vowel, partner, lastVowel, beforeLastVowel, harmony}
 
 -- ---- one turn ----
 
@@ -56,36 +56,36 @@ pub lastVowel-stops : {l cs : List ℕ} {c : ℕ} → l ≡ c ∷ cs → vowel c
 unfolding lastVowel
 lastVowel-stops e d = rw (e, d)
 
--- ---- what stands beyond it ----
+-- ---- what stands before the last vowel ----
 
 -- a character that is no vowel is skipped
-pub beyond-skips : {l cs : List ℕ} {c : ℕ} → l ≡ c ∷ cs → vowel c ≡ false → beyond cs ≡ beyond l
-unfolding beyond
-beyond-skips e d = rw (e, d)
+pub beforeLastVowel-skips : {l cs : List ℕ} {c : ℕ} → l ≡ c ∷ cs → vowel c ≡ false → beforeLastVowel cs ≡ beforeLastVowel l
+unfolding beforeLastVowel
+beforeLastVowel-skips e d = rw (e, d)
 
--- beyond a vowel stands the rest
-pub beyond-stops : {l cs : List ℕ} {c : ℕ} → l ≡ c ∷ cs → vowel c ≡ true → cs ≡ beyond l
-unfolding beyond
-beyond-stops e d = rw (e, d)
+-- before a vowel stands the rest
+pub beforeLastVowel-stops : {l cs : List ℕ} {c : ℕ} → l ≡ c ∷ cs → vowel c ≡ true → cs ≡ beforeLastVowel l
+unfolding beforeLastVowel
+beforeLastVowel-stops e d = rw (e, d)
 
--- nothing stands beyond the word's start
-pub beyond-none : {l : List ℕ} → l ≡ [] → [] ≡ beyond l
-unfolding beyond
-beyond-none e = rw e
+-- nothing stands before the word's start
+pub beforeLastVowel-none : {l : List ℕ} → l ≡ [] → [] ≡ beforeLastVowel l
+unfolding beforeLastVowel
+beforeLastVowel-none e = rw e
 
 -- ---- harmony ----
 
 -- a character that is no vowel is skipped
 pub harmony-skips : {l cs : List ℕ} {c : ℕ} → l ≡ c ∷ cs → vowel c ≡ false → harmony cs ≡ harmony l
 unfolding harmony
-harmony-skips e d = ap₂ (λ (v : ℕ) (bs : List ℕ). any (partner v) bs) (lastVowel-skips e d) (beyond-skips e d)
+harmony-skips e d = ap₂ (λ (v : ℕ) (bs : List ℕ). any (partner v) bs) (lastVowel-skips e d) (beforeLastVowel-skips e d)
 
 -- at a vowel the rest is searched for its partners
 pub harmony-stops : {l cs : List ℕ} {c : ℕ} → l ≡ c ∷ cs → vowel c ≡ true → any (partner c) cs ≡ harmony l
 unfolding harmony
-harmony-stops e d = ap₂ (λ (v : ℕ) (bs : List ℕ). any (partner v) bs) (lastVowel-stops e d) (beyond-stops e d)
+harmony-stops e d = ap₂ (λ (v : ℕ) (bs : List ℕ). any (partner v) bs) (lastVowel-stops e d) (beforeLastVowel-stops e d)
 
 -- there is none at the word's start
 pub harmony-none : {l : List ℕ} → l ≡ [] → false ≡ harmony l
 unfolding harmony
-harmony-none {l} e = any-none (partner (lastVowel l)) (sym (beyond-none e))
+harmony-none {l} e = any-none (partner (lastVowel l)) (sym (beforeLastVowel-none e))

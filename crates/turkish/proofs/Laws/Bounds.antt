@@ -8,11 +8,11 @@ use native.Mathlib.Omega.{arith}
 use lib.ListN.{length, drop, length-drop}
 use lib.Dec.{eqb}
 use Rattle.utf8.proofs.Laws.Booleans.{and-right}
-use Rattle.turkish.specs.Letters.{text, back, starts}
+use Rattle.turkish.specs.Letters.{text, fromEnd, starts}
 use Rattle.turkish.specs.Harmony.{vowel, harmony}
-use Rattle.turkish.specs.Grammar.{Out, fail, took, after, key, optionalY, markOf, Command, mark, _then_, _or_, nothing, unset, try, run}
+use Rattle.turkish.specs.Grammar.{Out, fail, took, after, among, optionalY, markOf, Command, mark, _then_, _or_, nothing, unset, try, run}
 use Rattle.turkish.specs.Marks.{marked, yUm, sUn, yUz, sUnUz, lAr, nUz, DUr, cAsInA, yDU, ysA, ymUs, yken}
-use Rattle.turkish.specs.Stage.{person, branch1, branch2, branch3, branch4, branch5, branch6, stem, staged, stage}
+use Rattle.turkish.specs.Stage.{person, branch1, branch2, branch3, branch4, branch5, branch6, branches, staged, stage}
 use Rattle.turkish.proofs.Laws.Outcome.{Post, unfit, fits, post-map, post-first, post-asking, post-cond, post-then}
 use Rattle.turkish.proofs.Laws.Tests.{cond-test}
 
@@ -59,17 +59,17 @@ starts-length (k ∷ ks) [] e = absurd (false≢true e)
 starts-length (k ∷ ks) (c ∷ cs) e = omega (arith, starts-length ks cs (and-right (eqb k c) (starts ks cs) e))
 
 -- a table takes as many as one of its keys has
-key-between : (ks : List (List ℕ)) (cs : List ℕ) → Post (Between (shortest ks) (longest ks) (length cs)) (key ks cs)
-unfolding key shortest longest
-key-between [] cs = unfit
-key-between (k ∷ ks) cs =
+among-between : (ks : List (List ℕ)) (cs : List ℕ) → Post (Between (shortest ks) (longest ks) (length cs)) (among ks cs)
+unfolding among shortest longest
+among-between [] cs = unfit
+among-between (k ∷ ks) cs =
     cond-test (Post _) (starts k cs)
     (λ e. fits (length k) (omega (arith, starts-length k cs e)))
-    (post-map (λ j h. omega arith) (key-between ks cs))
+    (post-map (λ j h. omega arith) (among-between ks cs))
 
 -- no more than its longest
-pub key-most : (ks : List (List ℕ)) (cs : List ℕ) → Post (λ k. k ≤ longest ks) (key ks cs)
-key-most ks cs = post-map (λ k h. h .1) (key-between ks cs)
+pub among-most : (ks : List (List ℕ)) (cs : List ℕ) → Post (λ k. k ≤ longest ks) (among ks cs)
+among-most ks cs = post-map (λ k h. h .1) (among-between ks cs)
 
 -- a test counts at most one
 one-at-most : (t : Bool) → cond t 1 0 ≤ 1
@@ -93,7 +93,7 @@ run-between : (p : Command) (cs : List ℕ) → Post (Between (least p) (most p)
 unfolding run markOf least most
 run-between (mark m) cs =
     post-asking (not (m .harmonic) || harmony cs)
-    (post-then (key-between (m .keys) cs) (λ k h. post-map (λ j i. omega (arith, length-drop k cs)) (joins-between (m .joins) (drop k cs))))
+    (post-then (among-between (m .keys) cs) (λ k h. post-map (λ j i. omega (arith, length-drop k cs)) (joins-between (m .joins) (drop k cs))))
 run-between (p then q) cs = post-then (run-between p cs) (λ k h. post-map (λ j i. omega (arith, length-drop k cs)) (run-between q (drop k cs)))
 run-between (p or q) cs = post-first (post-map (λ k h. omega arith) (run-between p cs)) (post-map (λ k h. omega arith) (run-between q cs))
 run-between nothing cs = fits 0 (omega arith)
@@ -110,37 +110,37 @@ run-within p cs = post-map (λ k h. h .2) (run-between p cs)
 -- ---- the stage ----
 
 -- the stage's command takes at least one character and at most 15
-stem-between : (least stem ≡ 1) × (most stem ≡ 15)
-unfolding least most stem branch1 branch2 branch3 branch4 branch5 branch6 person try marked yUm sUn yUz sUnUz lAr nUz DUr cAsInA yDU ysA ymUs yken back text
-stem-between = (refl, refl)
+branches-between : (least branches ≡ 1) × (most branches ≡ 15)
+unfolding least most branches branch1 branch2 branch3 branch4 branch5 branch6 person try marked yUm sUn yUz sUnUz lAr nUz DUr cAsInA yDU ysA ymUs yken fromEnd text
+branches-between = (refl, refl)
 
 -- so does the stage where it says yes, and no more than there is
-staged-between : {n : ℕ} {o : Out} → Post (Between (least stem) (most stem) n) o
-    → (staged o .removed ≤ 15) × (staged o .removed ≤ n) × (staged o .answer ≡ true → 0 < staged o .removed)
+staged-between : {n : ℕ} {o : Out} → Post (Between (least branches) (most branches) n) o
+    → (staged o .removed ≤ 15) × (staged o .removed ≤ n) × (staged o .yes ≡ true → 0 < staged o .removed)
 unfolding staged
 staged-between unfit = (omega arith, omega arith, λ e. absurd (false≢true e))
-staged-between (fits k h) = (omega (arith, stem-between), omega arith, λ e. omega (arith, stem-between))
+staged-between (fits k h) = (omega (arith, branches-between), omega arith, λ e. omega (arith, branches-between))
 
 -- at most 15 characters are removed
 pub stage-most : (cs : List ℕ) → stage cs .removed ≤ 15
 unfolding stage
-stage-most cs = staged-between (run-between stem cs) .0
+stage-most cs = staged-between (run-between branches cs) .0
 
 -- never more than there is
 pub stage-within : (cs : List ℕ) → stage cs .removed ≤ length cs
 unfolding stage
-stage-within cs = staged-between (run-between stem cs) .1
+stage-within cs = staged-between (run-between branches cs) .1
 
 -- where the stage says yes it removes something
-pub stage-yes : (cs : List ℕ) → stage cs .answer ≡ true → 0 < stage cs .removed
+pub stage-yes : (cs : List ℕ) → stage cs .yes ≡ true → 0 < stage cs .removed
 unfolding stage
-stage-yes cs = staged-between (run-between stem cs) .2
+stage-yes cs = staged-between (run-between branches cs) .2
 
 -- where it says no it removes nothing and the flag is true
-pub stage-no : (cs : List ℕ) → stage cs .answer ≡ false → (stage cs .removed ≡ 0) × (stage cs .flag ≡ true)
+pub stage-no : (cs : List ℕ) → stage cs .yes ≡ false → (stage cs .removed ≡ 0) × (stage cs .flag ≡ true)
 unfolding stage staged
-stage-no cs = go (run stem cs)
+stage-no cs = go (run branches cs)
   where
-    go : (o : Out) → staged o .answer ≡ false → (staged o .removed ≡ 0) × (staged o .flag ≡ true)
+    go : (o : Out) → staged o .yes ≡ false → (staged o .removed ≡ 0) × (staged o .flag ≡ true)
     go fail e = (refl, refl)
     go (took k f) e = absurd (false≢true (sym e))

@@ -12,7 +12,7 @@ use Rattle.utf8.specs.Steps.{same}
 use Rattle.utf8.proofs.Laws.Booleans.{and-left, and-right}
 use Rattle.turkish.specs.Letters.{starts}
 use Rattle.turkish.specs.Harmony.{vowel, harmony}
-use Rattle.turkish.specs.Grammar.{took, key, optionalY, Mark, markOf, Command, mark, _then_, _or_, nothing, unset, run}
+use Rattle.turkish.specs.Grammar.{took, among, optionalY, Mark, markOf, Command, mark, _then_, _or_, nothing, unset, run}
 use Rattle.turkish.specs.Fronts.{oneOf}
 use Rattle.turkish.proofs.Laws.Outcome.{Post, unfit, fits, post-map, post-first, post-cond, post-asked, post-then}
 use Rattle.turkish.proofs.Laws.Tests.{every}
@@ -31,13 +31,13 @@ starts-leaves (x ∷ k) (c ∷ cs) n b h e =
     omega (arith, starts-leaves k cs n b (λ s. h (rw (q, s))) (and-right (eqb x c) (starts k cs) e))
 
 -- a table's key leaves a character, unless the text is one of the keys
-key-leaves : (ks : List (List ℕ)) (cs : List ℕ) (n : ℕ) → n ≤ 1 → (oneOf ks cs ≡ true → n ≡ 0) → Post (λ k. k + n ≤ length cs) (key ks cs)
-unfolding key oneOf
-key-leaves [] cs n b h = unfit
-key-leaves (k ∷ ks) cs n b h = go (starts k cs) refl (key-leaves ks cs n b (λ o. h (rw (o, or-true (same cs k)))))
+among-leaves : (ks : List (List ℕ)) (cs : List ℕ) (n : ℕ) → n ≤ 1 → (oneOf ks cs ≡ true → n ≡ 0) → Post (λ k. k + n ≤ length cs) (among ks cs)
+unfolding among oneOf
+among-leaves [] cs n b h = unfit
+among-leaves (k ∷ ks) cs n b h = go (starts k cs) refl (among-leaves ks cs n b (λ o. h (rw (o, or-true (same cs k)))))
   where
-    go : (t : Bool) → starts k cs ≡ t → Post (λ j. j + n ≤ length cs) (key ks cs)
-        → Post (λ j. j + n ≤ length cs) (cond t (took (length k) true) (key ks cs))
+    go : (t : Bool) → starts k cs ≡ t → Post (λ j. j + n ≤ length cs) (among ks cs)
+        → Post (λ j. j + n ≤ length cs) (cond t (took (length k) true) (among ks cs))
     go true e r = fits (length k) (starts-leaves k cs n b (λ s. h (rw s)) e)
     go false e r = r
 
@@ -54,7 +54,7 @@ pub mark-leaves : (m : Mark) (cs : List ℕ) (n : ℕ) → n ≤ 1 → (not (m .
     → Post (λ k. k + cond (m .joins) 1 n ≤ length cs) (markOf m cs)
 unfolding markOf
 mark-leaves m cs n b h =
-    post-asked (not (m .harmonic) || harmony cs) (λ t. post-then (key-leaves (m .keys) cs n b (h t)) (go (m .joins)))
+    post-asked (not (m .harmonic) || harmony cs) (λ t. post-then (among-leaves (m .keys) cs n b (h t)) (go (m .joins)))
   where
     go : (t : Bool) (k : ℕ) → k + n ≤ length cs → Post (λ j. k + j + cond t 1 n ≤ length cs) (cond t (optionalY 0x79 (drop k cs)) (took 0 true))
     go true k p = post-map (λ j q. omega (arith, length-drop k cs)) (optionalY-leaves 0x79 (drop k cs))

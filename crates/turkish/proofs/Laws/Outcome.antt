@@ -8,7 +8,7 @@ use native.Mathlib.Omega.{arith}
 use lib.ListN.{length, drop}
 use Rattle.turkish.specs.Letters.{starts}
 use Rattle.turkish.specs.Harmony.{harmony}
-use Rattle.turkish.specs.Grammar.{Out, fail, took, more, after, first, asking, key, optionalY, Mark, markOf, Command, mark, _then_, _or_, nothing, unset, run}
+use Rattle.turkish.specs.Grammar.{Out, fail, took, more, after, first, asking, among, optionalY, Mark, markOf, Command, mark, _then_, _or_, nothing, unset, run}
 
 -- an answer that fails, or takes a number of characters of which P holds
 pub data Post (P : ℕ → Type 0) : Out → Type 0 where

@@ -10,11 +10,11 @@ use lib.ListN.{length, drop}
 use lib.Dec.{eqb}
 use borrow.Author.Tests.{eqb-true}
 use Rattle.utf8.proofs.Laws.Booleans.{and-left, and-right}
-use Rattle.turkish.specs.Letters.{text, back, any, among, starts}
-use Rattle.turkish.specs.Harmony.{vowels, vowel, Partners, partnerTable, partnersIn, partner, lastVowel, beyond, harmony, syllables}
-use Rattle.turkish.specs.Grammar.{Out, fail, took, more, after, first, asking, key, optionalY, markOf, Command, mark, _then_, _or_, nothing, unset, try, run}
+use Rattle.turkish.specs.Letters.{text, fromEnd, any, has, starts}
+use Rattle.turkish.specs.Harmony.{vowels, vowel, Partners, partnerTable, partnersIn, partner, lastVowel, beforeLastVowel, harmony, moreThanOneSyllable}
+use Rattle.turkish.specs.Grammar.{Out, fail, took, more, after, first, asking, among, optionalY, markOf, Command, mark, _then_, _or_, nothing, unset, try, run}
 use Rattle.turkish.specs.Marks.{marked, yUm, sUn, yUz, sUnUz, lAr, nUz, DUr, cAsInA, yDU, ysA, ymUs, yken}
-use Rattle.turkish.specs.Stage.{person, branch1, branch2, branch3, branch4, branch5, branch6, stem, staged, stage}
+use Rattle.turkish.specs.Stage.{person, branch1, branch2, branch3, branch4, branch5, branch6, branches, staged, stage}
 use Rattle.turkish.proofs.Laws.Tests.{cond-test, every}
 use Rattle.turkish.proofs.Laws.Vowels.{partner-vowel}
 
@@ -29,9 +29,9 @@ any-stricter f g h (c ∷ cs) e =
     rw (any-stricter f g h cs (n .1), eq-false-of-not-eq-true (λ p. true≢false (sym (h c p) ∙ n .0)))
 
 -- so where there are not two vowels, there is no harmony
-pub harmony-no : (cs : List ℕ) → syllables cs ≡ false → harmony cs ≡ false
-unfolding harmony syllables
-harmony-no cs = any-stricter (partner (lastVowel cs)) vowel (partner-vowel (lastVowel cs)) (beyond cs)
+pub harmony-no : (cs : List ℕ) → moreThanOneSyllable cs ≡ false → harmony cs ≡ false
+unfolding harmony moreThanOneSyllable
+harmony-no cs = any-stricter (partner (lastVowel cs)) vowel (partner-vowel (lastVowel cs)) (beforeLastVowel cs)
 
 -- ---- keys ----
 
@@ -50,12 +50,12 @@ any-append f [] ds = refl
 any-append f (c ∷ cs) ds = rw (any-append f cs ds) (sym (or-assoc (f c) (any f cs) (any f ds)))
 
 -- two vowels in two texts joined stand both in the first, one in each or both in the second
-pub syllables-append : (cs ds : List ℕ) → syllables (cs ++ ds) ≡ (syllables cs || cond (any vowel cs) (any vowel ds) (syllables ds))
-unfolding syllables beyond any
-syllables-append [] ds = refl
-syllables-append (c ∷ cs) ds =
-    elim (vowel c) as (λ t. any vowel (cond t (cs ++ ds) (beyond (cs ++ ds))) ≡ (any vowel (cond t cs (beyond cs)) || cond (t || any vowel cs) (any vowel ds) (any vowel (beyond ds))))
-    [ true ↦ any-append vowel cs ds | false ↦ syllables-append cs ds ]
+pub moreThanOneSyllable-append : (cs ds : List ℕ) → moreThanOneSyllable (cs ++ ds) ≡ (moreThanOneSyllable cs || cond (any vowel cs) (any vowel ds) (moreThanOneSyllable ds))
+unfolding moreThanOneSyllable beforeLastVowel any
+moreThanOneSyllable-append [] ds = refl
+moreThanOneSyllable-append (c ∷ cs) ds =
+    elim (vowel c) as (λ t. any vowel (cond t (cs ++ ds) (beforeLastVowel (cs ++ ds))) ≡ (any vowel (cond t cs (beforeLastVowel cs)) || cond (t || any vowel cs) (any vowel ds) (any vowel (beforeLastVowel ds))))
+    [ true ↦ any-append vowel cs ds | false ↦ moreThanOneSyllable-append cs ds ]
 
 -- without a vowel there is no optional y
 optionalY-no : (y : ℕ) (cs : List ℕ) → any vowel cs ≡ false → optionalY y cs ≡ fail
@@ -66,32 +66,32 @@ optionalY-no y (c ∷ v ∷ cs) e = rw (or-no (vowel v) (any vowel cs) .0 (or-no
 
 -- a key has two vowels, or one where an optional y asks for another
 keyTwo : Bool → List ℕ → Bool
-keyTwo joins k = syllables k || joins && any vowel k
+keyTwo joins k = moreThanOneSyllable k || joins && any vowel k
 
 -- after such a key the mark fails
-keyTwo-fails : (j : Bool) (k cs : List ℕ) → syllables cs ≡ false → keyTwo j k ≡ true → starts k cs ≡ true
+keyTwo-fails : (j : Bool) (k cs : List ℕ) → moreThanOneSyllable cs ≡ false → keyTwo j k ≡ true → starts k cs ≡ true
     → cond j (optionalY 0x79 (drop (length k) cs)) (took 0 true) ≡ fail
 unfolding keyTwo
-keyTwo-fails j k cs s t e = go j (syllables k) (any vowel k) t (sym (syllables-append k rest) ∙ ap syllables (starts-split k cs e) ∙ s)
+keyTwo-fails j k cs s t e = go j (moreThanOneSyllable k) (any vowel k) t (sym (moreThanOneSyllable-append k rest) ∙ ap moreThanOneSyllable (starts-split k cs e) ∙ s)
   where
     rest : List ℕ
     rest = drop (length k) cs
 
-    go : (j a b : Bool) → (a || j && b) ≡ true → (a || cond b (any vowel rest) (syllables rest)) ≡ false → cond j (optionalY 0x79 rest) (took 0 true) ≡ fail
+    go : (j a b : Bool) → (a || j && b) ≡ true → (a || cond b (any vowel rest) (moreThanOneSyllable rest)) ≡ false → cond j (optionalY 0x79 rest) (took 0 true) ≡ fail
     go j true b t s = absurd (true≢false s)
     go true false true t s = optionalY-no 0x79 rest s
     go true false false t s = absurd (false≢true t)
     go false false b t s = absurd (false≢true t)
 
 -- what fails after every key of a table fails after the table
-after-key : (f : List ℕ → Bool) (ks : List (List ℕ)) (cs : List ℕ) (q : ℕ → Out) → every f ks ≡ true
-    → ((k : List ℕ) → f k ≡ true → starts k cs ≡ true → q (length k) ≡ fail) → after (key ks cs) q ≡ fail
-unfolding every key after more
-after-key f [] cs q e h = refl
-after-key f (k ∷ ks) cs q e h =
+after-among : (f : List ℕ → Bool) (ks : List (List ℕ)) (cs : List ℕ) (q : ℕ → Out) → every f ks ≡ true
+    → ((k : List ℕ) → f k ≡ true → starts k cs ≡ true → q (length k) ≡ fail) → after (among ks cs) q ≡ fail
+unfolding every among after more
+after-among f [] cs q e h = refl
+after-among f (k ∷ ks) cs q e h =
     cond-test (λ o. after o q ≡ fail) (starts k cs)
     (λ p. rw (h k (and-left (f k) (every f ks) e) p))
-    (after-key f ks cs q (and-right (f k) (every f ks) e) h)
+    (after-among f ks cs q (and-right (f k) (every f ks) e) h)
 
 -- ---- commands ----
 
@@ -105,14 +105,14 @@ asksTwo nothing = false
 asksTwo unset = false
 
 -- such a mark fails where there are not two vowels
-mark-fails : (h j : Bool) (ks : List (List ℕ)) (cs : List ℕ) → syllables cs ≡ false → (h || every (keyTwo j) ks) ≡ true
-    → asking (not h || harmony cs) (after (key ks cs) (λ k. cond j (optionalY 0x79 (drop k cs)) (took 0 true))) ≡ fail
+mark-fails : (h j : Bool) (ks : List (List ℕ)) (cs : List ℕ) → moreThanOneSyllable cs ≡ false → (h || every (keyTwo j) ks) ≡ true
+    → asking (not h || harmony cs) (after (among ks cs) (λ k. cond j (optionalY 0x79 (drop k cs)) (took 0 true))) ≡ fail
 unfolding asking
 mark-fails true j ks cs s t = rw (harmony-no cs s)
-mark-fails false j ks cs s t = after-key (keyTwo j) ks cs (λ k. cond j (optionalY 0x79 (drop k cs)) (took 0 true)) t (λ k. keyTwo-fails j k cs s)
+mark-fails false j ks cs s t = after-among (keyTwo j) ks cs (λ k. cond j (optionalY 0x79 (drop k cs)) (took 0 true)) t (λ k. keyTwo-fails j k cs s)
 
 -- and such a command does
-run-fails : (p : Command) (cs : List ℕ) → syllables cs ≡ false → asksTwo p ≡ true → run p cs ≡ fail
+run-fails : (p : Command) (cs : List ℕ) → moreThanOneSyllable cs ≡ false → asksTwo p ≡ true → run p cs ≡ fail
 unfolding run markOf after first asksTwo
 run-fails (mark m) cs s t = mark-fails (m .harmonic) (m .joins) (m .keys) cs s t
 run-fails (p then q) cs s t = rw (run-fails p cs s t)
@@ -121,11 +121,11 @@ run-fails nothing cs s t = absurd (false≢true t)
 run-fails unset cs s t = absurd (false≢true t)
 
 -- the stage's command is one
-stem-asksTwo : asksTwo stem ≡ true
-unfolding asksTwo every keyTwo syllables beyond any vowel vowels among stem branch1 branch2 branch3 branch4 branch5 branch6 person try marked yUm sUn yUz sUnUz lAr nUz DUr cAsInA yDU ysA ymUs yken back text
-stem-asksTwo = refl
+branches-asksTwo : asksTwo branches ≡ true
+unfolding asksTwo every keyTwo moreThanOneSyllable beforeLastVowel any vowel vowels has branches branch1 branch2 branch3 branch4 branch5 branch6 person try marked yUm sUn yUz sUnUz lAr nUz DUr cAsInA yDU ysA ymUs yken fromEnd text
+branches-asksTwo = refl
 
 -- where the syllable check says no, the stage says no, removes nothing and leaves the flag true
-pub syllables-no : (cs : List ℕ) → syllables cs ≡ false → stage cs ≡ record { removed = 0; answer = false; flag = true }
+pub moreThanOneSyllable-no : (cs : List ℕ) → moreThanOneSyllable cs ≡ false → stage cs ≡ record { removed = 0; yes = false; flag = true }
 unfolding stage staged
-syllables-no cs s = rw (run-fails stem cs s stem-asksTwo)
+moreThanOneSyllable-no cs s = rw (run-fails branches cs s branches-asksTwo)

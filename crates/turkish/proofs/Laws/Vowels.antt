@@ -8,8 +8,8 @@ use mathlib.Mathlib.Data.Bool.Basic.{partialOrderLaws}
 use lib.Dec.{eqb}
 use borrow.Author.Tests.{eqb-true, eq-eqb, ne-eqb}
 use Rattle.utf8.proofs.Laws.Booleans.{and-left, and-right}
-use Rattle.turkish.specs.Letters.{text, any, among}
-use Rattle.turkish.specs.Harmony.{vowels, vowel, Partners, partnerTable, partnersIn, partner, lastVowel, beyond}
+use Rattle.turkish.specs.Letters.{text, any, has}
+use Rattle.turkish.specs.Harmony.{vowels, vowel, Partners, partnerTable, partnersIn, partner, lastVowel, beforeLastVowel}
 use Rattle.turkish.proofs.Laws.Tests.{cond-test, every, every-at}
 
 -- where some character passes a test, one of them does
@@ -27,21 +27,21 @@ member-any t (List·Memᴰ·head e) h = rw (← e, h)
 member-any t (List·Memᴰ·tail {x} m) h = rw (member-any t m h) (or-true (t x))
 
 -- what is one of the characters is a member of their list
-among-member : (cs : List ℕ) (c : ℕ) → among cs c ≡ true → List·Memᴰ c cs
-unfolding among
-among-member cs c h = let r = any-member (eqb c) cs h in Memᴰ·cast (eqb-true c (r .0) (r .2)) (r .1)
+has-member : (cs : List ℕ) (c : ℕ) → has cs c ≡ true → List·Memᴰ c cs
+unfolding has
+has-member cs c h = let r = any-member (eqb c) cs h in Memᴰ·cast (eqb-true c (r .0) (r .2)) (r .1)
 
 -- a test that only vowels pass answers alike on texts with the same vowels
 pub any-vowels : (t : ℕ → Bool) (cs ds : List ℕ) → ((v : ℕ) → t v ≡ true → vowel v ≡ true)
-    → ((v : ℕ) → vowel v ≡ true → among cs v ≡ among ds v) → any t cs ≡ any t ds
-unfolding among
+    → ((v : ℕ) → vowel v ≡ true → has cs v ≡ has ds v) → any t cs ≡ any t ds
+unfolding has
 any-vowels t cs ds o h = partialOrderLaws .le-antisymm (any t cs) (any t ds) (over cs ds h) (over ds cs (λ v p. sym (h v p)))
   where
-    over : (cs ds : List ℕ) → ((v : ℕ) → vowel v ≡ true → among cs v ≡ among ds v) → any t cs ≡ true → any t ds ≡ true
+    over : (cs ds : List ℕ) → ((v : ℕ) → vowel v ≡ true → has cs v ≡ has ds v) → any t cs ≡ true → any t ds ≡ true
     over cs ds h p =
         let r = any-member t cs p in
         let v : ℕ = r .0 in
-        member-any t (among-member ds v (sym (h v (o v (r .2))) ∙ member-any (eqb v) (r .1) (eq-eqb v v refl))) (r .2)
+        member-any t (has-member ds v (sym (h v (o v (r .2))) ∙ member-any (eqb v) (r .1) (eq-eqb v v refl))) (r .2)
 
 -- a vowel's partners are vowels, as all in the table are
 partnersIn-vowels : (v : ℕ) (ps : List Partners) → every (λ p. every vowel (p .are)) ps ≡ true → every vowel (partnersIn ps v) ≡ true
@@ -55,13 +55,13 @@ partnersIn-vowels v (p ∷ ps) e =
 pub partner-vowel : (v c : ℕ) → partner v c ≡ true → vowel c ≡ true
 unfolding partner
 partner-vowel v c h =
-    every-at vowel (partnersIn-vowels v partnerTable (unfold partnerTable every text vowel vowels among any in refl))
-    (among-member (partnersIn partnerTable v) c h)
+    every-at vowel (partnersIn-vowels v partnerTable (unfold partnerTable every text vowel vowels has any in refl))
+    (has-member (partnersIn partnerTable v) c h)
 
--- the vowels among a text's characters are its last one and those beyond it
-pub among-last-beyond : (cs : List ℕ) (v : ℕ) → vowel v ≡ true → among cs v ≡ (eqb v (lastVowel cs) || among (beyond cs) v)
-unfolding vowel vowels text any among lastVowel beyond
-among-last-beyond [] v h = rw (ne-eqb v 0 (λ q. false≢true (ap vowel (sym q) ∙ h)))
-among-last-beyond (c ∷ cs) v h =
-    (elim (vowel c) as (λ b. vowel c ≡ b → eqb v c || among cs v ≡ (eqb v (cond b c (lastVowel cs)) || among (cond b cs (beyond cs)) v))
-    [ true ↦ λ e. refl | false ↦ λ e. rw (ne-eqb v c (λ q. false≢true (sym e ∙ ap vowel (sym q) ∙ h))) (among-last-beyond cs v h) ]) refl
+-- the vowels among a text's characters are its last one and those before it
+pub has-last-beforeLastVowel : (cs : List ℕ) (v : ℕ) → vowel v ≡ true → has cs v ≡ (eqb v (lastVowel cs) || has (beforeLastVowel cs) v)
+unfolding vowel vowels text any has lastVowel beforeLastVowel
+has-last-beforeLastVowel [] v h = rw (ne-eqb v 0 (λ q. false≢true (ap vowel (sym q) ∙ h)))
+has-last-beforeLastVowel (c ∷ cs) v h =
+    (elim (vowel c) as (λ b. vowel c ≡ b → eqb v c || has cs v ≡ (eqb v (cond b c (lastVowel cs)) || has (cond b cs (beforeLastVowel cs)) v))
+    [ true ↦ λ e. refl | false ↦ λ e. rw (ne-eqb v c (λ q. false≢true (sym e ∙ ap vowel (sym q) ∙ h))) (has-last-beforeLastVowel cs v h) ]) refl

@@ -14,7 +14,7 @@ use Rattle.utf8.specs.Text.{TextOf}
 use Rattle.utf8.proofs.Laws.Characters.{back-le, before-back}
 use Rattle.turkish.specs.declared.answer.PostludeAnswer.{PostludeAnswer}
 use Rattle.turkish.specs.declared.answer.PassAnswer.{PassAnswer}
-use Rattle.turkish.specs.Harmony.{syllables}
+use Rattle.turkish.specs.Harmony.{moreThanOneSyllable}
 use Rattle.turkish.specs.Stage.{stage, kept}
 use Rattle.turkish.specs.Postlude.{postlude}
 use Rattle.turkish.specs.WordPass.{passStage, pass}
@@ -42,17 +42,17 @@ unfolding postludeText chars
 repair-postlude w a = repair-text w (length w) (rw take-length (accepted-text w a)) (le-refl (length w))
 
 -- the pass of a word of one syllable is the word
-pub pass-short : (w : List ℕ) → accepted w ≡ true → syllables (chars w) ≡ false → passText w ≡ w
+pub pass-short : (w : List ℕ) → accepted w ≡ true → moreThanOneSyllable (chars w) ≡ false → passText w ≡ w
 unfolding passText pass
 pass-short w a s = rw s (bytes-chars w a)
 
 -- the pass of one whose flag is false is the text kept
-pub pass-cut : (w : List ℕ) → accepted w ≡ true → syllables (chars w) ≡ true → stage (chars w) .flag ≡ false → passText w ≡ take (keptLength w) w
+pub pass-cut : (w : List ℕ) → accepted w ≡ true → moreThanOneSyllable (chars w) ≡ true → stage (chars w) .flag ≡ false → passText w ≡ take (keptLength w) w
 unfolding passText pass passStage
 pass-cut w a s f = rw (s, f) (sym (kept-bytes w a))
 
 -- the pass of any other is the repair of the text kept
-pub pass-repaired : (w : List ℕ) → accepted w ≡ true → syllables (chars w) ≡ true → stage (chars w) .flag ≡ true → passText w ≡ repairText w (repairOf w (keptLength w))
+pub pass-repaired : (w : List ℕ) → accepted w ≡ true → moreThanOneSyllable (chars w) ≡ true → stage (chars w) .flag ≡ true → passText w ≡ repairText w (repairOf w (keptLength w))
 unfolding passText pass passStage keptLength
 pass-repaired w a s f =
     rw (s, f) (sym (repair-text w (keptLength w) (text-back w (accepted-text w a) (stage (chars w) .removed)) (back-le w (length w) (stage (chars w) .removed)) ∙ ap (λ (cs : List ℕ). bytes (postlude cs)) (before-kept w)))
@@ -86,12 +86,12 @@ module _ (w : List ℕ) (room n : ℕ) (e : n ≡ refusalInto w (length w + 2) r
   unfolding passCall passRefusal
   passCall-refused h = rw (← e, ne-eqb n 0 h)
 
-  pub passCall-short : n ≡ 0 → (k : ℕ) → k ≡ length w → syllables (chars w) ≡ false
+  pub passCall-short : n ≡ 0 → (k : ℕ) → k ≡ length w → moreThanOneSyllable (chars w) ≡ false
       → _≡_ {A = PassAnswer} (record { refusal = 0; length = k; syllable = false; yes = false; flag = true }) (passCall w room)
   unfolding passCall passRefusal pass
   passCall-short z k l s = rw (← e, z, pass-short w (into-accepted z) s, s, l)
 
-  pub passCall-cut : n ≡ 0 → (s : Stem) (k : ℕ) → s ≡ stemOf w → k ≡ length (take (s .kept) w) → syllables (chars w) ≡ true → s .flag ≡ false
+  pub passCall-cut : n ≡ 0 → (s : Stem) (k : ℕ) → s ≡ stemOf w → k ≡ length (take (s .kept) w) → moreThanOneSyllable (chars w) ≡ true → s .flag ≡ false
       → _≡_ {A = PassAnswer} (record { refusal = 0; length = k; syllable = true; yes = s .yes; flag = false }) (passCall w room)
   unfolding passCall passRefusal pass passStage stemOf
   passCall-cut z s k q l y f =
@@ -99,7 +99,7 @@ module _ (w : List ℕ) (room n : ℕ) (e : n ≡ refusalInto w (length w + 2) r
       rw (← e, z, pass-cut w (into-accepted z) y g, y, l, q, g)
 
   pub passCall-repaired : n ≡ 0 → (s : Stem) (r : Repair) (k : ℕ) → s ≡ stemOf w → r ≡ repairOf w (s .kept) → k ≡ length (repairText w r)
-      → syllables (chars w) ≡ true → s .flag ≡ true
+      → moreThanOneSyllable (chars w) ≡ true → s .flag ≡ true
       → _≡_ {A = PassAnswer} (record { refusal = 0; length = k; syllable = true; yes = s .yes; flag = true }) (passCall w room)
   unfolding passCall passRefusal pass passStage stemOf
   passCall-repaired z s r k q p l y f =
@@ -121,15 +121,15 @@ module _ (w out : List ℕ) (n : ℕ) (e : n ≡ refusalInto w (length w + 2) (l
   unfolding passOut passRefusal
   passOut-refused h = rw (← e, ne-eqb n 0 h)
 
-  pub passOut-short : n ≡ 0 → syllables (chars w) ≡ false → written w out ≡ passOut w out
+  pub passOut-short : n ≡ 0 → moreThanOneSyllable (chars w) ≡ false → written w out ≡ passOut w out
   unfolding passOut passRefusal
   passOut-short z s = rw (← e, z, pass-short w (into-accepted w (length out) n e z) s)
 
-  pub passOut-cut : n ≡ 0 → (s : Stem) → s ≡ stemOf w → syllables (chars w) ≡ true → s .flag ≡ false → written (take (s .kept) w) out ≡ passOut w out
+  pub passOut-cut : n ≡ 0 → (s : Stem) → s ≡ stemOf w → moreThanOneSyllable (chars w) ≡ true → s .flag ≡ false → written (take (s .kept) w) out ≡ passOut w out
   unfolding passOut passRefusal stemOf
   passOut-cut z s q y f = rw (← e, z, pass-cut w (into-accepted w (length out) n e z) y (sym (ap (λ (x : Stem). x .flag) q) ∙ f), q)
 
-  pub passOut-repaired : n ≡ 0 → (s : Stem) (r : Repair) → s ≡ stemOf w → r ≡ repairOf w (s .kept) → syllables (chars w) ≡ true → s .flag ≡ true
+  pub passOut-repaired : n ≡ 0 → (s : Stem) (r : Repair) → s ≡ stemOf w → r ≡ repairOf w (s .kept) → moreThanOneSyllable (chars w) ≡ true → s .flag ≡ true
       → written (repairText w r) out ≡ passOut w out
   unfolding passOut passRefusal stemOf
   passOut-repaired z s r q p y f = rw (← e, z, pass-repaired w (into-accepted w (length out) n e z) y (sym (ap (λ (x : Stem). x .flag) q) ∙ f), p, q)

@@ -10,7 +10,7 @@ use Rattle.utf8.specs.Characters.{before}
 use Rattle.utf8.proofs.Laws.Characters.{back-le}
 use Rattle.turkish.specs.declared.answer.SyllableAnswer.{SyllableAnswer}
 use Rattle.turkish.specs.declared.answer.StageAnswer.{StageAnswer}
-use Rattle.turkish.specs.Harmony.{syllables}
+use Rattle.turkish.specs.Harmony.{moreThanOneSyllable}
 use Rattle.turkish.specs.Stage.{stage}
 use Rattle.turkish.specs.Calls.{chars, refusal, accepted, syllableCall, keptLength, stagePart, stageCall}
 use Rattle.stages.specs.declared.stem.Stem.{Stem}
@@ -33,7 +33,7 @@ module _ (w : List ℕ) (n : ℕ) (e : n ≡ refusal w) where
   unfolding syllableCall
   syllableCall-refused h = rw (accepted-no h, ← e)
 
-  pub syllableCall-given : n ≡ 0 → (t : Bool) → t ≡ syllables (before w (length w)) → _≡_ {A = SyllableAnswer} (record { refusal = 0; yes = t }) (syllableCall w)
+  pub syllableCall-given : n ≡ 0 → (t : Bool) → t ≡ moreThanOneSyllable (before w (length w)) → _≡_ {A = SyllableAnswer} (record { refusal = 0; yes = t }) (syllableCall w)
   unfolding syllableCall chars
   syllableCall-given z t q = rw (accepted-yes z, q)
 

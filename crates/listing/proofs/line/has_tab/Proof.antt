@@ -5,14 +5,14 @@ use mathlib.Core.Path.{_≡_, refl, sym, _∙_}
 use native.Mathlib.Omega.{arith}
 use lib.ListN.{length, drop}
 use borrow.Author.Needs.{needs}
-use Rattle.turkish.specs.Letters.{among}
+use Rattle.turkish.specs.Letters.{has}
 use Rattle.listing.specs.Listing.{tab}
 use Rattle.listing.proofs.Laws.Tab.{tab-stops, tab-skips, tab-none}
 use Rattle.listing.proofs.line.has_tab.Statement.{statement}
 use Rattle.listing.proofs.line.has_tab.Tie as tie
 
 abbrev Inv-loop : tie.InvT-loop
-Inv-loop w i₀ i = (i ≤ length w) × (among (drop i w) tab ≡ among w tab)
+Inv-loop w i₀ i = (i ≤ length w) × (has (drop i w) tab ≡ has w tab)
 
 abbrev μ-loop : tie.MeasureT-loop
 μ-loop w i₀ i = length w - i

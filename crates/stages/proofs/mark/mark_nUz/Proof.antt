@@ -3,7 +3,7 @@
 use native.Mathlib.Omega.{arith}
 use mathlib.Core.Path.{refl}
 use borrow.Author.Needs.{needs}
-use Rattle.turkish.specs.Letters.{text, back}
+use Rattle.turkish.specs.Letters.{text, fromEnd}
 use Rattle.turkish.specs.Marks.{marked, nUz}
 use Rattle.stages.specs.Keys.{cut, row, rowsWithin, rows}
 use Rattle.stages.specs.Reach.{reach}
@@ -25,15 +25,15 @@ enum-told : tie.Need-enum-told
 enum-told c = search needs
 
 returns : tie.Need-returns
-unfolding nUz marked back text rows rowsWithin row cut letters whole
+unfolding nUz marked fromEnd text rows rowsWithin row cut letters whole
 returns c = let s = c .before .before .before .before .before .before .before in searched-nothing nUz 3 (s .args .at) (s .pre .0) (omega arith) refl (c .before .before .find-among-b .ensures) (c .enum-told .given .1)
 
 harmonic-requires : tie.Need-harmonic-requires
-unfolding nUz marked back text rows rowsWithin row cut letters whole
+unfolding nUz marked fromEnd text rows rowsWithin row cut letters whole
 harmonic-requires c κs = let s = c .before .before .before .before .before .before .before .before in (s .pre .0, omega (arith, searched-le nUz 3 (s .args .at) (s .pre .0) (omega arith) refl (c .before .before .before .find-among-b .ensures) (c .before .n .given .1)))
 
 returns-2 : tie.Need-returns-2
-unfolding nUz marked back text rows rowsWithin row cut letters whole reach
+unfolding nUz marked fromEnd text rows rowsWithin row cut letters whole reach
 returns-2 c = let s = c .before .before .before .before .before .before .before .before .before in searched-key nUz 3 (s .args .at) (s .pre .0) (omega arith) refl (c .before .before .before .before .find-among-b .ensures) (c .before .before .n .given .1) (c .harmonic .ensures)
 
 pub mark-nUz-spec : {M : Type 1} → statement M

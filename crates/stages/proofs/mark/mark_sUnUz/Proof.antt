@@ -3,7 +3,7 @@
 use native.Mathlib.Omega.{arith}
 use mathlib.Core.Path.{refl}
 use borrow.Author.Needs.{needs}
-use Rattle.turkish.specs.Letters.{text, back}
+use Rattle.turkish.specs.Letters.{text, fromEnd}
 use Rattle.turkish.specs.Marks.{marked, sUnUz}
 use Rattle.stages.specs.Keys.{cut, row, rowsWithin, rows}
 use Rattle.stages.specs.Reach.{inHarmony}
@@ -25,15 +25,15 @@ enum-told : tie.Need-enum-told
 enum-told c = search needs
 
 returns : tie.Need-returns
-unfolding sUnUz marked back text rows rowsWithin row cut letters whole
+unfolding sUnUz marked fromEnd text rows rowsWithin row cut letters whole
 returns c = let s = c .before .before .before .before .before .before .before in searched-nothing sUnUz 5 (s .args .at) (s .pre .0) (omega arith) refl (c .before .before .find-among-b .ensures) (c .enum-told .given .1)
 
 add-t10 : tie.Need-add-t10
-unfolding sUnUz marked back text rows rowsWithin row cut letters whole
+unfolding sUnUz marked fromEnd text rows rowsWithin row cut letters whole
 add-t10 c = let s = c .before .before .before .before .before .before .before .before in omega (arith, searched-le sUnUz 5 (s .args .at) (s .pre .0) (omega arith) refl (c .before .before .before .find-among-b .ensures) (c .before .n .given .1))
 
 returns-2 : tie.Need-returns-2
-unfolding sUnUz marked back text rows rowsWithin row cut letters whole inHarmony
+unfolding sUnUz marked fromEnd text rows rowsWithin row cut letters whole inHarmony
 returns-2 c = let s = c .before .before .before .before .before .before .before .before in searched-key sUnUz 5 (s .args .at) (s .pre .0) (omega arith) refl (c .before .before .before .find-among-b .ensures) (c .before .n .given .1) refl
 
 pub mark-sUnUz-spec : {M : Type 1} → statement M

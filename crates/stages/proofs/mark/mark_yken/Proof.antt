@@ -7,7 +7,7 @@ use mathlib.Core.List.{List, [], _∷_}
 use native.Mathlib.Omega.{arith}
 use borrow.Author.Tests.{not-true, not-false}
 use borrow.Author.Needs.{needs}
-use Rattle.turkish.specs.Letters.{text, back}
+use Rattle.turkish.specs.Letters.{text, fromEnd}
 use Rattle.turkish.specs.Grammar.{optionalY}
 use Rattle.turkish.specs.Marks.{marked, yken}
 use Rattle.lent.specs.declared.Over.{Over}
@@ -36,14 +36,14 @@ back-over-requires : tie.Need-back-over-requires
 back-over-requires c κs = search needs
 
 returns : tie.Need-returns
-unfolding yken marked back text ascii over
+unfolding yken marked fromEnd text ascii over
 returns c =
     let s = c .before .before .before .before .before .before .before .before in
     let e = sym (ap (λ (o : Over). o .literal) (c .before .before .back-over .ensures)) ∙ not-true _ (c .if1 .taken) in
     mark-keyless yken (s .args .at) _ (key-literal (s .pre .0) (s .args .at) (omega arith) ken refl refl e)
 
 returns-2 : tie.Need-returns-2
-unfolding yken marked back text ascii over inHarmony optionalY reach
+unfolding yken marked fromEnd text ascii over inHarmony optionalY reach
 returns-2 c =
     let s = c .before .before .before .before .before .before .before .before .before .before in
     let o = c .before .before .before .before .back-over .ensures in
@@ -59,7 +59,7 @@ mark-suffix-with-optional-y-consonant-requires : tie.Need-mark-suffix-with-optio
 mark-suffix-with-optional-y-consonant-requires c κs = search needs
 
 returns-3 : tie.Need-returns-3
-unfolding yken marked back text ascii over inHarmony
+unfolding yken marked fromEnd text ascii over inHarmony
 returns-3 c =
     let s = c .before .before .before .before .before .before .before .before .before .before .before in
     let e = sym (ap (λ (o : Over). o .literal) (c .before .before .before .before .before .back-over .ensures)) ∙ not-false _ (c .before .before .before .if1 .left) in

@@ -3,7 +3,7 @@
 use native.Mathlib.Omega.{arith}
 use mathlib.Core.Path.{refl}
 use borrow.Author.Needs.{needs}
-use Rattle.turkish.specs.Letters.{text, back}
+use Rattle.turkish.specs.Letters.{text, fromEnd}
 use Rattle.turkish.specs.Marks.{marked, ysA}
 use Rattle.stages.specs.Keys.{cut, row, rowsWithin, rows}
 use Rattle.stages.specs.Reach.{inHarmony}
@@ -25,20 +25,20 @@ enum-told : tie.Need-enum-told
 enum-told c = search needs
 
 returns : tie.Need-returns
-unfolding ysA marked back text rows rowsWithin row cut letters whole
+unfolding ysA marked fromEnd text rows rowsWithin row cut letters whole
 returns c = let s = c .before .before .before .before .before .before .before in searched-nothing ysA 3 (s .args .at) (s .pre .0) (omega arith) refl (c .before .before .find-among-b .ensures) (c .enum-told .given .1)
 
 add-mark-suffix-with-optional-y-consonant : tie.Need-add-mark-suffix-with-optional-y-consonant
-unfolding ysA marked back text rows rowsWithin row cut letters whole
+unfolding ysA marked fromEnd text rows rowsWithin row cut letters whole
 add-mark-suffix-with-optional-y-consonant c = let s = c .before .before .before .before .before .before .before .before in omega (arith, searched-le ysA 3 (s .args .at) (s .pre .0) (omega arith) refl (c .before .before .before .find-among-b .ensures) (c .before .n .given .1))
 
 mark-suffix-with-optional-y-consonant-requires :
     tie.Need-mark-suffix-with-optional-y-consonant-requires
-unfolding ysA marked back text rows rowsWithin row cut letters whole
+unfolding ysA marked fromEnd text rows rowsWithin row cut letters whole
 mark-suffix-with-optional-y-consonant-requires c κs = let s = c .before .before .before .before .before .before .before .before in (s .pre .0, omega (arith, searched-le ysA 3 (s .args .at) (s .pre .0) (omega arith) refl (c .before .before .before .find-among-b .ensures) (c .before .n .given .1)))
 
 returns-2 : tie.Need-returns-2
-unfolding ysA marked back text rows rowsWithin row cut letters whole inHarmony
+unfolding ysA marked fromEnd text rows rowsWithin row cut letters whole inHarmony
 returns-2 c = let s = c .before .before .before .before .before .before .before .before .before in searched-key ysA 3 (s .args .at) (s .pre .0) (omega arith) refl (c .before .before .before .before .find-among-b .ensures) (c .before .before .n .given .1) (c .mark-suffix-with-optional-y-consonant .ensures)
 
 pub mark-ysA-spec : {M : Type 1} → statement M

@@ -5,7 +5,7 @@ use native.Mathlib.Omega.{arith}
 use borrow.Author.Needs.{needs}
 use denote.Ref.{now}
 use Rattle.utf8.proofs.Laws.Characters.{lastWidth-pos, lastWidth-four, lastWidth-le}
-use Rattle.turkish.specs.Letters.{text, any, among}
+use Rattle.turkish.specs.Letters.{text, any, has}
 use Rattle.stages.proofs.Laws.LastVowel.{last-ch}
 use Rattle.stages.proofs.Laws.Repairs.{before-last, appended-empty, appended-after, appended-not}
 use Rattle.stages.proofs.postlude.append_U_to_stems_ending_with_d_or_g.Statement.{
@@ -34,10 +34,10 @@ gained-after-requires : tie.Need-gained-after-requires
 gained-after-requires c κs = search needs
 
 returns-2 : tie.Need-returns-2
-unfolding among any text
+unfolding has any text
 returns-2 c =
     appended-after _ _ _ _ _ (before-last _ _ _ _ (omega arith) (c .before .before .before .before .last-width .ensures) (c .before .before .before .char-at .ensures))
-    (ap (among (text "dg")) (c .before .before .if2 .taken)) (last-ch _ _ _ (c .before .last-vowel .ensures)) (c .gained-after .ensures)
+    (ap (has (text "dg")) (c .before .before .if2 .taken)) (last-ch _ _ _ (c .before .last-vowel .ensures)) (c .gained-after .ensures)
 
 last-vowel-requires-2 : tie.Need-last-vowel-requires-2
 last-vowel-requires-2 c κs = search needs
@@ -46,10 +46,10 @@ gained-after-requires-2 : tie.Need-gained-after-requires-2
 gained-after-requires-2 c κs = search needs
 
 returns-3 : tie.Need-returns-3
-unfolding among any text
+unfolding has any text
 returns-3 c =
     appended-after _ _ _ _ _ (before-last _ _ _ _ (omega arith) (c .before .before .before .before .before .last-width .ensures) (c .before .before .before .before .char-at .ensures))
-    (ap (among (text "dg")) (c .before .before .if3 .taken)) (last-ch _ _ _ (c .before .last-vowel2 .ensures)) (c .gained-after2 .ensures)
+    (ap (has (text "dg")) (c .before .before .if3 .taken)) (last-ch _ _ _ (c .before .last-vowel2 .ensures)) (c .gained-after2 .ensures)
 
 returns-4 : tie.Need-returns-4
 returns-4 c =

@@ -4,7 +4,7 @@ use mathlib.Core.Path.{_∙_}
 use native.Mathlib.Omega.{arith}
 use borrow.Author.Needs.{needs}
 use Rattle.turkish.specs.Grammar.{run}
-use Rattle.turkish.specs.Stage.{branch1, branch2, branch3, branch4, branch5, branch6, stem}
+use Rattle.turkish.specs.Stage.{branch1, branch2, branch3, branch4, branch5, branch6, branches}
 use Rattle.stages.proofs.Laws.Reach.{reach-most, most-branches}
 use Rattle.stages.proofs.Laws.Flag.{branch1-keeps, branch2-keeps, branch3-lowers, branch4-keeps, branch5-keeps, branch6-keeps}
 use Rattle.stages.proofs.Laws.StageAnswer.{took-is, first-took, fail-is, first-failed, stemOf-took, stemOf-fail}
@@ -26,7 +26,7 @@ shared-slice-read-t13 c =
     omega (arith, reach-most branch1 0 _ (c .before .before .before .before .first-branch .ensures) (c .before .before .k .given .1), most-branches)
 
 returns : tie.Need-returns
-unfolding run stem
+unfolding run branches
 returns c =
     let first = c .before .before .before .before in
     stemOf-took _ _ _ _ _ (first .before .before .before .before .pre)
@@ -50,7 +50,7 @@ shared-slice-read-t17 c =
     omega (arith, reach-most branch2 0 _ (c .before .before .before .before .second-branch .ensures) (c .before .before .k2 .given .1), most-branches)
 
 returns-2 : tie.Need-returns-2
-unfolding run stem
+unfolding run branches
 returns-2 c =
     let second = c .before .before .before .before in
     let first = second .before .before .before in
@@ -76,7 +76,7 @@ shared-slice-read-t21 c =
     omega (arith, reach-most branch3 0 _ (c .before .before .before .before .third-branch .ensures) (c .before .before .k3 .given .1), most-branches)
 
 returns-3 : tie.Need-returns-3
-unfolding run stem
+unfolding run branches
 returns-3 c =
     let third = c .before .before .before .before in
     let second = third .before .before .before in
@@ -104,7 +104,7 @@ shared-slice-read-t25 c =
     omega (arith, reach-most branch4 0 _ (c .before .before .before .before .fourth-branch .ensures) (c .before .before .k4 .given .1), most-branches)
 
 returns-4 : tie.Need-returns-4
-unfolding run stem
+unfolding run branches
 returns-4 c =
     let fourth = c .before .before .before .before in
     let third = fourth .before .before .before in
@@ -134,7 +134,7 @@ shared-slice-read-t29 c =
     omega (arith, reach-most branch5 0 _ (c .before .before .before .before .fifth-branch .ensures) (c .before .before .k5 .given .1), most-branches)
 
 returns-5 : tie.Need-returns-5
-unfolding run stem
+unfolding run branches
 returns-5 c =
     let fifth = c .before .before .before .before in
     let fourth = fifth .before .before .before in
@@ -166,7 +166,7 @@ shared-slice-read-t33 c =
     omega (arith, reach-most branch6 0 _ (c .before .before .before .before .sixth-branch .ensures) (c .before .before .k6 .given .1), most-branches)
 
 returns-6 : tie.Need-returns-6
-unfolding run stem
+unfolding run branches
 returns-6 c =
     let sixth = c .before .before .before .before in
     let fifth = sixth .before .before .before in
@@ -186,7 +186,7 @@ enum-told-6 : tie.Need-enum-told-6
 enum-told-6 c = search needs
 
 returns-7 : tie.Need-returns-7
-unfolding run stem
+unfolding run branches
 returns-7 c =
     let sixth = c .before .before in
     let fifth = sixth .before .before .before in

@@ -2,7 +2,7 @@
 use native.Mathlib.Omega.{arith}
 use borrow.Author.Needs.{needs}
 use denote.Ref.{now}
-use Rattle.stages.proofs.Laws.LastVowel.{last-at-le, syllables-last}
+use Rattle.stages.proofs.Laws.LastVowel.{last-at-le, moreThanOneSyllable-last}
 use Rattle.stages.proofs.syllable.more_than_one_syllable_word.Statement.{statement}
 use Rattle.stages.proofs.syllable.more_than_one_syllable_word.Tie as tie
 
@@ -13,7 +13,7 @@ last-vowel-requires-2 : tie.Need-last-vowel-requires-2
 last-vowel-requires-2 c κs = omega (arith, last-at-le _ _ _ (c .last-vowel .ensures))
 
 returns : tie.Need-returns
-returns c = syllables-last _ _ _ _ (c .before .before .last-vowel .ensures) (c .before .last-vowel2 .ensures)
+returns c = moreThanOneSyllable-last _ _ _ _ (c .before .before .last-vowel .ensures) (c .before .last-vowel2 .ensures)
 
 pub more-than-one-syllable-word-spec : {M : Type 1} → statement M
 more-than-one-syllable-word-spec =

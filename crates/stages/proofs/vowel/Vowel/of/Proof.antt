@@ -1,7 +1,7 @@
 -- `stages::vowel::Vowel::of` meets its contract. Each arm's vowel is what the definition computes to at the arm's number; the last
 -- arm's code point is none of the eight. Assumes nothing.
 use mathlib.Core.Path.{sym, ap}
-use Rattle.turkish.specs.Letters.{text, any, among}
+use Rattle.turkish.specs.Letters.{text, any, has}
 use Rattle.turkish.specs.Harmony.{vowels, vowel, partnersIn, partnerTable}
 use Rattle.stages.specs.Sounds.{vowelOf, soundOf}
 use Rattle.stages.proofs.Laws.Sounds.{soundOf-none}
@@ -9,35 +9,35 @@ use Rattle.stages.proofs.vowel.Vowel.of.Statement.{statement}
 use Rattle.stages.proofs.vowel.Vowel.of.Tie as tie
 
 returns : tie.Need-returns
-unfolding soundOf vowel vowels text among any vowelOf partnersIn partnerTable
+unfolding soundOf vowel vowels text has any vowelOf partnersIn partnerTable
 returns c = sym (ap soundOf (c .match .keys1))
 
 returns-2 : tie.Need-returns-2
-unfolding soundOf vowel vowels text among any vowelOf partnersIn partnerTable
+unfolding soundOf vowel vowels text has any vowelOf partnersIn partnerTable
 returns-2 c = sym (ap soundOf (c .match .keys2))
 
 returns-3 : tie.Need-returns-3
-unfolding soundOf vowel vowels text among any vowelOf partnersIn partnerTable
+unfolding soundOf vowel vowels text has any vowelOf partnersIn partnerTable
 returns-3 c = sym (ap soundOf (c .match .keys3))
 
 returns-4 : tie.Need-returns-4
-unfolding soundOf vowel vowels text among any vowelOf partnersIn partnerTable
+unfolding soundOf vowel vowels text has any vowelOf partnersIn partnerTable
 returns-4 c = sym (ap soundOf (c .match .keys4))
 
 returns-5 : tie.Need-returns-5
-unfolding soundOf vowel vowels text among any vowelOf partnersIn partnerTable
+unfolding soundOf vowel vowels text has any vowelOf partnersIn partnerTable
 returns-5 c = sym (ap soundOf (c .match .keys5))
 
 returns-6 : tie.Need-returns-6
-unfolding soundOf vowel vowels text among any vowelOf partnersIn partnerTable
+unfolding soundOf vowel vowels text has any vowelOf partnersIn partnerTable
 returns-6 c = sym (ap soundOf (c .match .keys6))
 
 returns-7 : tie.Need-returns-7
-unfolding soundOf vowel vowels text among any vowelOf partnersIn partnerTable
+unfolding soundOf vowel vowels text has any vowelOf partnersIn partnerTable
 returns-7 c = sym (ap soundOf (c .match .keys7))
 
 returns-8 : tie.Need-returns-8
-unfolding soundOf vowel vowels text among any vowelOf partnersIn partnerTable
+unfolding soundOf vowel vowels text has any vowelOf partnersIn partnerTable
 returns-8 c = sym (ap soundOf (c .match .keys8))
 
 returns-9 : tie.Need-returns-9
