@@ -12,3 +12,4 @@ pub mod Widths
 pub mod CharAt
 pub mod Characters
 pub mod Steps
+pub mod Behind

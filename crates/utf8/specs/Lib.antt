@@ -6,4 +6,5 @@ pub mod Text
 pub mod Validity
 pub mod Characters
 pub mod Steps
+pub mod Behind
 pub mod Neighbours

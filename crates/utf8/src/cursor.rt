@@ -1,6 +1,7 @@
 // The cursor record: three places of a word in bytes, by value (snowball_env.rs, `SnowballEnv`).
 ghost use mathlib.Core.Path.{_≡_};
 ghost use Rattle.utf8.specs.Steps.{stands, moveTo};
+ghost use Rattle.utf8.specs.Behind.{deleted};
 
 pub struct Cursor {
     pub cursor: usize,
@@ -29,6 +30,17 @@ impl Cursor {
         Cursor {
             cursor: c,
             limit: self.limit,
+            limit_backward: self.limit_backward,
+        }
+    }
+
+    // The record after all from the cursor on is deleted: the limit comes down to the cursor.
+    pub fn deleted(self) -> Cursor
+        ensures { λ r. ⌜ r ≡ deleted self ⌝ }
+    {
+        Cursor {
+            cursor: self.cursor,
+            limit: self.cursor,
             limit_backward: self.limit_backward,
         }
     }
