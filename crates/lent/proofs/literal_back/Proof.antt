@@ -51,7 +51,7 @@ use denote.Triple.Call.{calls-at}
 use denote.Triple.Entry.{onEntry}
 use denote.Triple.Spec.{Meets, tripleOf}
 use denote.Triple.Table.{entered, cited}
-use denote.Triple.Walked.{says, Stays, stay-ref, stay-none-slice, walkOf, goes-ref, goes-none-slice, Walks, ends-at, walked, walk-meets}
+use denote.Triple.Walked.{Stays, stay-ref, stay-none-slice, walkOf, goes-ref, goes-none-slice, Walks, ends-at, walked, walk-meets}
 use denote.Triple.Clauses.{ensured, lasts}
 use denote.Exit.{yes}
 use Rattle.utf8.specs.Steps.{eqSB}
@@ -65,7 +65,7 @@ use Rattle.utf8.proofs.literal.eq_s_b as eq
 use Rattle.utf8.proofs.literal.eq_s_b.Symbol as eq-def
 use Rattle.utf8.proofs.literal.eq_s_b.Symbol.{name as #utf8·literal·eq-s-b}
 use Rattle.utf8.proofs.literal.eq_s_b.Met as eq-thm
-use Rattle.lent.proofs.Walk.{Lent, Shared, typed, opened, closed, answered, copied}
+use Rattle.lent.proofs.Walk.{Lent, Shared, typed, opened, closed, answered, copied, says-both}
 use Rattle.lent.proofs.literal_back.Key.{name as #lent·literal-back}
 use Rattle.lent.proofs.literal_back as literal
 use Rattle.lent.proofs.literal_back.Statement as stated
@@ -141,8 +141,8 @@ module _ {M : Type 1} (𝓤 : URA M) (H : Heap 𝓤) (A : Atoms 𝓤) (W : Given
       qed W (‵ (Lent T.the-type κ₂ (at-last c (r .next))) ∷ ‵ (flft κ₂ q₂) ∷ ‵ (flft κ q) ∷ ‵ (flft κ₁ q₁) ∷ ‵ Word ∷ ‵ Lit ∷ []) ∵
       suffices ! _ (ends-at 𝓤 H A literal.ended stayed (literal.clauses 𝓤 H A mem run) W (((κ, (κ₁, (κ₂, tt))), (q, (q₁, (q₂, tt))), bounds, a, vals), tt)
       (vbool (r .moved)) (r .moved) (tt, (tt, (r .next, tt))) (tt, (tt, (tt, tt)))) $
-      -- the two facts of the `ensures`, then the tokens, the parameters and the answer
-      says ! (ap (λ (x : Literal). x .moved) e, ap (λ (x : Literal). x .next) e) $
+      -- the facts of the two `ensures`, then the tokens, the parameters and the answer
+      says-both ! (ap (λ (x : Literal). x .moved) e) (ap (λ (x : Literal). x .next) e) $
       nothing ! $ move ! (2 ∷ 0 ∷ []) $ join ! $ move ! (3 ∷ 0 ∷ []) $ join ! $ move ! (2 ∷ 0 ∷ []) $ join ! $ frame ! $
       nothing ! $ move ! (1 ∷ 0 ∷ []) $ fjoin ! $ move ! (2 ∷ 0 ∷ []) $ fjoin ! $ move ! (1 ∷ 0 ∷ []) $ fjoin ! $ frame ! $
       owned ! bool (Is bool) (bool-makes 𝓤 H A W) (r .moved) _ refl $ done !
@@ -155,7 +155,8 @@ module _ {M : Type 1} (𝓤 : URA M) (H : Heap 𝓤) (A : Atoms 𝓤) (W : Given
         -- entry
         enter ! C Λ code.function (word ∷ lit ∷ vptr (c .ptr .0) (c .ptr .1) ∷ []) _ $
         alloc1 ! (λ l₀. alloc1 ! (λ l₁. alloc1 ! (λ l₂. alloc1 ! (λ l₃. alloc1 ! (λ l₄. alloc1 ! (λ l₅. alloc0 ! $ params1 ! $
-        pass1 ! (init ! 8 refl (shr-slice-lawful 𝓤 H A W (named 0) κ u8 .typed w (word ∷ []) w-is .0)) $ pass1 ! (init ! 6 refl (shr-slice-lawful 𝓤 H A W (named 1) κ₁ u8 .typed s (lit ∷ []) s-is .0)) $
+        pass1 ! (init ! 8 refl (shr-slice-lawful 𝓤 H A W (named 0) κ u8 .typed w (word ∷ []) w-is .0)) $
+        pass1 ! (init ! 6 refl (shr-slice-lawful 𝓤 H A W (named 1) κ₁ u8 .typed s (lit ∷ []) s-is .0)) $
         pass1 ! (init ! 4 refl (tt, tt)) $ pass0 ! $
         -- [_5; …; _4; …; _3; …; _2; …; _1; …; _0; …; the tokens; what w, s and c own]        what is owned
         move ! (13 ∷ []) $ fsplit ! $ copied ! κ u8 w $ move ! (2 ∷ []) $ fsplit ! $ copied ! κ₁ u8 s $ move ! (2 ∷ []) $ fsplit ! $
@@ -169,19 +170,22 @@ module _ {M : Type 1} (𝓤 : URA M) (H : Heap 𝓤) (A : Atoms 𝓤) (W : Given
         -- [what the callee asks; the record's cell; the open borrow; true; true; s; w; _5; …; _4; …; _3; …; _2; …; _1; …; _0; …]
         calls-at ! fm (Equal 𝓤 H A mem run) known to
         (and-then ! (load ! (from ! (stop !)) (look ! 15 refl)) (and-then ! (load ! (from ! (stop !)) (look ! 13 refl)) (and-then ! (load ! (from ! (stop !)) (look ! 7 refl)) (no-more !)))) (λ u.
-        use1 W (later (some (λ (r : Literal). ((‵ (flft κ q) ⊛ ‵ (flft κ₁ q₁) ⊛ ‵ ftrue) ⊛ ‵ (S.the-row .own r (u ∷ []))) ⊛ raw (ensured 𝓤 H A eq.ended (eq.clauses 𝓤 H A mem run) (κ, (κ₁, tt)) (w, (s, (now c, tt))) tt r)))) (id⊢ 𝓤 _) $
+        use1 W (later (some (λ (r : Literal). ((‵ (flft κ q) ⊛ ‵ (flft κ₁ q₁) ⊛ ‵ ftrue) ⊛ ‵ (S.the-row .own r (u ∷ [])))
+        ⊛ raw (ensured 𝓤 H A eq.ended (eq.clauses 𝓤 H A mem run) (κ, (κ₁, tt)) (w, (s, (now c, tt))) tt r)))) (id⊢ 𝓤 _) $
         await ! tt $ pick ! (λ r. split ! $ move ! (1 ∷ []) $ use1 W (raw (fact 𝓤 (r ≡ found))) (said r) $ heard ! (r ≡ found) (λ e.
         split ! $ move ! (1 ∷ []) $ answered ! S.the-type S′.the-laws r u (λ r-is.
         -- [the tokens of w and s, and true; the record's cell; the open borrow; true; true; s; w; _5; …; _4; …; _3; …; _2; …; _1; …; _0; …]
         land ! (from ! (stop !)) (init ! 9 refl (typed S.the-type S′.the-laws W r r-is)) $
         -- *_3 = _4.next
-        assigns ! (of-opd ! (load ! (from ! (fld ! refl (stop !))) (look-in ! 9 (sub ! 1 refl (whole !))))) (from ! (hop ! (look ! 11 refl) (stop !))) (store-raw ! 1 refl (typed T.the-type T′.the-laws W (r .next) (next-is r r-is))) $
+        assigns ! (of-opd ! (load ! (from ! (fld ! refl (stop !))) (look-in ! 9 (sub ! 1 refl (whole !)))))
+        (from ! (hop ! (look ! 11 refl) (stop !))) (store-raw ! 1 refl (typed T.the-type T′.the-laws W (r .next) (next-is r r-is))) $
         -- _0 = _4.moved
         assigns ! (of-opd ! (load ! (from ! (fld ! refl (stop !))) (look-in ! 9 (sub ! 0 refl (whole !))))) (from ! (stop !)) (init ! 17 refl (tt, tt)) $
         move ! (1 ∷ 2 ∷ []) $ closed ! tt T.the-type T′.the-laws T′.the-plain c (r .next) (next-is r r-is) $
         -- [c at its last record; c's token; the tokens of w and s, and true; true; true; s; w; _5; …; _4; …; _3; …; _2; …; _1; …; _0; …]        return
         returns ! (look ! 17 refl) $ forget ! 7 refl $ forget ! 9 refl $ forget ! 11 refl $ forget ! 13 refl $ forget ! 15 refl $ forget ! 17 refl $
-        move ! (17 ∷ 18 ∷ []) $ free1 ! $ move ! (15 ∷ 16 ∷ []) $ free1 ! $ move ! (13 ∷ 14 ∷ []) $ free1 ! $ move ! (11 ∷ 12 ∷ []) $ free1 ! $ move ! (9 ∷ 10 ∷ []) $ free1 ! $ move ! (7 ∷ 8 ∷ []) $ free1 ! $ free0 ! $
+        move ! (17 ∷ 18 ∷ []) $ free1 ! $ move ! (15 ∷ 16 ∷ []) $ free1 ! $ move ! (13 ∷ 14 ∷ []) $ free1 ! $ move ! (11 ∷ 12 ∷ []) $ free1 ! $
+        move ! (9 ∷ 10 ∷ []) $ free1 ! $ move ! (7 ∷ 8 ∷ []) $ free1 ! $ free0 ! $
         -- exit
         move ! (2 ∷ []) $ split ! $ move ! (1 ∷ []) $ split ! $ keep ! (3 ∷ 4 ∷ 2 ∷ 0 ∷ 8 ∷ 7 ∷ []) $ by ! (exits r e))))))))))))
 
@@ -199,8 +203,13 @@ literal-back-meets : {M : Type 1} (𝓤 : URA M) (H : Heap 𝓤) (A : Atoms 𝓤
     → Triple 𝓤 (𝓣 .C #utf8·literal·eq-s-b) (Equal 𝓤 H A mem run)
     → Meets 𝓤 H A literal.signature (WpFn 𝓤 H (𝓣 .C) (𝓣 .Λ) code.function) (literal.spec 𝓤 H A mem run)
 literal-back-meets 𝓤 H A W mem run 𝓣 known =
-    walk-meets 𝓤 H A literal.ended stayed W
-    (goes-none-slice 𝓤 H A W 3 (0 ∷ []) tt (plain (λ _. u8)) yes, (goes-none-slice 𝓤 H A W 3 (1 ∷ []) tt (plain (λ _. u8)) yes, (goes-ref 𝓤 H A W 3 2 tt (plain (λ _. T.the-row)), tt))) (literal.clauses 𝓤 H A mem run)
+    walk-meets 𝓤 H A literal.ended stayed W (
+      goes-none-slice 𝓤 H A W 3 (0 ∷ []) tt (plain (λ _. u8)) yes,
+      (
+        goes-none-slice 𝓤 H A W 3 (1 ∷ []) tt (plain (λ _. u8)) yes,
+        (goes-ref 𝓤 H A W 3 2 tt (plain (λ _. T.the-row)), tt),
+      ),
+    ) (literal.clauses 𝓤 H A mem run)
     (WpFn 𝓤 H (𝓣 .C) (𝓣 .Λ) code.function) (WpFn-mono 𝓤 H (W .laws) 𝓣 code.function) (literal-back-walks 𝓤 H A W mem run (𝓣 .C) (𝓣 .Λ) (fmOf 𝓤 H (W .laws) 𝓣) known)
 
 pub literal-back-spec : {M : Type 1} → stated.statement M

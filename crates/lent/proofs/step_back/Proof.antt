@@ -53,7 +53,7 @@ use denote.Triple.Call.{calls-at}
 use denote.Triple.Entry.{onEntry}
 use denote.Triple.Spec.{Meets, tripleOf}
 use denote.Triple.Table.{entered, cited}
-use denote.Triple.Walked.{says, Stays, stay-ref, stay-none-slice, walkOf, goes-ref, goes-none-slice, Walks, ends-at, walked, walk-meets}
+use denote.Triple.Walked.{Stays, stay-ref, stay-none-slice, walkOf, goes-ref, goes-none-slice, Walks, ends-at, walked, walk-meets}
 use denote.Triple.Clauses.{ensured, lasts}
 use denote.Exit.{yes}
 use Rattle.utf8.specs.Steps.{previousChar}
@@ -67,7 +67,7 @@ use Rattle.utf8.proofs.step.previous_char as previous
 use Rattle.utf8.proofs.step.previous_char.Symbol as previous-def
 use Rattle.utf8.proofs.step.previous_char.Symbol.{name as #utf8·step·previous-char}
 use Rattle.utf8.proofs.step.previous_char.Met as previous-thm
-use Rattle.lent.proofs.Walk.{Lent, Shared, typed, opened, closed, answered, copied}
+use Rattle.lent.proofs.Walk.{Lent, Shared, typed, opened, closed, answered, copied, says-both}
 use Rattle.lent.proofs.step_back.Key.{name as #lent·step-back}
 use Rattle.lent.proofs.step_back as step
 use Rattle.lent.proofs.step_back.Statement as stated
@@ -134,8 +134,8 @@ module _ {M : Type 1} (𝓤 : URA M) (H : Heap 𝓤) (A : Atoms 𝓤) (W : Given
       qed W (‵ (Lent T.the-type κ′ (at-last c (r .next))) ∷ ‵ (flft κ′ q′) ∷ ‵ (flft κ q) ∷ ‵ Word ∷ []) ∵
       suffices ! _ (ends-at 𝓤 H A step.ended stayed (step.clauses 𝓤 H A mem run) W (((κ, (κ′, tt)), (q, (q′, tt)), bounds, a, vals), tt)
       (vbool (r .moved)) (r .moved) (tt, (r .next, tt)) (tt, (tt, tt))) $
-      -- the two facts of the `ensures`, then the tokens, the parameters and the answer
-      says ! (ap (λ (x : Step). x .moved) e, ap (λ (x : Step). x .next) e) $
+      -- the facts of the two `ensures`, then the tokens, the parameters and the answer
+      says-both ! (ap (λ (x : Step). x .moved) e) (ap (λ (x : Step). x .next) e) $
       nothing ! $ move ! (2 ∷ 0 ∷ []) $ join ! $ move ! (2 ∷ 0 ∷ []) $ join ! $ frame ! $
       nothing ! $ move ! (1 ∷ 0 ∷ []) $ fjoin ! $ move ! (1 ∷ 0 ∷ []) $ fjoin ! $ frame ! $
       owned ! bool (Is bool) (bool-makes 𝓤 H A W) (r .moved) _ refl $ done !
@@ -159,13 +159,15 @@ module _ {M : Type 1} (𝓤 : URA M) (H : Heap 𝓤) (A : Atoms 𝓤) (W : Given
         move ! (3 ∷ 5 ∷ []) $ group ! 2 $ use1 W (raw (Previous 𝓤 H A mem run .pre to)) (goes c-is) $
         -- [what the callee asks; the record's cell; the open borrow; true; true; w; _4; …; _3; …; _2; …; _1; …; _0; …]
         calls-at ! fm (Previous 𝓤 H A mem run) known to (and-then ! (load ! (from ! (stop !)) (look ! 12 refl)) (and-then ! (load ! (from ! (stop !)) (look ! 6 refl)) (no-more !))) (λ u.
-        use1 W (later (some (λ (r : Step). ((‵ (flft κ q) ⊛ ‵ ftrue) ⊛ ‵ (S.the-row .own r (u ∷ []))) ⊛ raw (ensured 𝓤 H A previous.ended (previous.clauses 𝓤 H A mem run) (κ, tt) (w, (now c, tt)) tt r)))) (id⊢ 𝓤 _) $
+        use1 W (later (some (λ (r : Step). ((‵ (flft κ q) ⊛ ‵ ftrue) ⊛ ‵ (S.the-row .own r (u ∷ [])))
+        ⊛ raw (ensured 𝓤 H A previous.ended (previous.clauses 𝓤 H A mem run) (κ, tt) (w, (now c, tt)) tt r)))) (id⊢ 𝓤 _) $
         await ! tt $ pick ! (λ r. split ! $ move ! (1 ∷ []) $ use1 W (raw (fact 𝓤 (r ≡ found))) (said r) $ heard ! (r ≡ found) (λ e.
         split ! $ move ! (1 ∷ []) $ answered ! S.the-type S′.the-laws r u (λ r-is.
         -- [w's token and true; the record's cell; the open borrow; true; true; w; _4; …; _3; …; _2; …; _1; …; _0; …]
         land ! (from ! (stop !)) (init ! 8 refl (typed S.the-type S′.the-laws W r r-is)) $
         -- *_2 = _3.next
-        assigns ! (of-opd ! (load ! (from ! (fld ! refl (stop !))) (look-in ! 8 (sub ! 2 refl (whole !))))) (from ! (hop ! (look ! 10 refl) (stop !))) (store-raw ! 1 refl (typed T.the-type T′.the-laws W (r .next) (next-is r r-is))) $
+        assigns ! (of-opd ! (load ! (from ! (fld ! refl (stop !))) (look-in ! 8 (sub ! 2 refl (whole !)))))
+        (from ! (hop ! (look ! 10 refl) (stop !))) (store-raw ! 1 refl (typed T.the-type T′.the-laws W (r .next) (next-is r r-is))) $
         -- _0 = _3.moved
         assigns ! (of-opd ! (load ! (from ! (fld ! refl (stop !))) (look-in ! 8 (sub ! 0 refl (whole !))))) (from ! (stop !)) (init ! 14 refl (tt, tt)) $
         move ! (1 ∷ 2 ∷ []) $ closed ! tt T.the-type T′.the-laws T′.the-plain c (r .next) (next-is r r-is) $
