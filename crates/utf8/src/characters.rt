@@ -87,19 +87,19 @@ fn above_ascii(v: u32) -> u32
 }
 
 // The characters of two, three and four bytes.
-fn two(a: u8, b: u8) -> u32
+fn decode_two(a: u8, b: u8) -> u32
     ensures { λ r. ⌜ r ≡ decode (a ∷ b ∷ []) ⌝ }
 {
     above_ascii(low_bits(a, 0x20) * 0x40 + low_bits(b, 0x40))
 }
 
-fn three(a: u8, b: u8, c: u8) -> u32
+fn decode_three(a: u8, b: u8, c: u8) -> u32
     ensures { λ r. ⌜ r ≡ decode (a ∷ b ∷ c ∷ []) ⌝ }
 {
     above_ascii(low_bits(a, 0x10) * 0x1000 + low_bits(b, 0x40) * 0x40 + low_bits(c, 0x40))
 }
 
-fn four(a: u8, b: u8, c: u8, d: u8) -> u32
+fn decode_four(a: u8, b: u8, c: u8, d: u8) -> u32
     ensures { λ r. ⌜ r ≡ decode (a ∷ b ∷ c ∷ d ∷ []) ⌝ }
 {
     above_ascii(
@@ -119,10 +119,10 @@ pub fn char_at(w: &[u8], i: usize, n: usize) -> u32
         return w[i] as u32;
     }
     if n <= 2 {
-        return two(w[i], w[i + 1]);
+        return decode_two(w[i], w[i + 1]);
     }
     if n <= 3 {
-        return three(w[i], w[i + 1], w[i + 2]);
+        return decode_three(w[i], w[i + 1], w[i + 2]);
     }
-    four(w[i], w[i + 1], w[i + 2], w[i + 3])
+    decode_four(w[i], w[i + 1], w[i + 2], w[i + 3])
 }

@@ -19,68 +19,68 @@ returns : tie.Need-returns
 unfolding decode
 returns c = let a = c .before .before .before .args in sym (charAt-one (now (a .w)) (a .i) (a .n) (omega arith) (omega arith))
 
-shared-slice-read-two : tie.Need-shared-slice-read-two
-shared-slice-read-two c = search needs
+shared-slice-read-decode-two : tie.Need-shared-slice-read-decode-two
+shared-slice-read-decode-two c = search needs
 
-add-two : tie.Need-add-two
-add-two c = search needs
+add-decode-two : tie.Need-add-decode-two
+add-decode-two c = search needs
 
-shared-slice-read-two-2 : tie.Need-shared-slice-read-two-2
-shared-slice-read-two-2 c = search needs
+shared-slice-read-decode-two-2 : tie.Need-shared-slice-read-decode-two-2
+shared-slice-read-decode-two-2 c = search needs
 
-two-requires : tie.Need-two-requires
-two-requires c κs = search needs
+decode-two-requires : tie.Need-decode-two-requires
+decode-two-requires c κs = search needs
 
 returns-2 : tie.Need-returns-2
-returns-2 c = let a = c .before .before .before .before .before .before .args in c .two .ensures ∙ sym (charAt-two (now (a .w)) (a .i) (a .n) (omega arith) (omega arith))
+returns-2 c = let a = c .before .before .before .before .before .before .args in c .decode-two .ensures ∙ sym (charAt-two (now (a .w)) (a .i) (a .n) (omega arith) (omega arith))
 
-shared-slice-read-three : tie.Need-shared-slice-read-three
-shared-slice-read-three c = search needs
+shared-slice-read-decode-three : tie.Need-shared-slice-read-decode-three
+shared-slice-read-decode-three c = search needs
 
-add-three : tie.Need-add-three
-add-three c = search needs
+add-decode-three : tie.Need-add-decode-three
+add-decode-three c = search needs
 
-shared-slice-read-three-2 : tie.Need-shared-slice-read-three-2
-shared-slice-read-three-2 c = search needs
+shared-slice-read-decode-three-2 : tie.Need-shared-slice-read-decode-three-2
+shared-slice-read-decode-three-2 c = search needs
 
-add-three-2 : tie.Need-add-three-2
-add-three-2 c = search needs
+add-decode-three-2 : tie.Need-add-decode-three-2
+add-decode-three-2 c = search needs
 
-shared-slice-read-three-3 : tie.Need-shared-slice-read-three-3
-shared-slice-read-three-3 c = search needs
+shared-slice-read-decode-three-3 : tie.Need-shared-slice-read-decode-three-3
+shared-slice-read-decode-three-3 c = search needs
 
-three-requires : tie.Need-three-requires
-three-requires c κs = search needs
+decode-three-requires : tie.Need-decode-three-requires
+decode-three-requires c κs = search needs
 
 returns-3 : tie.Need-returns-3
-returns-3 c = let a = c .before .before .before .before .before .before .before .before .args in c .three .ensures ∙ sym (charAt-three (now (a .w)) (a .i) (a .n) (omega arith) (omega arith))
+returns-3 c = let a = c .before .before .before .before .before .before .before .before .args in c .decode-three .ensures ∙ sym (charAt-three (now (a .w)) (a .i) (a .n) (omega arith) (omega arith))
 
-shared-slice-read-four : tie.Need-shared-slice-read-four
-shared-slice-read-four c = search needs
+shared-slice-read-decode-four : tie.Need-shared-slice-read-decode-four
+shared-slice-read-decode-four c = search needs
 
-add-four : tie.Need-add-four
-add-four c = search needs
+add-decode-four : tie.Need-add-decode-four
+add-decode-four c = search needs
 
-shared-slice-read-four-2 : tie.Need-shared-slice-read-four-2
-shared-slice-read-four-2 c = search needs
+shared-slice-read-decode-four-2 : tie.Need-shared-slice-read-decode-four-2
+shared-slice-read-decode-four-2 c = search needs
 
-add-four-2 : tie.Need-add-four-2
-add-four-2 c = search needs
+add-decode-four-2 : tie.Need-add-decode-four-2
+add-decode-four-2 c = search needs
 
-shared-slice-read-four-3 : tie.Need-shared-slice-read-four-3
-shared-slice-read-four-3 c = search needs
+shared-slice-read-decode-four-3 : tie.Need-shared-slice-read-decode-four-3
+shared-slice-read-decode-four-3 c = search needs
 
-add-four-3 : tie.Need-add-four-3
-add-four-3 c = search needs
+add-decode-four-3 : tie.Need-add-decode-four-3
+add-decode-four-3 c = search needs
 
-shared-slice-read-four-4 : tie.Need-shared-slice-read-four-4
-shared-slice-read-four-4 c = search needs
+shared-slice-read-decode-four-4 : tie.Need-shared-slice-read-decode-four-4
+shared-slice-read-decode-four-4 c = search needs
 
-four-requires : tie.Need-four-requires
-four-requires c κs = search needs
+decode-four-requires : tie.Need-decode-four-requires
+decode-four-requires c κs = search needs
 
 returns-4 : tie.Need-returns-4
-returns-4 c = let a = c .before .before .before .before .before .before .before .before .before .args in c .four .ensures ∙ sym (charAt-four (now (a .w)) (a .i) (a .n) (omega arith) (omega arith))
+returns-4 c = let a = c .before .before .before .before .before .before .before .before .before .args in c .decode-four .ensures ∙ sym (charAt-four (now (a .w)) (a .i) (a .n) (omega arith) (omega arith))
 
 pub char-at-spec : {M : Type 1} → statement M
 char-at-spec =
@@ -89,24 +89,24 @@ char-at-spec =
     shared-slice-read-result
     cast-result
     returns
-    shared-slice-read-two
-    add-two
-    shared-slice-read-two-2
-    two-requires
+    shared-slice-read-decode-two
+    add-decode-two
+    shared-slice-read-decode-two-2
+    decode-two-requires
     returns-2
-    shared-slice-read-three
-    add-three
-    shared-slice-read-three-2
-    add-three-2
-    shared-slice-read-three-3
-    three-requires
+    shared-slice-read-decode-three
+    add-decode-three
+    shared-slice-read-decode-three-2
+    add-decode-three-2
+    shared-slice-read-decode-three-3
+    decode-three-requires
     returns-3
-    shared-slice-read-four
-    add-four
-    shared-slice-read-four-2
-    add-four-2
-    shared-slice-read-four-3
-    add-four-3
-    shared-slice-read-four-4
-    four-requires
+    shared-slice-read-decode-four
+    add-decode-four
+    shared-slice-read-decode-four-2
+    add-decode-four-2
+    shared-slice-read-decode-four-3
+    add-decode-four-3
+    shared-slice-read-decode-four-4
+    decode-four-requires
     returns-4)

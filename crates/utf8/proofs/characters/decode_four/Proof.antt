@@ -1,9 +1,9 @@
--- `utf8::characters::four` meets its contract: `decode` at four bytes, as sums that fit. Assumes nothing.
+-- `utf8::characters::decode_four` meets its contract: `decode` at four bytes, as sums that fit. Assumes nothing.
 use Rattle.utf8.specs.Encoding.{decode}
 use native.Mathlib.Omega.{arith}
 use borrow.Author.Needs.{needs}
-use Rattle.utf8.proofs.characters.four.Statement.{statement}
-use Rattle.utf8.proofs.characters.four.Tie as tie
+use Rattle.utf8.proofs.characters.decode_four.Statement.{statement}
+use Rattle.utf8.proofs.characters.decode_four.Tie as tie
 
 low-bits-requires : tie.Need-low-bits-requires
 low-bits-requires c κs = search needs
@@ -42,8 +42,8 @@ returns : tie.Need-returns
 unfolding decode
 returns c = omega arith
 
-pub four-spec : {M : Type 1} → statement M
-four-spec =
+pub decode-four-spec : {M : Type 1} → statement M
+decode-four-spec =
     tie.close
     (tie.spec
     low-bits-requires

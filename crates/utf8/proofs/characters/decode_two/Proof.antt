@@ -1,9 +1,9 @@
--- `utf8::characters::two` meets its contract: `decode` at two bytes, as sums that fit. Assumes nothing.
+-- `utf8::characters::decode_two` meets its contract: `decode` at two bytes, as sums that fit. Assumes nothing.
 use Rattle.utf8.specs.Encoding.{decode}
 use native.Mathlib.Omega.{arith}
 use borrow.Author.Needs.{needs}
-use Rattle.utf8.proofs.characters.two.Statement.{statement}
-use Rattle.utf8.proofs.characters.two.Tie as tie
+use Rattle.utf8.proofs.characters.decode_two.Statement.{statement}
+use Rattle.utf8.proofs.characters.decode_two.Tie as tie
 
 low-bits-requires : tie.Need-low-bits-requires
 low-bits-requires c κs = search needs
@@ -24,8 +24,8 @@ returns : tie.Need-returns
 unfolding decode
 returns c = omega arith
 
-pub two-spec : {M : Type 1} → statement M
-two-spec =
+pub decode-two-spec : {M : Type 1} → statement M
+decode-two-spec =
     tie.close
     (tie.spec
     low-bits-requires

@@ -1,9 +1,9 @@
--- `utf8::characters::three` meets its contract: `decode` at three bytes, as sums that fit. Assumes nothing.
+-- `utf8::characters::decode_three` meets its contract: `decode` at three bytes, as sums that fit. Assumes nothing.
 use Rattle.utf8.specs.Encoding.{decode}
 use native.Mathlib.Omega.{arith}
 use borrow.Author.Needs.{needs}
-use Rattle.utf8.proofs.characters.three.Statement.{statement}
-use Rattle.utf8.proofs.characters.three.Tie as tie
+use Rattle.utf8.proofs.characters.decode_three.Statement.{statement}
+use Rattle.utf8.proofs.characters.decode_three.Tie as tie
 
 low-bits-requires : tie.Need-low-bits-requires
 low-bits-requires c κs = search needs
@@ -33,8 +33,8 @@ returns : tie.Need-returns
 unfolding decode
 returns c = omega arith
 
-pub three-spec : {M : Type 1} → statement M
-three-spec =
+pub decode-three-spec : {M : Type 1} → statement M
+decode-three-spec =
     tie.close
     (tie.spec
     low-bits-requires
