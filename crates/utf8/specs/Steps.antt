@@ -19,6 +19,7 @@ stands w r = leb (r .«limit_backward») (r .cursor) && leb (r .cursor) (r .limi
 unfoldable pub moveTo : Cursor → ℕ → Cursor
 moveTo r c = record { cursor = c; limit = r .limit; «limit_backward» = r .«limit_backward» }
 
+-- the answer of a step that takes no character
 unfoldable pub stay : Cursor → Step
 stay r = record { moved = false; ch = 0; next = r }
 
@@ -47,16 +48,23 @@ same (x ∷ xs) (y ∷ ys) = eqb x y && same xs ys
 unfoldable pub standsAt : List ℕ → ℕ → List ℕ → Bool
 standsAt w i s = same (take (length s) (drop i w)) s
 
+-- the answers where a literal was passed, up to place c, and where it was not
+abbrev pub passed : Cursor → ℕ → Literal
+passed r c = record { moved = true; next = moveTo r c }
+
+abbrev pub notPassed : Cursor → Literal
+notPassed r = record { moved = false; next = r }
+
 -- back past the literal s, where it stands before the cursor and does not begin before limit_backward
 unfoldable pub eqSB : List ℕ → List ℕ → Cursor → Literal
 eqSB w s r =
     cond (stands w r && leb (r .«limit_backward» + length s) (r .cursor) && standsAt w (r .cursor - length s) s)
-    (record { moved = true; next = moveTo r (r .cursor - length s) })
-    (record { moved = false; next = r })
+    (passed r (r .cursor - length s))
+    (notPassed r)
 
 -- on past the literal s, where the cursor is below limit and s stands there and does not end past limit
 unfoldable pub eqS : List ℕ → List ℕ → Cursor → Literal
 eqS w s r =
     cond (stands w r && ltb (r .cursor) (r .limit) && leb (r .cursor + length s) (r .limit) && standsAt w (r .cursor) s)
-    (record { moved = true; next = moveTo r (r .cursor + length s) })
-    (record { moved = false; next = r })
+    (passed r (r .cursor + length s))
+    (notPassed r)

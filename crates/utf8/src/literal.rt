@@ -3,12 +3,24 @@ use crate::cursor::Cursor;
 ghost use mathlib.Core.Path.{_≡_};
 ghost use Prim.Native.Nat.{_+_, _≤_};
 ghost use lib.ListN.{length};
-ghost use Rattle.utf8.specs.Steps.{standsAt, eqSB, eqS};
+ghost use Rattle.utf8.specs.Steps.{standsAt, notPassed, eqSB, eqS};
 
 // Whether the cursor moved, and the record after the step.
 pub struct Literal {
     pub moved: bool,
     pub next: Cursor,
+}
+
+impl Literal {
+    // The literal does not stand: the record stays.
+    pub fn not_passed(r: Cursor) -> Literal
+        ensures { λ l. ⌜ l ≡ notPassed r ⌝ }
+    {
+        Literal {
+            moved: false,
+            next: r,
+        }
+    }
 }
 
 // Whether the bytes s stand at place i.
@@ -31,24 +43,15 @@ pub fn eq_s_b(w: &[u8], s: &[u8], r: Cursor) -> Literal
     ensures { λ l. ⌜ l ≡ eqSB (now (w .entry)) (now (s .entry)) r ⌝ }
 {
     if !r.stands_in(w) {
-        return Literal {
-            moved: false,
-            next: r,
-        };
+        return Literal::not_passed(r);
     }
     let c = r.cursor;
     if c - r.limit_backward < s.len() {
-        return Literal {
-            moved: false,
-            next: r,
-        };
+        return Literal::not_passed(r);
     }
     let start = c - s.len();
     if !stands_at(w, start, s) {
-        return Literal {
-            moved: false,
-            next: r,
-        };
+        return Literal::not_passed(r);
     }
     Literal {
         moved: true,
@@ -61,29 +64,17 @@ pub fn eq_s(w: &[u8], s: &[u8], r: Cursor) -> Literal
     ensures { λ l. ⌜ l ≡ eqS (now (w .entry)) (now (s .entry)) r ⌝ }
 {
     if !r.stands_in(w) {
-        return Literal {
-            moved: false,
-            next: r,
-        };
+        return Literal::not_passed(r);
     }
     let c = r.cursor;
     if r.limit <= c {
-        return Literal {
-            moved: false,
-            next: r,
-        };
+        return Literal::not_passed(r);
     }
     if r.limit - c < s.len() {
-        return Literal {
-            moved: false,
-            next: r,
-        };
+        return Literal::not_passed(r);
     }
     if !stands_at(w, c, s) {
-        return Literal {
-            moved: false,
-            next: r,
-        };
+        return Literal::not_passed(r);
     }
     Literal {
         moved: true,

@@ -2,7 +2,7 @@
 use crate::characters;
 use crate::cursor::Cursor;
 ghost use mathlib.Core.Path.{_≡_};
-ghost use Rattle.utf8.specs.Steps.{previousChar, nextChar};
+ghost use Rattle.utf8.specs.Steps.{stay, previousChar, nextChar};
 
 // Whether the cursor moved, the character that it passed (0 where it did not), and the record after the step.
 pub struct Step {
@@ -11,32 +11,33 @@ pub struct Step {
     pub next: Cursor,
 }
 
+impl Step {
+    // No character is taken: the record stays.
+    pub fn stay(r: Cursor) -> Step
+        ensures { λ s. ⌜ s ≡ stay r ⌝ }
+    {
+        Step {
+            moved: false,
+            ch: 0,
+            next: r,
+        }
+    }
+}
+
 // One character back; at limit_backward, or outside the word, the record stays.
 pub fn previous_char(w: &[u8], r: Cursor) -> Step
     ensures { λ s. ⌜ s ≡ previousChar (now (w .entry)) r ⌝ }
 {
     if !r.stands_in(w) {
-        return Step {
-            moved: false,
-            ch: 0,
-            next: r,
-        };
+        return Step::stay(r);
     }
     let c = r.cursor;
     if c <= r.limit_backward {
-        return Step {
-            moved: false,
-            ch: 0,
-            next: r,
-        };
+        return Step::stay(r);
     }
     let n = characters::last_width(w, c);
     if c - r.limit_backward < n {
-        return Step {
-            moved: false,
-            ch: 0,
-            next: r,
-        };
+        return Step::stay(r);
     }
     let start = c - n;
     Step {
@@ -51,27 +52,15 @@ pub fn next_char(w: &[u8], r: Cursor) -> Step
     ensures { λ s. ⌜ s ≡ nextChar (now (w .entry)) r ⌝ }
 {
     if !r.stands_in(w) {
-        return Step {
-            moved: false,
-            ch: 0,
-            next: r,
-        };
+        return Step::stay(r);
     }
     let c = r.cursor;
     if r.limit <= c {
-        return Step {
-            moved: false,
-            ch: 0,
-            next: r,
-        };
+        return Step::stay(r);
     }
     let n = characters::first_width(w, c);
     if r.limit - c < n {
-        return Step {
-            moved: false,
-            ch: 0,
-            next: r,
-        };
+        return Step::stay(r);
     }
     Step {
         moved: true,

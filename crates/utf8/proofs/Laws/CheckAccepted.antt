@@ -41,7 +41,8 @@ encoded-row : {n : ℕ} {bs : List ℕ} (r : Row) (b : ℕ) → Encodes n r → 
 encoded-row r b s f u (done t) = encoded-cons b _ _ (encode-one b (omega arith)) t
 encoded-row r b s f u (more {b = b₁} l₁ h₁ (done t)) = encoded-cons (b * 0x40 + b₁ - 0x3080) _ _ (encode-two _ b b₁ (omega arith)) t
 encoded-row r b s f u (more {b = b₁} l₁ h₁ (more {b = b₂} l₂ h₂ (done t))) = encoded-cons (b * 0x1000 + b₁ * 0x40 + b₂ - 0xE2080) _ _ (encode-three _ b b₁ b₂ (omega arith)) t
-encoded-row r b s f u (more {b = b₁} l₁ h₁ (more {b = b₂} l₂ h₂ (more {b = b₃} l₃ h₃ (done t)))) = encoded-cons (b * 0x40000 + b₁ * 0x1000 + b₂ * 0x40 + b₃ - 0x3C82080) _ _ (encode-four _ b b₁ b₂ b₃ (omega arith)) t
+encoded-row r b s f u (more {b = b₁} l₁ h₁ (more {b = b₂} l₂ h₂ (more {b = b₃} l₃ h₃ (done t)))) =
+    encoded-cons (b * 0x40000 + b₁ * 0x1000 + b₂ * 0x40 + b₃ - 0x3C82080) _ _ (encode-four _ b b₁ b₂ b₃ (omega arith)) t
 encoded-row r b s f u (more l₁ h₁ (more l₂ h₂ (more l₃ h₃ (more l₄ h₄ t)))) = absurd s
 
 -- a first byte that begins a character, and what it asks for

@@ -12,9 +12,8 @@ use lib.Dec.{leb, ltb, eqb}
 use borrow.Author.Tests.{leb-true, le-leb, lt-leb, lt-ltb, le-ltb, eq-eqb, ne-eqb}
 use Rattle.utf8.specs.declared.cursor.Cursor.{Cursor}
 use Rattle.utf8.specs.declared.step.Step.{Step}
-use Rattle.utf8.specs.declared.literal.Literal.{Literal}
 use Rattle.utf8.specs.Characters.{lastWidth, lastChar, firstWidth, firstChar, charAt}
-use Rattle.utf8.specs.Steps.{stands, moveTo, stay, previousChar, nextChar, same, standsAt, eqSB, eqS}
+use Rattle.utf8.specs.Steps.{stands, moveTo, stay, previousChar, nextChar, same, standsAt, passed, notPassed, eqSB, eqS}
 use Rattle.utf8.proofs.Laws.CharAt.{take-drop-cons}
 use Rattle.utf8.proofs.Laws.Booleans.{and-left, and-right, and-false}
 
@@ -115,12 +114,6 @@ unfolding standsAt same
 standsAt-end w i k s h = rw (drop-of-length-le s {i = k} h)
 
 -- ---- eqSB ----
-
-abbrev pub passed : Cursor → ℕ → Literal
-passed r c = record { moved = true; next = moveTo r c }
-
-abbrev pub notPassed : Cursor → Literal
-notPassed r = record { moved = false; next = r }
 
 pub eqSB-out : (w s : List ℕ) (r : Cursor) → stands w r ≡ false → eqSB w s r ≡ notPassed r
 unfolding eqSB

@@ -1,7 +1,7 @@
 -- `utf8::characters::continues_at` meets its contract: past the end nothing goes on, elsewhere the byte tells. Assumes nothing.
 use denote.Ref.{now}
 use Rattle.utf8.proofs.Laws.Widths.{continuation-end}
-use mathlib.Core.Path.{sym, _∙_}
+use mathlib.Core.Path.{sym}
 use borrow.Author.Needs.{needs}
 use Rattle.utf8.proofs.characters.continues_at.Statement.{statement}
 use Rattle.utf8.proofs.characters.continues_at.Tie as tie

@@ -25,7 +25,9 @@ continues-at-requires-2 c κs = search needs
 
 returns-2 : tie.Need-returns-2
 unfolding firstWidth
-returns-2 c = sym (width-two _ _ _ (sym (c .before .before .before .continues-at .ensures) ∙ not-false _ (c .before .before .if1 .left)) (sym (c .before .continues-at2 .ensures) ∙ not-true _ (c .if2 .taken)))
+returns-2 c =
+    let first = sym (c .before .before .before .continues-at .ensures) ∙ not-false _ (c .before .before .if1 .left) in
+    sym (width-two _ _ _ first (sym (c .before .continues-at2 .ensures) ∙ not-true _ (c .if2 .taken)))
 
 add-continues-at-3 : tie.Need-add-continues-at-3
 add-continues-at-3 c = search needs
@@ -35,11 +37,19 @@ continues-at-requires-3 c κs = search needs
 
 returns-3 : tie.Need-returns-3
 unfolding firstWidth
-returns-3 c = sym (width-three _ _ _ (sym (c .before .before .before .before .before .continues-at .ensures) ∙ not-false _ (c .before .before .before .before .if1 .left)) (sym (c .before .before .before .continues-at2 .ensures) ∙ not-false _ (c .before .before .if2 .left)) (sym (c .before .continues-at3 .ensures) ∙ not-true _ (c .if3 .taken)))
+returns-3 c =
+    let b = c .before .before in
+    let first = sym (b .before .before .before .continues-at .ensures) ∙ not-false _ (b .before .before .if1 .left) in
+    let second = sym (b .before .continues-at2 .ensures) ∙ not-false _ (b .if2 .left) in
+    sym (width-three _ _ _ first second (sym (c .before .continues-at3 .ensures) ∙ not-true _ (c .if3 .taken)))
 
 returns-4 : tie.Need-returns-4
 unfolding firstWidth
-returns-4 c = sym (width-fourth _ _ _ (sym (c .before .before .before .before .before .continues-at .ensures) ∙ not-false _ (c .before .before .before .before .if1 .left)) (sym (c .before .before .before .continues-at2 .ensures) ∙ not-false _ (c .before .before .if2 .left)) (sym (c .before .continues-at3 .ensures) ∙ not-false _ (c .if3 .left)))
+returns-4 c =
+    let b = c .before .before in
+    let first = sym (b .before .before .before .continues-at .ensures) ∙ not-false _ (b .before .before .if1 .left) in
+    let second = sym (b .before .continues-at2 .ensures) ∙ not-false _ (b .if2 .left) in
+    sym (width-fourth _ _ _ first second (sym (c .before .continues-at3 .ensures) ∙ not-false _ (c .if3 .left)))
 
 pub first-width-spec : {M : Type 1} → statement M
 first-width-spec =

@@ -20,18 +20,28 @@ goes-on-requires-2 c κs = search needs
 
 returns-2 : tie.Need-returns-2
 unfolding lastWidth
-returns-2 c = sym (width-two _ _ _ (sym (c .before .before .before .goes-on .ensures) ∙ not-false _ (c .before .before .if1 .left)) (sym (c .before .goes-on2 .ensures) ∙ not-true _ (c .if2 .taken)))
+returns-2 c =
+    let first = sym (c .before .before .before .goes-on .ensures) ∙ not-false _ (c .before .before .if1 .left) in
+    sym (width-two _ _ _ first (sym (c .before .goes-on2 .ensures) ∙ not-true _ (c .if2 .taken)))
 
 goes-on-requires-3 : tie.Need-goes-on-requires-3
 goes-on-requires-3 c κs = search needs
 
 returns-3 : tie.Need-returns-3
 unfolding lastWidth
-returns-3 c = sym (width-three _ _ _ (sym (c .before .before .before .before .before .goes-on .ensures) ∙ not-false _ (c .before .before .before .before .if1 .left)) (sym (c .before .before .before .goes-on2 .ensures) ∙ not-false _ (c .before .before .if2 .left)) (sym (c .before .goes-on3 .ensures) ∙ not-true _ (c .if3 .taken)))
+returns-3 c =
+    let b = c .before .before in
+    let first = sym (b .before .before .before .goes-on .ensures) ∙ not-false _ (b .before .before .if1 .left) in
+    let second = sym (b .before .goes-on2 .ensures) ∙ not-false _ (b .if2 .left) in
+    sym (width-three _ _ _ first second (sym (c .before .goes-on3 .ensures) ∙ not-true _ (c .if3 .taken)))
 
 returns-4 : tie.Need-returns-4
 unfolding lastWidth
-returns-4 c = sym (width-fourth _ _ _ (sym (c .before .before .before .before .before .goes-on .ensures) ∙ not-false _ (c .before .before .before .before .if1 .left)) (sym (c .before .before .before .goes-on2 .ensures) ∙ not-false _ (c .before .before .if2 .left)) (sym (c .before .goes-on3 .ensures) ∙ not-false _ (c .if3 .left)))
+returns-4 c =
+    let b = c .before .before in
+    let first = sym (b .before .before .before .goes-on .ensures) ∙ not-false _ (b .before .before .if1 .left) in
+    let second = sym (b .before .goes-on2 .ensures) ∙ not-false _ (b .if2 .left) in
+    sym (width-fourth _ _ _ first second (sym (c .before .goes-on3 .ensures) ∙ not-false _ (c .if3 .left)))
 
 pub last-width-spec : {M : Type 1} → statement M
 last-width-spec =

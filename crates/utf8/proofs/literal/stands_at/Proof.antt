@@ -2,14 +2,11 @@
 -- when all of it does. The measure is that rest. Assumes nothing.
 use Rattle.utf8.proofs.Laws.Steps.{standsAt-start, standsAt-differs, standsAt-next, standsAt-end}
 use Rattle.utf8.specs.Steps.{standsAt}
-use borrow.Author.Needs.{needs}
 use lib.ListN.{length, drop}
-use mathlib.Core.Path.{_≡_}
 use Prim.Native.Nat.{_+_, _-_, _≤_}
-use borrow.Author.Tests.{not-true, not-false}
 use denote.Ref.{now}
 use native.Mathlib.Omega.{arith}
-use mathlib.Core.Path.{sym, ap, _∙_}
+use mathlib.Core.Path.{_≡_, sym, _∙_}
 use Rattle.utf8.proofs.literal.stands_at.Statement.{statement}
 use Rattle.utf8.proofs.literal.stands_at.Tie as tie
 
@@ -32,7 +29,11 @@ shared-slice-read-if1-2 : tie.Need-shared-slice-read-if1-2 Inv-loop μ-loop
 shared-slice-read-if1-2 c = omega arith
 
 returns : tie.Need-returns Inv-loop μ-loop
-returns c = let a = c .before .before .before .before .before .args in let l = c .before .before .before .before .loop in sym (sym (l .inv .1) ∙ standsAt-differs (now (a .w)) (a .i) (l .k) (now (a .s)) (c .before .before .before .loop-test .taken) (omega arith) (c .if1 .taken))
+returns c =
+    let t = c .before .before .before in
+    let l = t .before .loop in
+    let a = t .before .before .args in
+    sym (sym (l .inv .1) ∙ standsAt-differs (now (a .w)) (a .i) (l .k) (now (a .s)) (t .loop-test .taken) (omega arith) (c .if1 .taken))
 
 add-k : tie.Need-add-k Inv-loop μ-loop
 add-k c = omega arith
@@ -41,7 +42,11 @@ loop-less : tie.Need-loop-less Inv-loop μ-loop
 loop-less c = omega arith
 
 loop-again : tie.Need-loop-again Inv-loop μ-loop
-loop-again c = let a = c .before .before .before .before .before .args in let l = c .before .before .before .before .loop in (omega arith, standsAt-next (now (a .w)) (a .i) (l .k) (now (a .s)) (c .before .before .before .loop-test .taken) (omega arith) (c .if1 .left) ∙ l .inv .1)
+loop-again c =
+    let t = c .before .before .before in
+    let l = t .before .loop in
+    let a = t .before .before .args in
+    (omega arith, standsAt-next (now (a .w)) (a .i) (l .k) (now (a .s)) (t .loop-test .taken) (omega arith) (c .if1 .left) ∙ l .inv .1)
 
 returns-2 : tie.Need-returns-2 Inv-loop μ-loop
 returns-2 c = let a = c .before .before .args in sym (standsAt-end (now (a .w)) (a .i) (c .before .loop .k) (now (a .s)) (c .loop-test .left)) ∙ c .before .loop .inv .1

@@ -33,7 +33,10 @@ loop-less : tie.Need-loop-less Inv-loop μ-loop
 loop-less c = search needs
 
 loop-again : tie.Need-loop-again Inv-loop μ-loop
-loop-again c = (omega arith, short-at (c .before .before .before .before .before .args .w .now) _ _ (c .before .before .before .loop .ok) _ (c .before .before .loop-test .taken) (c .may-follow .ensures) ∙ c .before .before .before .loop .inv .1)
+loop-again c =
+    let t = c .before .before in
+    let l = t .before .loop in
+    (omega arith, short-at (t .before .before .before .args .w .now) _ _ (l .ok) _ (t .loop-test .taken) (c .may-follow .ensures) ∙ l .inv .1)
 
 returns : tie.Need-returns Inv-loop μ-loop
 returns c = short-end (c .before .before .before .args .w .now) _ (c .before .loop .a) (c .before .loop .ok) (c .loop-test .left) ∙ c .before .loop .inv .1

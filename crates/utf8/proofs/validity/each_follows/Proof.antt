@@ -33,7 +33,10 @@ loop-less : tie.Need-loop-less Inv-loop μ-loop
 loop-less c = search needs
 
 loop-again : tie.Need-loop-again Inv-loop μ-loop
-loop-again c = (omega arith, text-at (c .before .before .before .before .before .args .w .now) _ _ _ _ (c .before .before .before .loop .ok) _ (c .before .before .loop-test .taken) (c .may-follow .ensures) ∙ c .before .before .before .loop .inv .1)
+loop-again c =
+    let t = c .before .before in
+    let l = t .before .loop in
+    (omega arith, text-at (t .before .before .before .args .w .now) _ _ _ _ (l .ok) _ (t .loop-test .taken) (c .may-follow .ensures) ∙ l .inv .1)
 
 is-owed-requires : tie.Need-is-owed-requires Inv-loop μ-loop
 is-owed-requires c κs = search needs
