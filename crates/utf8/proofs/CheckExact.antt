@@ -2,8 +2,8 @@
 -- Assumes nothing.
 use Prim.Native.Nat.{ℕ, _<_}
 use mathlib.Core.Path.{_≡_, refl, sym, ap, _∙_}
-use mathlib.Core.Bool.{Bool, true, false, _&&_}
-use mathlib.Core.List.{List, [], _∷_, _++_}
+use mathlib.Core.Bool.{Bool, true, false, _&&_, and-true, and-assoc}
+use mathlib.Core.List.{List, [], _∷_, _++_, append-assoc, append-nil}
 use mathlib.Core.Logic.{_↔_}
 use Rattle.utf8.specs.Scalar.{surrogate, scalar, scalars}
 use Rattle.utf8.specs.Encoding.{encode, encodeAll}
@@ -13,11 +13,18 @@ use Rattle.utf8.proofs.Laws.Scalar.{surrogate-not-scalar, above-not-sca
 use Rattle.utf8.proofs.Laws.CheckEncoded.{isText-encode}
 use Rattle.utf8.proofs.Laws.CheckAccepted.{isText-encoded}
 
+-- the check on an encoding and what follows says whether all its characters are scalar values and what follows is text
+pub isText-encodeAll-append : (cs rest : List ℕ) → isText (encodeAll cs ++ rest) ≡ scalars cs && isText rest
+unfolding encodeAll scalars
+isText-encodeAll-append [] rest = refl
+isText-encodeAll-append (c ∷ cs) rest =
+    ap isText (append-assoc (encode c) (encodeAll cs) rest) ∙ isText-encode c (encodeAll cs ++ rest)
+    ∙ ap (λ (t : Bool). scalar c && t) (isText-encodeAll-append cs rest) ∙ sym (and-assoc (scalar c) (scalars cs) (isText rest))
+
 -- the check on an encoding says whether all its characters are scalar values
 pub isText-encodeAll : (cs : List ℕ) → isText (encodeAll cs) ≡ scalars cs
-unfolding encodeAll scalars isText accepts due
-isText-encodeAll [] = refl
-isText-encodeAll (c ∷ cs) = isText-encode c (encodeAll cs) ∙ ap (λ (t : Bool). scalar c && t) (isText-encodeAll cs)
+unfolding isText accepts due
+isText-encodeAll cs = ap isText (sym (append-nil (encodeAll cs))) ∙ isText-encodeAll-append cs [] ∙ and-true (scalars cs)
 
 -- the encoding of scalar values is accepted
 pub encodes-isText : (cs : List ℕ) → scalars cs ≡ true → isText (encodeAll cs) ≡ true

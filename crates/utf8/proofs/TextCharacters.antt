@@ -127,19 +127,22 @@ unfolding encodeAll
 encodeAll-reverse c cs = rw (reverse-cons, encodeAll-append, append-nil)
 
 -- before the end of a character's encoding stand that character and what stands before it
-before-encoded : (p q : List ℕ) (c : ℕ) → scalar c ≡ true
-    → before (p ++ encode c ++ q) (length (p ++ encode c)) ≡ c ∷ before (p ++ (encode c ++ q)) (length p)
-before-encoded p q c h =
+before-encoded : (w p q : List ℕ) (c : ℕ) → scalar c ≡ true → w ≡ p ++ encode c ++ q → before w (length (p ++ encode c)) ≡ c ∷ before w (length p)
+before-encoded w p q c h e =
     let z : 0 < length (p ++ encode c) = omega (arith, length-append p (encode c), length-encode-pos c) in
-    before-step (p ++ encode c ++ q) (length (p ++ encode c)) z ∙ rw (lastStart-encoded p q c, lastChar-encoded p q c h, append-assoc)
+    before-step w (length (p ++ encode c)) z ∙ rw (e, lastStart-encoded p q c, lastChar-encoded p q c h)
 
--- before the end of a text stand its characters, here told nearest first
-before-reverse : (cs q : List ℕ) → scalars cs ≡ true → before (encodeAll (reverse cs) ++ q) (length (encodeAll (reverse cs))) ≡ cs
+-- before the end of some characters' encoding stand they, here told nearest first, and then what stands before it
+before-reverse : (w p cs q : List ℕ) → scalars cs ≡ true → w ≡ p ++ encodeAll (reverse cs) ++ q
+    → before w (length (p ++ encodeAll (reverse cs))) ≡ cs ++ before w (length p)
 unfolding encodeAll
-before-reverse [] q h = before-zero q
-before-reverse (c ∷ cs) q h =
-    rw (encodeAll-reverse, before-encoded (encodeAll (reverse cs)) q c (scalar-head c cs h))
-    (ap (λ (l : List ℕ). c ∷ l) (before-reverse cs (encode c ++ q) (scalars-tail c cs h)))
+before-reverse w p [] q h e = ap (λ (l : List ℕ). before w (length l)) (append-nil p)
+before-reverse w p (c ∷ cs) q h e =
+    let f : List ℕ = encodeAll (reverse cs) in
+    let l : p ++ encodeAll (reverse (c ∷ cs)) ≡ p ++ f ++ encode c = rw (encodeAll-reverse, append-assoc) in
+    let k : w ≡ p ++ f ++ encode c ++ q = e ∙ ap (λ (x : List ℕ). x ++ q) l in
+    ap (λ (x : List ℕ). before w (length x)) l ∙ before-encoded w (p ++ f) q c (scalar-head c cs h) k
+    ∙ ap (λ (x : List ℕ). c ∷ x) (before-reverse w p cs (encode c ++ q) (scalars-tail c cs h) (k ∙ append-assoc (p ++ f) (encode c) q))
 
 -- before the place n characters back from there stands the encoding of all but the nearest n
 take-back-reverse : (cs q : List ℕ) (n : ℕ) → scalars cs ≡ true
@@ -157,13 +160,23 @@ unfolding scalars
 scalars-reverse [] h = refl
 scalars-reverse (c ∷ cs) h = rw (reverse-cons, scalars-append, scalars-reverse cs (scalars-tail c cs h), scalar-head c cs h)
 
+-- before the end of some characters' encoding stand they, the last one first, and then what stands before it
+pub before-after : (w p cs q : List ℕ) → scalars cs ≡ true → w ≡ p ++ encodeAll cs ++ q → before w (length (p ++ encodeAll cs)) ≡ reverse cs ++ before w (length p)
+before-after w p cs q h e = rw reverse-reverse at (before-reverse w p (reverse cs) q (scalars-reverse cs h) (rw reverse-reverse e))
+
 -- before the end of a text stand its characters, the last one first, whatever follows
 pub before-text : (cs q : List ℕ) → scalars cs ≡ true → before (encodeAll cs ++ q) (length (encodeAll cs)) ≡ reverse cs
-before-text cs q h = rw reverse-reverse at (before-reverse (reverse cs) q (scalars-reverse cs h))
+before-text cs q h = before-after (encodeAll cs ++ q) [] cs q h refl ∙ rw (before-zero, append-nil)
 
 -- and where nothing follows
 before-end : (cs : List ℕ) → scalars cs ≡ true → before (encodeAll cs) (length (encodeAll cs)) ≡ reverse cs
 before-end cs h = rw append-nil at (before-text cs [] h)
+
+-- characters whose encodings are equal are equal
+pub encodeAll-injective : (cs ds : List ℕ) → scalars cs ≡ true → scalars ds ≡ true → encodeAll cs ≡ encodeAll ds → cs ≡ ds
+encodeAll-injective cs ds h k e =
+    let r : reverse cs ≡ reverse ds = sym (before-end cs h) ∙ ap (λ (w : List ℕ). before w (length w)) e ∙ before-end ds k in
+    sym (reverse-reverse cs) ∙ ap reverse r ∙ reverse-reverse ds
 
 -- a text's characters, encoded again, are the text
 pub encode-before : (w : List ℕ) → TextOf w → encodeAll (reverse (before w (length w))) ≡ w

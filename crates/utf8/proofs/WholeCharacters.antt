@@ -1,20 +1,21 @@
--- A step takes a whole character of a text, answers no at its edge, and never passes the record's limits.
+-- A step takes a whole character of a text, answers no at its edge, and never passes the record's limits; past a literal neither.
 -- Assumes nothing.
-use Prim.Native.Nat.{ℕ, _+_, _≤_}
-use mathlib.Core.Path.{_≡_, refl}
-use mathlib.Core.Bool.{Bool, true, false, cond, _&&_}
+use Prim.Native.Nat.{ℕ, _+_, _-_, _≤_}
+use mathlib.Core.Path.{_≡_}
+use mathlib.Core.Bool.{Bool, true, _&&_}
 use mathlib.Core.List.{List, [], _∷_, _++_, append-assoc, append-nil}
 use native.Mathlib.Omega.{arith}
 use lib.ListN.{length, length-append}
-use lib.Dec.{leb}
+use lib.Dec.{leb, ltb}
 use borrow.Author.Tests.{leb-true, le-leb}
 use Rattle.utf8.specs.declared.cursor.Cursor.{Cursor}
 use Rattle.utf8.specs.declared.step.Step.{Step}
+use Rattle.utf8.specs.declared.literal.Literal.{Literal}
 use Rattle.utf8.specs.Scalar.{scalar, scalars}
 use Rattle.utf8.specs.Encoding.{encode, encodeAll}
 use Rattle.utf8.specs.Characters.{lastWidth, firstWidth}
-use Rattle.utf8.specs.Steps.{stands, moveTo, stay, previousChar, nextChar}
-use Rattle.utf8.proofs.Laws.Booleans.{and-right}
+use Rattle.utf8.specs.Steps.{stands, moveTo, stay, previousChar, nextChar, standsAt, eqSB, eqS}
+use Rattle.utf8.proofs.Laws.Booleans.{and-left, and-right, cond-test}
 use Rattle.utf8.proofs.Laws.Steps.{stands-within, stands-ordered, previousChar-stays, nextChar-stays}
 use Rattle.utf8.proofs.Laws.Characters.{lastWidth-pos, firstWidth-pos}
 use Rattle.utf8.proofs.TextCharacters.{lastWidth-encoded, lastStart-encoded, lastChar-encoded, firstWidth-encoded, firstChar-encoded}
@@ -39,29 +40,44 @@ pub record Between (low high : ℕ) (r s : Cursor) : Type 0 where
   pub same-limit : s .limit ≡ r .limit
   pub same-backward : s .«limit_backward» ≡ r .«limit_backward»
 
--- what holds of the step taken within its limit, and of none taken, holds of the step
-step-elim : (P : Step → Type 0) (t : Bool) (a b : ℕ) (x y : Step) → (a ≤ b → P x) → P y → P (cond (t && leb a b) x y)
-step-elim P t a b x y f g = go (t && leb a b) refl
-  where
-    go : (u : Bool) → t && leb a b ≡ u → P (cond u x y)
-    go true e = f (leb-true a b (and-right t (leb a b) e))
-    go false e = g
-
 -- a step back stays between limit_backward and where it began
 pub previousChar-within : (w : List ℕ) (r : Cursor) → stands w r ≡ true → Between (r .«limit_backward») (r .cursor) r (previousChar w r .next)
 unfolding previousChar moveTo stay
 previousChar-within w r e =
     let h = stands-within w r e in
-    step-elim (λ s. Between (r .«limit_backward») (r .cursor) r (s .next))
-    (stands w r) (r .«limit_backward» + lastWidth w (r .cursor)) (r .cursor) _ _ (λ l. omega arith) (omega arith)
+    let fits : Bool = leb (r .«limit_backward» + lastWidth w (r .cursor)) (r .cursor) in
+    cond-test (λ (s : Step). Between (r .«limit_backward») (r .cursor) r (s .next)) (stands w r && fits)
+    (λ t. omega (arith, leb-true (r .«limit_backward» + lastWidth w (r .cursor)) (r .cursor) (and-right (stands w r) fits t))) (omega arith)
 
 -- a step on stays between where it began and limit
 pub nextChar-within : (w : List ℕ) (r : Cursor) → stands w r ≡ true → Between (r .cursor) (r .limit) r (nextChar w r .next)
 unfolding nextChar moveTo stay
 nextChar-within w r e =
     let h = stands-within w r e in
-    step-elim (λ s. Between (r .cursor) (r .limit) r (s .next))
-    (stands w r) (r .cursor + firstWidth w (r .cursor)) (r .limit) _ _ (λ l. omega arith) (omega arith)
+    let fits : Bool = leb (r .cursor + firstWidth w (r .cursor)) (r .limit) in
+    cond-test (λ (s : Step). Between (r .cursor) (r .limit) r (s .next)) (stands w r && fits)
+    (λ t. omega (arith, leb-true (r .cursor + firstWidth w (r .cursor)) (r .limit) (and-right (stands w r) fits t))) (omega arith)
+
+-- past a literal back likewise
+pub eqSB-within : (w s : List ℕ) (r : Cursor) → stands w r ≡ true → Between (r .«limit_backward») (r .cursor) r (eqSB w s r .next)
+unfolding eqSB moveTo
+eqSB-within w s r e =
+    let h = stands-within w r e in
+    let fits : Bool = leb (r .«limit_backward» + length s) (r .cursor) in
+    let equal : Bool = standsAt w (r .cursor - length s) s in
+    cond-test (λ (l : Literal). Between (r .«limit_backward») (r .cursor) r (l .next)) (stands w r && fits && equal)
+    (λ t. omega (arith, leb-true (r .«limit_backward» + length s) (r .cursor) (and-right (stands w r) fits (and-left (stands w r && fits) equal t)))) (omega arith)
+
+-- and past a literal on
+pub eqS-within : (w s : List ℕ) (r : Cursor) → stands w r ≡ true → Between (r .cursor) (r .limit) r (eqS w s r .next)
+unfolding eqS moveTo
+eqS-within w s r e =
+    let h = stands-within w r e in
+    let below : Bool = stands w r && ltb (r .cursor) (r .limit) in
+    let fits : Bool = leb (r .cursor + length s) (r .limit) in
+    let equal : Bool = standsAt w (r .cursor) s in
+    cond-test (λ (l : Literal). Between (r .cursor) (r .limit) r (l .next)) (below && fits && equal)
+    (λ t. omega (arith, leb-true (r .cursor + length s) (r .limit) (and-right below fits (and-left (below && fits) equal t)))) (omega arith)
 
 -- ---- whole characters ----
 

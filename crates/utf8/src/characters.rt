@@ -71,7 +71,8 @@ pub fn first_width(w: &[u8], c: usize) -> usize
 // A byte's lowest bits, wide enough to be put together.
 fn low_bits(b: u8, modulus: u8) -> u32
     requires { ⌜ 0 < modulus ⌝ }
-    ensures { λ r. ⌜ (r ≡ b % modulus) × (r < modulus) ⌝ }
+    ensures { λ r. ⌜ r ≡ b % modulus ⌝ }
+    ensures { λ r. ⌜ r < modulus ⌝ }
 {
     (b % modulus) as u32
 }

@@ -37,8 +37,13 @@ pub cond-cases : {A : Type 0} (P : A → Type 0) (t : Bool) {x y : A} → (t ≡
 cond-cases P true f g = f refl
 cond-cases P false f g = g refl
 
+-- the same where only the first side asks for it
+pub cond-test : {A : Type 0} (P : A → Type 0) (t : Bool) {x y : A} → (t ≡ true → P x) → P y → P (cond t x y)
+cond-test P t f q = cond-cases P t f (λ e. q)
+
+-- and where neither does
 pub cond-both : {A : Type 0} (P : A → Type 0) (t : Bool) (x y : A) → P x → P y → P (cond t x y)
-cond-both P t x y p q = cond-cases P t (λ e. p) (λ e. q)
+cond-both P t x y p q = cond-test P t (λ e. p) q
 
 -- a choice between two tests, made of tests alone
 pub chosen : (t p q : Bool) → t && p || not t && q ≡ cond t p q

@@ -1,15 +1,15 @@
 -- The characters seen from a place in any word of bytes: their widths, one to four bytes within the word; what stands before the
 -- place, a character at a time; and the places characters back. Assumes nothing.
 use Prim.Native.Nat.{ℕ, zero, suc, _+_, _-_, _≤_, _<_}
-use mathlib.Core.Path.{_≡_, refl, sym, ap, _∙_}
-use mathlib.Core.Bool.{Bool, true, false, false≢true}
+use mathlib.Core.Path.{_≡_, refl, ap, _∙_}
+use mathlib.Core.Bool.{Bool, true, false}
 use mathlib.Core.List.{List, [], _∷_}
 use native.Mathlib.Omega.{arith}
 use native.Mathlib.Nat.{zero-add, suc-add, zero-sub}
-use lib.ListN.{length, drop, getD, List·getD-eq-default}
+use lib.ListN.{length, drop, getD}
 use lib.Seq.{drop-nil}
 use lib.Dec.{ltb}
-use borrow.Author.Tests.{ltb-true, ltb-false}
+use borrow.Author.Tests.{ltb-true}
 use Rattle.utf8.specs.Characters.{continuation, width, goesOn, lastWidth, firstWidth, lastChar, beforeWithin, before, back}
 use Rattle.utf8.proofs.Laws.Booleans.{and-left}
 
@@ -55,15 +55,6 @@ lastWidth-le w c h = width-elim (λ n. n ≤ c) _ _ _ h (goesOn-lt w c 1) (goesO
 
 -- ---- firstWidth ----
 
--- past the word's end no byte goes on
-pub continuation-lt : (w : List ℕ) (i : ℕ) → continuation (getD w i 0) ≡ true → i < length w
-unfolding continuation
-continuation-lt w i e = go (ltb i (length w)) refl
-  where
-    go : (t : Bool) → ltb i (length w) ≡ t → i < length w
-    go true h = ltb-true i (length w) h
-    go false h = absurd (false≢true (sym (ap continuation (List·getD-eq-default w 0 (ltb-false i (length w) h))) ∙ e))
-
 -- the character that begins at a place has a byte
 pub firstWidth-pos : (w : List ℕ) (c : ℕ) → 0 < firstWidth w c
 unfolding firstWidth
@@ -73,15 +64,6 @@ firstWidth-pos w c = width-pos _ _ _
 pub firstWidth-four : (w : List ℕ) (c : ℕ) → firstWidth w c ≤ 4
 unfolding firstWidth
 firstWidth-four w c = width-four _ _ _
-
--- and ends within the word
-pub firstWidth-le : (w : List ℕ) (c : ℕ) → c < length w → c + firstWidth w c ≤ length w
-unfolding firstWidth
-firstWidth-le w c h =
-    width-elim (λ n. c + n ≤ length w) _ _ _ (omega arith)
-    (λ e. omega (arith, continuation-lt w (c + 1) e))
-    (λ e. omega (arith, continuation-lt w (c + 2) e))
-    (λ e. omega (arith, continuation-lt w (c + 3) e))
 
 -- ---- before ----
 

@@ -90,7 +90,3 @@ encode-lead c =
 -- a character has a byte
 pub length-encode-pos : (c : ℕ) → 0 < length (encode c)
 length-encode-pos c = encode-elim (λ l. 0 < length l) c (λ h. omega arith) (λ h k. omega arith) (λ h k. omega arith) (λ h. omega arith)
-
--- and at most four
-pub length-encode-four : (c : ℕ) → length (encode c) ≤ 4
-length-encode-four c = encode-elim (λ l. length l ≤ 4) c (λ h. omega arith) (λ h k. omega arith) (λ h k. omega arith) (λ h. omega arith)

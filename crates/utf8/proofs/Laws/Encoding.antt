@@ -1,12 +1,13 @@
 -- The laws of `encode`, by the number of bytes. Assumes nothing.
 use Prim.Native.Nat.{ℕ, _+_, _*_, _/_, _%_, _≤_, _<_}
 use mathlib.Core.Path.{_≡_, refl}
-use mathlib.Core.Bool.{Bool, true, false, cond}
+use mathlib.Core.Bool.{cond}
 use mathlib.Core.List.{List, [], _∷_}
 use native.Mathlib.Omega.{arith}
 use lib.Dec.{ltb}
 use borrow.Author.Tests.{ltb-true, ltb-false}
 use Rattle.utf8.specs.Encoding.{encode}
+use Rattle.utf8.proofs.Laws.Booleans.{cond-cases}
 
 -- the two, three and four bytes of a character
 abbrev pub two : ℕ → List ℕ
@@ -20,11 +21,7 @@ four c = (0xF0 + c / 0x40000) ∷ (0x80 + c / 0x1000 % 0x40) ∷ (0x80 + c / 0x4
 
 -- a case on a test, with what the test says
 pub by-test : (P : List ℕ → Type 0) (a b : ℕ) (x y : List ℕ) → (a < b → P x) → (b ≤ a → P y) → P (cond (ltb a b) x y)
-by-test P a b x y f g = go (ltb a b) refl
-  where
-    go : (t : Bool) → ltb a b ≡ t → P (cond t x y)
-    go true e = f (ltb-true a b e)
-    go false e = g (ltb-false a b e)
+by-test P a b x y f g = cond-cases P (ltb a b) (λ e. f (ltb-true a b e)) (λ e. g (ltb-false a b e))
 
 -- what holds of each of the four forms in its range holds of a character's bytes
 pub encode-elim : (P : List ℕ → Type 0) (c : ℕ)

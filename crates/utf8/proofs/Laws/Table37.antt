@@ -9,6 +9,7 @@ use lib.Seq.{drop-cons}
 use lib.Dec.{ltb, leb}
 use native.Mathlib.Omega.{arith}
 use borrow.Author.Tests.{le-leb, lt-leb, leb-true, leb-false, ltb-true, ltb-false}
+use Rattle.utf8.proofs.Laws.Booleans.{and-left, and-right, cond-test}
 use Rattle.utf8.specs.Validity.{Row, Due, row, due, refused, leadIn, lead, table37}
 
 -- the first k rows end below b
@@ -72,12 +73,10 @@ Each Q (r ∷ rs) = Q r × Each Q rs
 leadIn-elim : (P : Due → Type 0) (Q : Row → Type 0) (rs : List Row) (b : ℕ) → Each Q rs → ((r : Row) → Q r → r .from ≤ b → b ≤ r .upto → P (asked r)) → P refused → P (leadIn rs b)
 unfolding leadIn
 leadIn-elim P Q [] b q f z = z
-leadIn-elim P Q (r ∷ rs) b q f z = go (leb (r .from) b) (leb b (r .upto)) refl refl (leadIn-elim P Q rs b (q .1) f z)
-  where
-    go : (s t : Bool) → leb (r .from) b ≡ s → leb b (r .upto) ≡ t → P (leadIn rs b) → P (cond (s && t) (asked r) (leadIn rs b))
-    go true true l h p = f r (q .0) (leb-true (r .from) b l) (leb-true b (r .upto) h)
-    go true false l h p = p
-    go false t l h p = p
+leadIn-elim P Q (r ∷ rs) b q f z =
+    let l : Bool = leb (r .from) b in
+    let u : Bool = leb b (r .upto) in
+    cond-test P (l && u) (λ e. f r (q .0) (leb-true (r .from) b (and-left l u e)) (leb-true b (r .upto) (and-right l u e))) (leadIn-elim P Q rs b (q .1) f z)
 
 -- what holds of a refusal and of what b's row asks for, given what holds of each row, holds of what b asks for
 pub lead-elim : (P : Due → Type 0) (Q : Row → Type 0) (b : ℕ) → Each Q table37 → ((r : Row) → Q r → r .from ≤ b → b ≤ r .upto → P (asked r)) → P refused → P (lead b)

@@ -32,7 +32,9 @@ decode-two-requires : tie.Need-decode-two-requires
 decode-two-requires c κs = search needs
 
 returns-2 : tie.Need-returns-2
-returns-2 c = let a = c .before .before .before .before .before .before .args in c .decode-two .ensures ∙ sym (charAt-two (now (a .w)) (a .i) (a .n) (omega arith) (omega arith))
+returns-2 c =
+    let a = c .before .before .before .before .before .before .args in
+    c .decode-two .ensures ∙ sym (charAt-two (now (a .w)) (a .i) (a .n) (omega arith) (omega arith))
 
 shared-slice-read-decode-three : tie.Need-shared-slice-read-decode-three
 shared-slice-read-decode-three c = search needs
@@ -53,7 +55,9 @@ decode-three-requires : tie.Need-decode-three-requires
 decode-three-requires c κs = search needs
 
 returns-3 : tie.Need-returns-3
-returns-3 c = let a = c .before .before .before .before .before .before .before .before .args in c .decode-three .ensures ∙ sym (charAt-three (now (a .w)) (a .i) (a .n) (omega arith) (omega arith))
+returns-3 c =
+    let a = c .before .before .before .before .before .before .before .before .args in
+    c .decode-three .ensures ∙ sym (charAt-three (now (a .w)) (a .i) (a .n) (omega arith) (omega arith))
 
 shared-slice-read-decode-four : tie.Need-shared-slice-read-decode-four
 shared-slice-read-decode-four c = search needs
@@ -80,7 +84,9 @@ decode-four-requires : tie.Need-decode-four-requires
 decode-four-requires c κs = search needs
 
 returns-4 : tie.Need-returns-4
-returns-4 c = let a = c .before .before .before .before .before .before .before .before .before .args in c .decode-four .ensures ∙ sym (charAt-four (now (a .w)) (a .i) (a .n) (omega arith) (omega arith))
+returns-4 c =
+    let a = c .before .before .before .before .before .before .before .before .before .args in
+    c .decode-four .ensures ∙ sym (charAt-four (now (a .w)) (a .i) (a .n) (omega arith) (omega arith))
 
 pub char-at-spec : {M : Type 1} → statement M
 char-at-spec =
