@@ -3,23 +3,22 @@
 -- within the limits. Assumes nothing.
 use Prim.Native.Nat.{ℕ, _+_, _-_, _≤_, _<_}
 use mathlib.Core.Path.{_≡_, refl, sym, ap, _∙_}
-use mathlib.Core.Bool.{Bool, true, _&&_, false≢true}
+use mathlib.Core.Bool.{true, false≢true}
 use mathlib.Core.List.{List, [], _∷_, _++_, reverse, append-assoc, reverse-append, reverse-reverse}
 use native.Mathlib.Omega.{arith}
 use lib.ListN.{length, take, drop, length-append, take-append-drop}
 use lib.Seq.{drop-drop, length-take-le, take-append-seam, drop-append-seam}
-use lib.Dec.{leb, ltb, eqb}
-use borrow.Author.Tests.{leb-true, eqb-true, eq-eqb}
+use lib.Dec.{eqb}
+use borrow.Author.Tests.{eqb-true, eq-eqb}
 use Rattle.utf8.specs.declared.cursor.Cursor.{Cursor}
-use Rattle.utf8.specs.declared.literal.Literal.{Literal}
 use Rattle.utf8.specs.Scalar.{scalars}
 use Rattle.utf8.specs.Encoding.{encodeAll}
 use Rattle.utf8.specs.Text.{TextOf}
 use Rattle.utf8.specs.Validity.{isText}
 use Rattle.utf8.specs.Characters.{before}
-use Rattle.utf8.specs.Steps.{stands, moveTo, same, standsAt, passed, eqSB, eqS}
-use Rattle.utf8.proofs.Laws.Booleans.{and-left, and-right, cond-test}
-use Rattle.utf8.proofs.Laws.Steps.{stands-within, stands-ordered, eqSB-moves, eqS-moves}
+use Rattle.utf8.specs.Steps.{moveTo, same, standsAt, passed, eqSB, eqS}
+use Rattle.utf8.proofs.Laws.Booleans.{and-left, and-right}
+use Rattle.utf8.proofs.Laws.Steps.{stands-ordered, eqSB-moves, eqSB-moved, eqS-moves, eqS-moved}
 use Rattle.utf8.proofs.CheckExact.{isText-encodeAll-append, encodes-isText, isText-encodes}
 use Rattle.utf8.proofs.TextCharacters.{encodeAll-append, scalars-append, before-text, before-after, encodeAll-injective}
 
@@ -58,37 +57,16 @@ standsAt-between p s q = rw (append-assoc, drop-append-seam, take-append-seam) (
 
 -- ---- back ----
 
--- what it says of a literal that it was passed back: the place that the cursor comes to, that it is not before the word's start, and that
--- the literal stands there
-record Back (w s : List ℕ) (r n : Cursor) : Type 0 where
-  pub lands : n ≡ moveTo r (r .cursor - length s)
-  pub fits : length s ≤ r .cursor
-  pub within : r .cursor ≤ length w
-  pub equal : standsAt w (r .cursor - length s) s ≡ true
-
-eqSB-back : (w s : List ℕ) (r : Cursor) → eqSB w s r .moved ≡ true → Back w s r (eqSB w s r .next)
-unfolding eqSB
-eqSB-back w s r =
-    let room : Bool = leb (r .«limit_backward» + length s) (r .cursor) in
-    let equal : Bool = standsAt w (r .cursor - length s) s in
-    cond-test (λ (l : Literal). l .moved ≡ true → Back w s r (l .next)) (stands w r && room && equal)
-    (λ t m.
-    let both : stands w r && room ≡ true = and-left (stands w r && room) equal t in
-    let h = stands-within w r (and-left (stands w r) room both) in
-    let k = leb-true (r .«limit_backward» + length s) (r .cursor) (and-right (stands w r) room both) in
-    record { lands = refl; fits = omega arith; within = omega arith; equal = and-right (stands w r && room) equal t })
-    (λ m. absurd (false≢true m))
-
 -- back past a literal that is a text, over any bytes: the characters before the cursor are the literal's, from its end, and then those before the
 -- place that the cursor comes to
 pub eqSB-before : (w s : List ℕ) (r : Cursor) (t : TextOf s) → eqSB w s r .moved ≡ true → before w (r .cursor) ≡ reverse (t .chars) ++ before w (eqSB w s r .next .cursor)
 unfolding moveTo
 eqSB-before w s r t m =
-    let b = eqSB-back w s r m in
+    let b = eqSB-moved w s r m in
     let i : ℕ = r .cursor - length s in
     let p : List ℕ = take i w in
-    let l : length p ≡ i = length-take-le i w (omega (arith, b .fits, b .within)) in
-    let k : length (p ++ encodeAll (t .chars)) ≡ r .cursor = length-append p (encodeAll (t .chars)) ∙ rw (t .encoded) (omega (arith, b .fits)) in
+    let l : length p ≡ i = length-take-le i w (omega (arith, b)) in
+    let k : length (p ++ encodeAll (t .chars)) ≡ r .cursor = length-append p (encodeAll (t .chars)) ∙ rw (t .encoded) (omega (arith, b)) in
     let around : w ≡ p ++ encodeAll (t .chars) ++ drop (i + length s) w = rw (t .encoded) (standsAt-around w i s (b .equal)) in
     let at : eqSB w s r .next .cursor ≡ i = ap (λ (n : Cursor). n .cursor) (b .lands) in
     ap (before w) (sym k) ∙ before-after w p (t .chars) (drop (i + length s) w) (t .valid) around ∙ rw (l, at)
@@ -105,7 +83,7 @@ pub eqSB-whole : (cs ds ls : List ℕ) (r : Cursor) → scalars (cs ++ ds) ≡ t
 eqSB-whole cs ds ls r h k e m =
     let w : List ℕ = encodeAll (cs ++ ds) in
     let n : Cursor = eqSB w (encodeAll ls) r .next in
-    let b = eqSB-back w (encodeAll ls) r m in
+    let b = eqSB-moved w (encodeAll ls) r m in
     let valid : scalars cs ≡ true = and-left (scalars cs) (scalars ds) (rw scalars-append at h) in
     let all : before w (r .cursor) ≡ reverse cs = rw (e, encodeAll-append) (before-text cs (encodeAll ds) valid) in
     let some : reverse cs ≡ reverse ls ++ before w (n .cursor) = sym all ∙ eqSB-before w (encodeAll ls) r (record { chars = ls; valid = k; encoded = refl }) m in
@@ -131,19 +109,6 @@ eqSB-passes cs ls ds r e l m n =
 
 -- ---- on ----
 
--- what it says of a literal that it was passed on: the place that the cursor comes to, and that the literal stood at the cursor
-record On (w s : List ℕ) (r n : Cursor) : Type 0 where
-  pub lands : n ≡ moveTo r (r .cursor + length s)
-  pub equal : standsAt w (r .cursor) s ≡ true
-
-eqS-on : (w s : List ℕ) (r : Cursor) → eqS w s r .moved ≡ true → On w s r (eqS w s r .next)
-unfolding eqS
-eqS-on w s r =
-    let room : Bool = stands w r && ltb (r .cursor) (r .limit) && leb (r .cursor + length s) (r .limit) in
-    let equal : Bool = standsAt w (r .cursor) s in
-    cond-test (λ (l : Literal). l .moved ≡ true → On w s r (l .next)) (room && equal)
-    (λ t m. record { lands = refl; equal = and-right room equal t }) (λ m. absurd (false≢true m))
-
 -- the literal's characters ls begin the characters ds after the cursor, which comes from r, after cs, to n, after them
 pub record PassedOn (cs ds ls : List ℕ) (r n : Cursor) : Type 0 where
   pub rest : List ℕ
@@ -167,7 +132,7 @@ pub eqS-whole : (cs ds ls : List ℕ) (r : Cursor) → scalars (cs ++ ds) ≡ tr
     → eqS (encodeAll (cs ++ ds)) (encodeAll ls) r .moved ≡ true → PassedOn cs ds ls r (eqS (encodeAll (cs ++ ds)) (encodeAll ls) r .next)
 eqS-whole cs ds ls r h k e m =
     let w : List ℕ = encodeAll (cs ++ ds) in
-    let o = eqS-on w (encodeAll ls) r m in
+    let o = eqS-moved w (encodeAll ls) r m in
     let q : List ℕ = drop (r .cursor + length (encodeAll ls)) w in
     let valid : scalars ds ≡ true = and-right (scalars cs) (scalars ds) (rw scalars-append at h) in
     let after : drop (r .cursor) w ≡ encodeAll ds = rw (e, encodeAll-append, drop-append-seam) in

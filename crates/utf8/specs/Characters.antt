@@ -35,9 +35,11 @@ firstWidth w c = width (continuation (getD w (c + 1) 0)) (continuation (getD w (
 unfoldable pub charAt : List ℕ → ℕ → ℕ → ℕ
 charAt w i n = decode (take n (drop i w))
 
+-- the character that ends at place c
 unfoldable pub lastChar : List ℕ → ℕ → ℕ
 lastChar w c = charAt w (c - lastWidth w c) (lastWidth w c)
 
+-- the character that begins at place c
 unfoldable pub firstChar : List ℕ → ℕ → ℕ
 firstChar w c = charAt w c (firstWidth w c)
 
@@ -47,6 +49,7 @@ beforeWithin zero w c = []
 beforeWithin (suc fuel) w zero = []
 beforeWithin (suc fuel) w (suc c) = lastChar w (suc c) ∷ beforeWithin fuel w (suc c - lastWidth w (suc c))
 
+-- all of them
 unfoldable pub before : List ℕ → ℕ → List ℕ
 before w c = beforeWithin c w c
 

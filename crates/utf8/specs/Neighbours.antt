@@ -25,9 +25,11 @@ textAfter a b c (x ∷ xs) = follows a b c x && textAfter x a b xs
 unfoldable pub shortBegins : ℕ → Bool
 shortBegins x = ltb x 0x80 || leb 0xC2 x && ltb x 0xE0
 
+-- x may follow a
 unfoldable pub shortFollows : ℕ → ℕ → Bool
 shortFollows a x = cond (leb 0xC0 a) (continuation x) (shortBegins x)
 
+-- all from here on may follow, and none is due at the end
 unfoldable pub shortAfter : ℕ → List ℕ → Bool
 shortAfter a [] = ltb a 0xC0
 shortAfter a (x ∷ xs) = shortFollows a x && shortAfter x xs

@@ -13,6 +13,7 @@ surrogate c = leb 0xD800 c && leb c 0xDFFF
 unfoldable pub scalar : ℕ → Bool
 scalar c = leb c 0x10FFFF && not (surrogate c)
 
+-- all of a list are
 unfoldable pub scalars : List ℕ → Bool
 scalars [] = true
 scalars (c ∷ cs) = scalar c && scalars cs

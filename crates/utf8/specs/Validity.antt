@@ -14,9 +14,11 @@ pub record Row : Type 0 where
   pub low : ℕ
   pub high : ℕ
 
+-- a row, as it is written below
 abbrev pub row : ℕ → ℕ → ℕ → ℕ → ℕ → Row
 row from upto more low high = record { from = from; upto = upto; more = more; low = low; high = high }
 
+-- the table
 unfoldable pub table37 : List Row
 table37 =
     row 0x00 0x7F 0 0x80 0xBF
@@ -50,6 +52,7 @@ unfolding due refused
 leadIn [] b = refused
 leadIn (r ∷ rs) b = cond (leb (r .from) b && leb b (r .upto)) (due (r .more) (r .low) (r .high)) (leadIn rs b)
 
+-- by the whole table
 unfoldable pub lead : ℕ → Due
 unfolding table37 leadIn
 lead b = leadIn table37 b

@@ -23,17 +23,20 @@ pub charAt-one : (w : List ℕ) (i n : ℕ) → n ≡ 1 → i + n ≤ length w �
 unfolding charAt
 charAt-one w i n e h = ap (charAt w i) e ∙ ap decode (take-drop-cons w i 0 (omega arith))
 
+-- two bytes
 pub charAt-two : (w : List ℕ) (i n : ℕ) → n ≡ 2 → i + n ≤ length w → charAt w i n ≡ decode (getD w i 0 ∷ getD w (i + 1) 0 ∷ [])
 unfolding charAt
 charAt-two w i n e h =
     ap (charAt w i) e ∙ ap decode (take-drop-cons w i 1 (omega arith) ∙ ap (λ (l : List ℕ). getD w i 0 ∷ l) (take-drop-more w i 1 0 (omega arith)))
 
+-- three bytes
 pub charAt-three : (w : List ℕ) (i n : ℕ) → n ≡ 3 → i + n ≤ length w → charAt w i n ≡ decode (getD w i 0 ∷ getD w (i + 1) 0 ∷ getD w (i + 2) 0 ∷ [])
 unfolding charAt
 charAt-three w i n e h =
     ap (charAt w i) e ∙ ap decode (take-drop-cons w i 2 (omega arith) ∙ ap (λ (l : List ℕ). getD w i 0 ∷ l)
     (take-drop-more w i 1 1 (omega arith) ∙ ap (λ (l : List ℕ). getD w (i + 1) 0 ∷ l) (take-drop-more w i 2 0 (omega arith))))
 
+-- four bytes
 pub charAt-four : (w : List ℕ) (i n : ℕ) → n ≡ 4 → i + n ≤ length w → charAt w i n ≡ decode (getD w i 0 ∷ getD w (i + 1) 0 ∷ getD w (i + 2) 0 ∷ getD w (i + 3) 0 ∷ [])
 unfolding charAt
 charAt-four w i n e h =

@@ -24,18 +24,22 @@ use Rattle.utf8.proofs.Laws.Validity.{next-lead, accepts-due}
 unfoldable asks : ℕ → ℕ
 asks a = min 1 (a - 0xBF) + min 1 (a - 0xDF) + min 1 (a - 0xEF)
 
+-- below C0, none
 asks-0 : (a : ℕ) → a < 0xC0 → asks a ≡ 0
 unfolding asks
 asks-0 a h = omega arith
 
+-- from C0, one
 asks-1 : (a : ℕ) → 0xC0 ≤ a → a < 0xE0 → asks a ≡ 1
 unfolding asks
 asks-1 a l h = omega arith
 
+-- from E0, two
 asks-2 : (a : ℕ) → 0xE0 ≤ a → a < 0xF0 → asks a ≡ 2
 unfolding asks
 asks-2 a l h = omega arith
 
+-- from F0, three
 asks-3 : (a : ℕ) → 0xF0 ≤ a → asks a ≡ 3
 unfolding asks
 asks-3 a l = omega arith
@@ -45,6 +49,7 @@ asks-least : (a : ℕ) → (0xC0 ≤ a → 1 ≤ asks a) × (0xE0 ≤ a → 2 �
 unfolding asks
 asks-least a = (λ h. omega arith, λ h. omega arith)
 
+-- and at most so many
 asks-most : (a : ℕ) → (a < 0xE0 → asks a ≤ 1) × (a < 0xF0 → asks a ≤ 2) × (asks a ≤ 3)
 unfolding asks
 asks-most a = (λ h. omega arith, λ h. omega arith, omega arith)
@@ -85,9 +90,12 @@ lead-due x l h = lead-none 1 x (omega arith) (omega arith)
 
 -- ---- what the last three bytes leave due ----
 
+-- how many more bytes are due: what the last asks for, what the one before it asks for after the last, and what the one before that does
+-- after both
 unfoldable need : ℕ → ℕ → ℕ → ℕ
 need a b c = max (asks a) (max (asks b - 1) (asks c - 2))
 
+-- the check's state: so many bytes due, the next in the range that the last byte leaves
 unfoldable state : ℕ → ℕ → ℕ → Due
 state a b c = due (need a b c) (lead a .low) (lead a .high)
 
@@ -103,6 +111,7 @@ Small a b c = (a < 0xC0) × (b < 0xE0) × (c < 0xF0)
 abbrev Told : Bool → ℕ → ℕ → ℕ → Type 0
 Told t a b c = ((t ≡ true) × Large a b c) ⊎ ((t ≡ false) × Small a b c)
 
+-- `owed` tells which
 owed-either : (a b c : ℕ) → Told (owed a b c) a b c
 unfolding owed
 owed-either a b c = go (leb 0xC0 a) (leb 0xE0 b) (leb 0xF0 c) refl refl refl
@@ -113,28 +122,33 @@ owed-either a b c = go (leb 0xC0 a) (leb 0xE0 b) (leb 0xF0 c) refl refl refl
     go false false true e f g = inl (refl, inr (inr (leb-true 0xF0 c g)))
     go false false false e f g = inr (refl, (leb-false 0xC0 a e, leb-false 0xE0 b f, leb-false 0xF0 c g))
 
+-- where none is, nothing is due
 need-none : (a b c : ℕ) → Small a b c → need a b c ≡ 0
 unfolding need
 need-none a b c h = omega (arith, asks-0 a (h .0), asks-most b .0 (h .1), asks-most c .1 (h .2))
 
+-- where one is, something is due
 need-some : (a b c : ℕ) → Large a b c → 0 < need a b c
 unfolding need
 need-some a b c (inl h) = omega (arith, asks-least a .0 h)
 need-some a b c (inr (inl h)) = omega (arith, asks-least b .1 h)
 need-some a b c (inr (inr h)) = omega (arith, asks-3 c h)
 
--- one byte more
+-- one less of the greater of two is the greater of one less of each
 less-one : (p m : ℕ) → max p m - 1 ≡ max (p - 1) (m - 1)
 less-one p m = omega arith
 
+-- and where three bytes back can ask for no more
 less-two : (q r : ℕ) → r ≤ 3 → max (q - 1) (r - 2) - 1 ≡ q - 2
 less-two q r h = omega arith
 
+-- after a byte that asks for nothing one less is due
 need-after : (x a b c : ℕ) → x < 0xC0 → need x a b ≡ need a b c - 1
 unfolding need
 need-after x a b c h =
     rw (asks-0 x h, less-one (asks a) (max (asks b - 1) (asks c - 2)), less-two (asks b) (asks c) (asks-most c .2)) (omega arith)
 
+-- after a byte where nothing was due, what it asks for is due
 need-begun : (x a b c : ℕ) → Small a b c → need x a b ≡ asks x
 unfolding need
 need-begun x a b c h = omega (arith, asks-0 a (h .0), asks-most b .0 (h .1))
@@ -153,6 +167,7 @@ state-begun : (x a b c : ℕ) → Small a b c → lead x .ok ≡ true → state 
 unfolding state
 state-begun x a b c s e = ap (λ (k : ℕ). due k (lead x .low) (lead x .high)) (need-begun x a b c s) ∙ sym (lead-begun x e)
 
+-- a byte where one is due
 step-due : (a b c x : ℕ) (xs : List ℕ) → owed a b c ≡ true → Large a b c → follows a b c x && accepts (state x a b) xs ≡ accepts (state a b c) (x ∷ xs)
 unfolding follows state
 step-due a b c x xs e l =
@@ -161,12 +176,14 @@ step-due a b c x xs e l =
     (state-after x a b c (leb-true (lead a .low) x (and-left (leb (lead a .low) x) _ t)) (leb-true x (lead a .high) (and-right (leb (lead a .low) x) _ t)))))
     ∙ sym (ap (λ (k : ℕ). accepts (due k (lead a .low) (lead a .high)) (x ∷ xs)) n ∙ accepts-due (need a b c - 1) (lead a .low) (lead a .high) x xs)
 
+-- a byte where none is
 step-none : (a b c x : ℕ) (xs : List ℕ) → owed a b c ≡ false → Small a b c → follows a b c x && accepts (state x a b) xs ≡ accepts (state a b c) (x ∷ xs)
 unfolding follows accepts state due
 step-none a b c x xs e s =
     rw (e, next-lead (due (need a b c) (lead a .low) (lead a .high)) x (need-none a b c s))
     (guarded (lead x .ok) (λ t. ap (λ (d : Due). accepts d xs) (state-begun x a b c s t)))
 
+-- at the end nothing is due where nothing is owed
 at-end : (a b c : ℕ) → not (owed a b c) ≡ eqb (need a b c) 0
 at-end a b c = go (owed-either a b c)
   where
@@ -174,6 +191,7 @@ at-end a b c = go (owed-either a b c)
     go (inl h) = rw (h .0, ne-eqb (need a b c) 0 (λ z. omega (arith, need-some a b c (h .1))))
     go (inr h) = rw (h .0, eq-eqb (need a b c) 0 (need-none a b c (h .1)))
 
+-- the walk by neighbours from any three bytes is the walk from their state
 after-accepts : (a b c : ℕ) (xs : List ℕ) → textAfter a b c xs ≡ accepts (state a b c) xs
 unfolding textAfter accepts state due
 after-accepts a b c [] = at-end a b c
@@ -228,6 +246,7 @@ short-after a b c (x ∷ xs) p q r e =
     let s : (follows a b c x ≡ true) × (x < 0xE0) = short-step a b c x p q r (and-left (shortFollows a x) (shortAfter x xs) e) in
     rw (s .0) (short-after x a b xs (s .1) p (omega arith) (and-right (shortFollows a x) (shortAfter x xs) e))
 
+-- so of a whole word
 pub short-text : (w : List ℕ) → shortAfter 0 w ≡ true → isText w ≡ true
 short-text w e = sym (text-after w) ∙ short-after 0 0 0 w (omega arith) (omega arith) (omega arith) e
 
@@ -239,6 +258,7 @@ pub follows-tests : (a b c x lo hi : ℕ) (t s : Bool) → t ≡ owed a b c → 
 unfolding follows
 follows-tests a b c x lo hi t s e f g h = chosen t (leb lo x && leb x hi) s ∙ rw (e, f, g, h)
 
+-- the same for at most two bytes
 pub short-follows-tests : (a x : ℕ) (s t : Bool) → s ≡ continuation x → t ≡ shortBegins x → leb 0xC0 a && s || not (leb 0xC0 a) && t ≡ shortFollows a x
 unfolding shortFollows
 short-follows-tests a x s t e f = chosen (leb 0xC0 a) s t ∙ rw (e, f)
@@ -249,6 +269,7 @@ pub text-at : (w : List ℕ) (i a b c : ℕ) (ok r : Bool) → i < length w → 
 unfolding textAfter
 text-at w i a b c ok r h e = rw (e, drop-cons w i 0 h, add-one i) (and-assoc ok (follows a b c (getD w i 0)) (textAfter (getD w i 0) a b (drop (suc i) w)))
 
+-- the same for at most two bytes
 pub short-at : (w : List ℕ) (i a : ℕ) (ok r : Bool) → i < length w → r ≡ shortFollows a (getD w i 0)
     → ok && r && shortAfter (getD w i 0) (drop (i + 1) w) ≡ ok && shortAfter a (drop i w)
 unfolding shortAfter
@@ -259,6 +280,7 @@ pub text-end : (w : List ℕ) (i a b c : ℕ) (ok r : Bool) → length w ≤ i �
 unfolding textAfter
 text-end w i a b c ok r h e = rw (e, drop-of-length-le w h)
 
+-- the same for at most two bytes
 pub short-end : (w : List ℕ) (i a : ℕ) (ok : Bool) → length w ≤ i → ok && ltb a 0xC0 ≡ ok && shortAfter a (drop i w)
 unfolding shortAfter
 short-end w i a ok h = rw (drop-of-length-le w h)

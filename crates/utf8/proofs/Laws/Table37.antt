@@ -31,20 +31,24 @@ rowAt k = getD table37 k (row 0 0 0 0 0)
 abbrev pub asked : Row → Due
 asked r = due (r .more) (r .low) (r .high)
 
+-- a row that ends below b is passed
 above-row : (r : Row) (rs : List Row) (b : ℕ) (t : Bool) → r .upto < b → cond (t && leb b (r .upto)) (asked r) (leadIn rs b) ≡ leadIn rs b
 above-row r rs b true h = rw (lt-leb b (r .upto) h)
 above-row r rs b false h = refl
 
+-- so are the first k
 past-rows : (k : ℕ) (rs : List Row) (b : ℕ) → Past k rs b → leadIn rs b ≡ leadIn (drop k rs) b
 unfolding leadIn
 past-rows zero rs b h = refl
 past-rows (suc k) [] b h = refl
 past-rows (suc k) (r ∷ rs) b h = above-row r rs b (leb (r .from) b) (h .0) ∙ past-rows k rs b (h .1)
 
+-- a row that has b is taken
 in-row : (r : Row) (rs : List Row) (b : ℕ) → r .from ≤ b → b ≤ r .upto → leadIn (r ∷ rs) b ≡ asked r
 unfolding leadIn
 in-row r rs b f u = rw (le-leb (r .from) b f, le-leb b (r .upto) u)
 
+-- where every row begins above b, none is
 before-rows : (rs : List Row) (b : ℕ) → Before rs b → leadIn rs b ≡ refused
 unfolding leadIn
 before-rows [] b h = refl

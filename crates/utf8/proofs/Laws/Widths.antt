@@ -12,14 +12,17 @@ pub width-one : (r s t : Bool) → r ≡ false → width r s t ≡ 1
 unfolding width
 width-one r s t e = rw e
 
+-- two bytes
 pub width-two : (r s t : Bool) → r ≡ true → s ≡ false → width r s t ≡ 2
 unfolding width
 width-two r s t e f = rw (e, f)
 
+-- three bytes
 pub width-three : (r s t : Bool) → r ≡ true → s ≡ true → t ≡ false → width r s t ≡ 3
 unfolding width
 width-three r s t e f g = rw (e, f, g)
 
+-- four bytes
 pub width-fourth : (r s t : Bool) → r ≡ true → s ≡ true → t ≡ true → width r s t ≡ 4
 unfolding width
 width-fourth r s t e f g = rw (e, f, g)
