@@ -6,10 +6,11 @@ use Rattle.utf8.specs.declared.cursor.Cursor.{Cursor}
 use Rattle.utf8.specs.Steps.{previousChar, eqSB}
 use Rattle.lent.specs.declared.Over.{Over}
 
--- The record before the last step.
+-- the record before the last step: before both literals where they stand
 abbrev pub beforeBoth : List ℕ → List ℕ → List ℕ → Cursor → Cursor
 beforeBoth w s y r = eqSB w y (eqSB w s r .next) .next
 
+-- the three steps' answers, the record before the last, and the record after it
 unfoldable pub over : List ℕ → List ℕ → List ℕ → Cursor → Over
 over w s y r =
     record {
