@@ -5,9 +5,9 @@ use mathlib.Core.Path.{_≡_, refl, ap}
 use mathlib.Core.Bool.{Bool, true, false, cond, not, _&&_}
 use mathlib.Core.List.{List, [], _∷_}
 use lib.Dec.{eqb}
-use Rattle.turkish.specs.Letters.{text, has}
+use Rattle.turkish.specs.Letters.{text, fromEnd, has, starts}
 use Rattle.turkish.specs.Harmony.{lastVowel}
-use Rattle.turkish.specs.Postlude.{reserved, gained, appendU, hard, harden, postlude}
+use Rattle.turkish.specs.Postlude.{reserved, gained, appendU, hardenings, hardIn, hard, harden, postlude}
 use Rattle.turkish.proofs.Laws.Tests.{cond-test}
 
 -- appendU's test: a final d or g, with some vowel before it
@@ -22,7 +22,7 @@ reserved-stays cs e = rw e
 
 -- a gained vowel does not harden
 pub hard-gained : (v : ℕ) → hard (gained v) ≡ gained v
-unfolding hard gained
+unfolding hard hardIn hardenings starts fromEnd text gained
 hard-gained v =
     cond-test P (has (text "aı") v) (λ e. refl)
     (cond-test P (has (text "ei") v) (λ e. refl)

@@ -3,7 +3,7 @@
 use Prim.Native.Nat.{ℕ, zero, suc, _+_, _≤_}
 use Prim.Native.Char.{code}
 use mathlib.Core.Path.{_≡_, refl, sym, ap, _∙_}
-use mathlib.Core.Bool.{true, _&&_}
+use mathlib.Core.Bool.{Bool, true, _&&_}
 use mathlib.Core.List.{List, [], _∷_, append-nil, reverse-cons}
 use native.Mathlib.Omega.{arith}
 use lib.ListN.{length, take, drop, length-append, take-append-drop}
@@ -11,16 +11,16 @@ use lib.Seq.{take-append-seam}
 use lib.Dec.{eqb, leb}
 use borrow.Author.Tests.{eqb-true, leb-true}
 use Rattle.utf8.specs.Encoding.{encode, encodeAll}
-use Rattle.utf8.proofs.Laws.Booleans.{and-right}
+use Rattle.utf8.proofs.Laws.Booleans.{and-left, and-right}
 use Rattle.utf8.proofs.Laws.Encoding.{encode-one}
 use Rattle.utf8.proofs.TextCharacters.{encodeAll-append, take-back}
-use Rattle.turkish.specs.Letters.{text, has}
+use Rattle.turkish.specs.Letters.{text, has, starts}
 use Rattle.turkish.specs.Harmony.{lastVowel, moreThanOneSyllable}
 use Rattle.turkish.specs.Stage.{stage, kept}
-use Rattle.turkish.specs.Postlude.{reserved, gained, appendU, hard, harden, postlude}
+use Rattle.turkish.specs.Postlude.{reserved, gained, appendU, Hardening, hardenings, hardIn, hard, harden, postlude}
 use Rattle.turkish.specs.WordPass.{foldChar, fold, Passed, passStage, pass}
 use Rattle.turkish.specs.Calls.{chars, bytes, accepted, keptLength, stagePart, postludeText, foldText, passText}
-use Rattle.turkish.proofs.Laws.Tests.{cond-test}
+use Rattle.turkish.proofs.Laws.Tests.{cond-test, every}
 use Rattle.turkish.proofs.Laws.Accepted.{accepted-text, bytes-chars}
 use Rattle.turkish.proofs.PostludeRules.{appends, postlude-one}
 
@@ -49,17 +49,22 @@ gained-size v =
     P : ℕ → Type 0
     P c = length (encode c) ≤ 2
 
--- a hardened character takes two bytes more at most
+-- what a key of A_23 becomes takes two bytes at most
+becomesTwo : Hardening → Bool
+becomesTwo h = leb (length (encode (h .becomes))) 2
+
+-- so a hardened character takes two bytes more at most
+hardIn-size : (hs : List Hardening) (c : ℕ) → every becomesTwo hs ≡ true → length (encode (hardIn hs c)) ≤ length (encode c) + 2
+unfolding hardIn every becomesTwo
+hardIn-size [] c e = omega arith
+hardIn-size (h ∷ hs) c e =
+    let l : length (encode (h .becomes)) ≤ 2 = leb-true _ 2 (and-left (becomesTwo h) (every becomesTwo hs) e) in
+    cond-test (λ d. length (encode d) ≤ length (encode c) + 2) (starts (h .key) (c ∷ [])) (λ t. omega arith)
+    (hardIn-size hs c (and-right (becomesTwo h) (every becomesTwo hs) e))
+
 hard-size : (c : ℕ) → length (encode (hard c)) ≤ length (encode c) + 2
-unfolding hard encode
-hard-size c =
-    cond-test P (eqb c (code "b")) (λ e. omega arith)
-    (cond-test P (eqb c (code "c")) (λ e. omega arith)
-    (cond-test P (eqb c (code "d")) (λ e. omega arith)
-    (cond-test P (eqb c (code "ğ")) (λ e. omega arith) (omega arith))))
-  where
-    P : ℕ → Type 0
-    P d = length (encode d) ≤ length (encode c) + 2
+unfolding hard
+hard-size c = hardIn-size hardenings c (unfold hardenings every becomesTwo encode in refl)
 
 -- a folded character takes as many bytes
 foldChar-size : (c : ℕ) → length (encode (foldChar c)) ≡ length (encode c)

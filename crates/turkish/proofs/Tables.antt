@@ -14,13 +14,14 @@ use Rattle.utf8.proofs.Laws.Booleans.{and-left, and-right}
 use Rattle.turkish.specs.Letters.{text, fromEnd, starts}
 use Rattle.turkish.specs.Grammar.{Mark}
 use Rattle.turkish.specs.Marks.{marked, yUm, sUn, yUz, sUnUz, lAr, nUz, DUr, cAsInA, yDU, ysA, ymUs, yken}
+use Rattle.turkish.specs.Postlude.{hardenings, hardKeys}
 use Rattle.turkish.specs.Calls.{bytes}
 use Rattle.turkish.proofs.Laws.Tests.{every, every-at}
 
 -- the tables: A_23, and the marks' keys, A_12 to A_22 and the literal `ken`
 unfoldable pub tables : List (List (List ℕ))
 tables =
-    map fromEnd ("b" ∷ "c" ∷ "d" ∷ "ğ" ∷ [])
+    hardKeys
     ∷ map (λ (m : Mark). m .keys) (yUm ∷ sUn ∷ yUz ∷ sUnUz ∷ lAr ∷ nUz ∷ DUr ∷ cAsInA ∷ yDU ∷ ysA ∷ ymUs ∷ yken ∷ [])
 
 -- ---- the test ----
@@ -45,7 +46,7 @@ begins k = begin (bytes k)
 
 -- every table passes
 tables-pass : every (λ ks. apart ks && every begins ks) tables ≡ true
-unfolding every apart neither starts begins begin continuation bytes encodeAll encode tables marked yUm sUn yUz sUnUz lAr nUz DUr cAsInA yDU ysA ymUs yken fromEnd text
+unfolding every apart neither starts begins begin continuation bytes encodeAll encode tables hardKeys hardenings marked yUm sUn yUz sUnUz lAr nUz DUr cAsInA yDU ysA ymUs yken fromEnd text
 tables-pass = refl
 
 -- ---- what it says ----

@@ -2,10 +2,10 @@
 use Prim.Native.Nat.{ℕ}
 use Prim.Native.Char.{code}
 use mathlib.Core.Bool.{Bool, cond, not, _&&_, _||_}
-use mathlib.Core.List.{List, [], _∷_}
+use mathlib.Core.List.{List, [], _∷_, map}
 use lib.Dec.{eqb}
 use Rattle.utf8.specs.Steps.{same}
-use Rattle.turkish.specs.Letters.{text, fromEnd, has}
+use Rattle.turkish.specs.Letters.{text, fromEnd, has, starts}
 use Rattle.turkish.specs.Harmony.{lastVowel}
 
 -- exactly `ad` or `soyad` (`is_reserved_word`, lines 449 to 452)
@@ -26,13 +26,32 @@ appendU [] = []
 appendU (c ∷ cs) =
     cond (has (text "dg") c && not (eqb (gained (lastVowel cs)) 0)) (gained (lastVowel cs) ∷ c ∷ cs) (c ∷ cs)
 
--- b, c, d, ğ become p, ç, t, k; all else stays (A_23)
+-- a consonant that hardens, as a key from its end, and what it becomes
+pub record Hardening : Type 0 where
+  pub key : List ℕ
+  pub becomes : ℕ
+
+-- A_23, in the Rust's order
+unfoldable pub hardenings : List Hardening
+hardenings =
+    record { key = fromEnd "b"; becomes = code "p" }
+    ∷ record { key = fromEnd "c"; becomes = code "ç" }
+    ∷ record { key = fromEnd "d"; becomes = code "t" }
+    ∷ record { key = fromEnd "ğ"; becomes = code "k" }
+    ∷ []
+
+-- its keys, a table like the marks'
+unfoldable pub hardKeys : List (List ℕ)
+hardKeys = map (λ (h : Hardening). h .key) hardenings
+
+-- what the first key that is the character makes of it; where none is, it stays
+unfoldable pub hardIn : List Hardening → ℕ → ℕ
+hardIn [] c = c
+hardIn (h ∷ hs) c = cond (starts (h .key) (c ∷ [])) (h .becomes) (hardIn hs c)
+
+-- b, c, d, ğ become p, ç, t, k; all else stays
 unfoldable pub hard : ℕ → ℕ
-hard c =
-    cond (eqb c (code "b")) (code "p")
-    (cond (eqb c (code "c")) (code "ç")
-    (cond (eqb c (code "d")) (code "t")
-    (cond (eqb c (code "ğ")) (code "k") c)))
+hard c = hardIn hardenings c
 
 -- a final b, c, d or ğ hardens (`post_process_last_consonants`, lines 415 to 420)
 unfoldable pub harden : List ℕ → List ℕ
