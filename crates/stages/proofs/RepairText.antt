@@ -19,9 +19,10 @@ use Rattle.turkish.specs.Letters.{text, has}
 use Rattle.turkish.specs.Harmony.{lastVowel}
 use Rattle.turkish.specs.Postlude.{reserved, gained, appendU, hard, harden, postlude, postludeAnswer}
 use Rattle.turkish.specs.Calls.{bytes}
+use Rattle.turkish.proofs.PostludeRules.{hard-gained}
 use Rattle.stages.specs.declared.postlude.Repair.{Repair}
 use Rattle.stages.specs.Repairs.{repairText, unchanged, shortRepair, appended, hardened, repairOf}
-use Rattle.stages.proofs.Laws.Repairs.{before-empty, gained-elim, hard-short, appended-short}
+use Rattle.stages.proofs.Laws.Repairs.{before-empty, hard-short, appended-short}
 
 -- ---- the bytes before a place ----
 
@@ -95,7 +96,7 @@ shortRepair-text w keep v h = rw (lt-ltb v 0x800 h) (go (ltb v 0x80))
 
 -- characters that gain a vowel end in it
 harden-appendU : (cs : List ℕ) → (appended cs ≡ 0 → ⊥) → harden (appendU cs) ≡ appended cs ∷ cs
-unfolding appended appendU harden hard
+unfolding appended appendU harden
 harden-appendU [] d = absurd (d refl)
 harden-appendU (c ∷ cs) d = go (has (text "dg") c) d
   where
@@ -103,9 +104,7 @@ harden-appendU (c ∷ cs) d = go (has (text "dg") c) d
     g = gained (lastVowel cs)
 
     go : (t : Bool) → (cond t g 0 ≡ 0 → ⊥) → harden (cond (t && not (eqb g 0)) (g ∷ c ∷ cs) (c ∷ cs)) ≡ cond t g 0 ∷ c ∷ cs
-    go true d =
-        let e : hard g ≡ g = gained-elim (λ v. hard v ≡ v) (lastVowel cs) refl refl refl refl refl in
-        rw (ne-eqb g 0 d, e)
+    go true d = rw (ne-eqb g 0 d, hard-gained (lastVowel cs))
     go false d = absurd (d refl)
 
 -- others stay

@@ -1,12 +1,12 @@
 -- A final consonant hardened by the key that the search finds in A_23. Assumes nothing.
 use Prim.Native.Nat.{ℕ}
-use mathlib.Core.Path.{_≡_, refl, sym, ap, _∙_, subst}
+use mathlib.Core.Path.{_≡_, refl, sym, ap, _∙_}
 use mathlib.Core.Bool.{Bool, true, false, cond}
 use mathlib.Core.List.{List, [], _∷_}
 use lib.Dec.{eqb}
-use borrow.Author.Tests.{eqb-true, eqb-false, ne-eqb}
-use Rattle.turkish.specs.Letters.{starts}
-use Rattle.turkish.specs.Postlude.{hard}
+use borrow.Author.Tests.{ne-eqb}
+use Rattle.turkish.specs.Letters.{text, fromEnd, starts}
+use Rattle.turkish.specs.Postlude.{hardenings, hardIn, hard}
 use Rattle.stages.specs.declared.among.Among.{Among}
 use Rattle.stages.specs.declared.among.Among.the-variants.{Key, Nothing}
 use Rattle.stages.specs.Keys.{cut, row, rowsWithin, rows, foundFrom, found}
@@ -24,29 +24,18 @@ abbrev by : ℕ → Among → ℕ
 by ch (Key i n) = hardForm i
 by ch Nothing = ch
 
+-- is the character hardened: both take the first key that is the character
 hard-by : (ch : ℕ) → by ch (found (rows 1 keys) (ch ∷ [])) ≡ hard ch
-unfolding found foundFrom rows rowsWithin row cut starts hard hardForm
-hard-by ch = is 0x62 refl λ p. is 0x63 refl λ q. is 0x64 refl λ r. is 0x11F refl λ s.
-    rw (
-      ne-eqb 0x62 ch (λ z. p (sym z)),
-      ne-eqb 0x63 ch (λ z. q (sym z)),
-      ne-eqb 0x64 ch (λ z. r (sym z)),
-      ne-eqb 0x11F ch (λ z. s (sym z)),
-      ne-eqb ch 0x62 p,
-      ne-eqb ch 0x63 q,
-      ne-eqb ch 0x64 r,
-      ne-eqb ch 0x11F s,
-    )
+unfolding found foundFrom rows rowsWithin row cut hard hardIn hardenings hardForm fromEnd text
+hard-by ch = go (starts (0x62 ∷ []) (ch ∷ [])) (starts (0x63 ∷ []) (ch ∷ [])) (starts (0x64 ∷ []) (ch ∷ [])) (starts (0x11F ∷ []) (ch ∷ []))
   where
-    P : ℕ → Type 0
-    P c = by c (found (rows 1 keys) (c ∷ [])) ≡ hard c
-
-    is : (k : ℕ) → P k → ((ch ≡ k → ⊥) → P ch) → P ch
-    is k p q = go (eqb ch k) refl
-      where
-        go : (t : Bool) → eqb ch k ≡ t → P ch
-        go true e = subst P (sym (eqb-true ch k e)) p
-        go false e = q (eqb-false ch k e)
+    go : (p q r s : Bool) → by ch (cond p (Key 0 1) (cond q (Key 1 1) (cond r (Key 2 1) (cond s (Key 3 1) Nothing))))
+        ≡ cond p 0x70 (cond q 0xE7 (cond r 0x74 (cond s 0x6B ch)))
+    go true q r s = refl
+    go false true r s = refl
+    go false false true s = refl
+    go false false false true = refl
+    go false false false false = refl
 
 pub hard-key : (ch i n : ℕ) (r : Among) → r ≡ found (rows 1 keys) (ch ∷ []) → r ≡ Key i n → hardForm i ≡ hard ch
 hard-key ch i n r e f = sym (ap (by ch) f) ∙ ap (by ch) e ∙ hard-by ch

@@ -3,7 +3,7 @@
 use Prim.Native.Nat.{ℕ, _-_, _/_, _%_, _+_, _≤_, _<_}
 use mathlib.Core.Path.{_≡_, refl, sym, _∙_}
 use mathlib.Core.Logic.{_⊎_, inl, inr}
-use mathlib.Core.Bool.{true, false, _&&_, _||_, or-false}
+use mathlib.Core.Bool.{Bool, true, false, _&&_, _||_, or-false}
 use mathlib.Core.List.{List, [], _∷_}
 use native.Mathlib.Omega.{arith}
 use lib.ListN.{length}
@@ -13,9 +13,9 @@ use Rattle.utf8.proofs.Laws.Booleans.{cond-both}
 use Rattle.utf8.specs.Characters.{lastWidth, charAt, lastChar, before}
 use Rattle.utf8.specs.Steps.{standsAt}
 use Rattle.utf8.proofs.Laws.Characters.{before-zero, before-step}
-use Rattle.turkish.specs.Letters.{text, fromEnd, any, has}
+use Rattle.turkish.specs.Letters.{text, fromEnd, any, has, starts}
 use Rattle.turkish.specs.Harmony.{lastVowel}
-use Rattle.turkish.specs.Postlude.{reserved, gained, hard}
+use Rattle.turkish.specs.Postlude.{reserved, gained, hardenings, hardIn, hard}
 use Rattle.stages.specs.declared.postlude.Repair.{Repair}
 use Rattle.stages.specs.Repairs.{unchanged, shortRepair, appended, hardened, repairOf}
 use Rattle.stages.proofs.Laws.Literal.{ascii}
@@ -85,9 +85,10 @@ gained-short v = gained-elim (λ n. n < 0x800) v (omega arith) (omega arith) (om
 
 -- what holds of p, ç, t, k and of the character itself holds of it hardened
 pub hard-elim : (P : ℕ → Type 0) (c : ℕ) → P 0x70 → P 0xE7 → P 0x74 → P 0x6B → P c → P (hard c)
-unfolding hard
+unfolding hard hardIn hardenings fromEnd text
 hard-elim P c p q r s z =
-    cond-both P (eqb c 0x62) _ _ p (cond-both P (eqb c 0x63) _ _ q (cond-both P (eqb c 0x64) _ _ r (cond-both P (eqb c 0x11F) _ _ s z)))
+    let is : ℕ → Bool = λ k. starts (k ∷ []) (c ∷ []) in
+    cond-both P (is 0x62) _ _ p (cond-both P (is 0x63) _ _ q (cond-both P (is 0x64) _ _ r (cond-both P (is 0x11F) _ _ s z)))
 
 -- a character that hardens becomes one of two bytes at most
 pub hard-short : (c : ℕ) → (hard c ≡ c → ⊥) → hard c < 0x800
