@@ -1,28 +1,23 @@
--- The tables of keys: no key is the tail of another in its table, so at most one key ends a text; and each begins on a
--- character's start. Assumes nothing.
-use Prim.Native.Nat.{ℕ, _<_}
+-- The tables of keys, all by one test: no key is the tail of another in its table, so at most one ends a text; each is of letters, no
+-- more than its table's width, and begins on a character's start. Other crates cite these of a mark's table by its membership,
+-- as in `table-whole DUr-table`. Assumes nothing.
+use Prim.Native.Nat.{ℕ, _≤_, _<_}
 use mathlib.Core.Path.{_≡_, refl, sym, _∙_}
 use mathlib.Core.Bool.{Bool, true, false, not, _&&_, _||_, true≢false, false≢true}
-use mathlib.Core.List.{List, [], _∷_, map, List·Memᴰ, List·Memᴰ·head, List·Memᴰ·tail}
+use mathlib.Core.List.{List, [], _∷_, List·Memᴰ, List·Memᴰ·head, List·Memᴰ·tail}
 use native.Mathlib.Omega.{arith}
 use lib.ListN.{length, getD}
-use lib.Dec.{eqb}
-use borrow.Author.Tests.{not-true, eqb-true, eq-eqb}
+use lib.Dec.{leb, eqb}
+use borrow.Author.Tests.{not-true, leb-true, eqb-true, eq-eqb}
 use Rattle.utf8.specs.Encoding.{encode, encodeAll}
 use Rattle.utf8.specs.Characters.{continuation}
-use Rattle.utf8.proofs.Laws.Booleans.{and-left, and-right}
+use Rattle.utf8.proofs.Laws.Booleans.{and-left, and-right, and-each}
 use Rattle.turkish.specs.Letters.{text, fromEnd, starts}
-use Rattle.turkish.specs.Grammar.{Mark}
 use Rattle.turkish.specs.Marks.{marked, yUm, sUn, yUz, sUnUz, lAr, nUz, DUr, cAsInA, yDU, ysA, ymUs, yken}
 use Rattle.turkish.specs.Postlude.{hardenings, hardKeys}
+use Rattle.turkish.specs.Tables.{Table, tableOf, hardTable, tables, letters, whole}
 use Rattle.turkish.specs.Calls.{bytes}
-use Rattle.turkish.proofs.Laws.Tests.{every, every-at}
-
--- the tables: A_23, and the marks' keys, A_12 to A_22 and the literal `ken`
-unfoldable pub tables : List (List (List ℕ))
-tables =
-    hardKeys
-    ∷ map (λ (m : Mark). m .keys) (yUm ∷ sUn ∷ yUz ∷ sUnUz ∷ lAr ∷ nUz ∷ DUr ∷ cAsInA ∷ yDU ∷ ysA ∷ ymUs ∷ yken ∷ [])
+use Rattle.turkish.proofs.Laws.Tests.{every, every-at, getD-member}
 
 -- ---- the test ----
 
@@ -44,10 +39,73 @@ begin (b ∷ bs) = not (continuation b)
 begins : List ℕ → Bool
 begins k = begin (bytes k)
 
+-- what is asked of a table: no key is longer than its width or has a 0, each begins a character, none is the tail of another
+passes : Table → Bool
+passes t = whole (t .width) (t .keys) && every begins (t .keys) && apart (t .keys)
+
 -- every table passes
-tables-pass : every (λ ks. apart ks && every begins ks) tables ≡ true
-unfolding every apart neither starts begins begin continuation bytes encodeAll encode tables hardKeys hardenings marked yUm sUn yUz sUnUz lAr nUz DUr cAsInA yDU ysA ymUs yken fromEnd text
+tables-pass : every passes tables ≡ true
+unfolding every passes whole letters apart neither starts begins begin continuation bytes encodeAll encode tables hardKeys hardenings marked yUm sUn yUz sUnUz lAr nUz DUr cAsInA yDU ysA ymUs yken fromEnd text
 tables-pass = refl
+
+-- so each does
+table-passes : {t : Table} → List·Memᴰ t tables → (whole (t .width) (t .keys) ≡ true) × (every begins (t .keys) ≡ true) × (apart (t .keys) ≡ true)
+unfolding passes
+table-passes {t} m = and-each (whole (t .width) (t .keys)) (every begins (t .keys)) (apart (t .keys)) (every-at passes tables-pass m)
+
+-- ---- which they are: each mark's table, and A_23 ----
+
+pub yUm-table : List·Memᴰ (tableOf 2 yUm) tables
+unfolding tables
+yUm-table = getD-member hardTable tables 0 refl
+
+pub sUn-table : List·Memᴰ (tableOf 3 sUn) tables
+unfolding tables
+sUn-table = getD-member hardTable tables 1 refl
+
+pub yUz-table : List·Memᴰ (tableOf 2 yUz) tables
+unfolding tables
+yUz-table = getD-member hardTable tables 2 refl
+
+pub sUnUz-table : List·Memᴰ (tableOf 5 sUnUz) tables
+unfolding tables
+sUnUz-table = getD-member hardTable tables 3 refl
+
+pub lAr-table : List·Memᴰ (tableOf 3 lAr) tables
+unfolding tables
+lAr-table = getD-member hardTable tables 4 refl
+
+pub nUz-table : List·Memᴰ (tableOf 3 nUz) tables
+unfolding tables
+nUz-table = getD-member hardTable tables 5 refl
+
+pub DUr-table : List·Memᴰ (tableOf 3 DUr) tables
+unfolding tables
+DUr-table = getD-member hardTable tables 6 refl
+
+pub cAsInA-table : List·Memᴰ (tableOf 6 cAsInA) tables
+unfolding tables
+cAsInA-table = getD-member hardTable tables 7 refl
+
+pub yDU-table : List·Memᴰ (tableOf 3 yDU) tables
+unfolding tables
+yDU-table = getD-member hardTable tables 8 refl
+
+pub ysA-table : List·Memᴰ (tableOf 3 ysA) tables
+unfolding tables
+ysA-table = getD-member hardTable tables 9 refl
+
+pub ymUs-table : List·Memᴰ (tableOf 3 ymUs) tables
+unfolding tables
+ymUs-table = getD-member hardTable tables 10 refl
+
+pub yken-table : List·Memᴰ (tableOf 3 yken) tables
+unfolding tables
+yken-table = getD-member hardTable tables 11 refl
+
+pub hard-table : List·Memᴰ hardTable tables
+unfolding tables
+hard-table = getD-member hardTable tables 12 refl
 
 -- ---- what it says ----
 
@@ -79,9 +137,21 @@ apart-one cs t (List·Memᴰ·tail m) (List·Memᴰ·head {x} {xs} q) a b =
 apart-one cs t (List·Memᴰ·tail {x} {xs} m) (List·Memᴰ·tail n) a b = apart-one cs (and-right (every (neither x) xs) (apart xs) t) m n a b
 
 -- of each table at most one key ends a text
-pub one-key : (cs : List ℕ) {ks : List (List ℕ)} {j k : List ℕ} → List·Memᴰ ks tables → List·Memᴰ j ks → List·Memᴰ k ks
+pub one-key : (cs : List ℕ) {t : Table} {j k : List ℕ} → List·Memᴰ t tables → List·Memᴰ j (t .keys) → List·Memᴰ k (t .keys)
     → starts j cs ≡ true → starts k cs ≡ true → j ≡ k
-one-key cs {ks} t = apart-one cs (and-left (apart ks) (every begins ks) (every-at _ tables-pass t))
+one-key cs t = apart-one cs (table-passes t .2)
+
+-- no key of a table has a 0 or more characters than its width
+pub table-whole : {t : Table} → List·Memᴰ t tables → whole (t .width) (t .keys) ≡ true
+table-whole t = table-passes t .0
+
+-- and each key of it alone has not
+whole-key : (width : ℕ) {ks : List (List ℕ)} {k : List ℕ} → whole width ks ≡ true → List·Memᴰ k ks → (length k ≤ width) × (letters k ≡ true)
+unfolding whole
+whole-key width {k} e (List·Memᴰ·head {x} {xs} p) =
+    let a = and-each (leb (length x) width) (letters x) (whole width xs) e in
+    rw p (leb-true (length x) width (a .0), a .1)
+whole-key width e (List·Memᴰ·tail {x} {xs} m) = whole-key width (and-each (leb (length x) width) (letters x) (whole width xs) e .2) m
 
 -- bytes that pass are some, and the first goes on with no character
 begin-start : (w : List ℕ) → begin w ≡ true → (0 < length w) × (continuation (getD w 0 0) ≡ false)
@@ -89,8 +159,17 @@ unfolding begin
 begin-start [] e = absurd (false≢true e)
 begin-start (b ∷ bs) e = (omega arith, not-true (continuation b) e)
 
--- every key begins on a character's start
-pub key-start : {ks : List (List ℕ)} {k : List ℕ} → List·Memᴰ ks tables → List·Memᴰ k ks
-    → (0 < length (bytes k)) × (continuation (getD (bytes k) 0 0) ≡ false)
-unfolding begins
-key-start {ks} {k} t m = begin-start (bytes k) (every-at begins (and-right (apart ks) (every begins ks) (every-at _ tables-pass t)) m)
+module _ {t : Table} {k : List ℕ} (m : List·Memᴰ t tables) (i : List·Memᴰ k (t .keys)) where
+  -- every key has a letter, no more of them than its table's width, and no 0
+  pub key-letters : (0 < length k) × (length k ≤ t .width) × (letters k ≡ true)
+  unfolding begins begin bytes encodeAll
+  key-letters = let f = whole-key (t .width) (table-whole m) i in (some k (every-at begins (table-passes m .1) i), f .0, f .1)
+    where
+      some : (k : List ℕ) → begins k ≡ true → 0 < length k
+      some [] e = absurd (false≢true e)
+      some (c ∷ cs) e = omega arith
+
+  -- and begins on a character's start
+  pub key-start : (0 < length (bytes k)) × (continuation (getD (bytes k) 0 0) ≡ false)
+  unfolding begins
+  key-start = begin-start (bytes k) (every-at begins (table-passes m .1) i)

@@ -6,13 +6,15 @@ use mathlib.Core.Path.{_≡_}
 use mathlib.Core.Bool.{true, false, cond}
 use mathlib.Core.List.{List, List·Memᴰ}
 use mathlib.Core.Logic.{_↔_}
-use lib.ListN.{length, take}
+use lib.ListN.{length, take, getD}
 use lib.Dec.{eqb}
 use Rattle.utf8.specs.Validity.{isText}
+use Rattle.utf8.specs.Characters.{continuation}
 use Rattle.turkish.specs.Letters.{starts}
 use Rattle.turkish.specs.Harmony.{moreThanOneSyllable}
 use Rattle.turkish.specs.Stage.{stage, kept}
 use Rattle.turkish.specs.Postlude.{reserved, appendU, harden, postlude}
+use Rattle.turkish.specs.Tables.{Table, tables, letters}
 use Rattle.turkish.specs.Calls.{chars, bytes, accepted, keptLength, stagePart, stageCall, postludeText, postludeRefusal, postludeOut, foldText, foldRefusal, foldOut, passText, passRefusal, passOut}
 use Rattle.turkish.proofs.Laws.Bounds.{stage-most, stage-yes, stage-no}
 use Rattle.turkish.proofs.Laws.Accepted.{accepted-iff}
@@ -22,7 +24,7 @@ use Rattle.turkish.proofs.Fronts.{calls-alike}
 use Rattle.turkish.proofs.Nothing.{left-empty}
 use Rattle.turkish.proofs.Laws.Syllables.{moreThanOneSyllable-no}
 use Rattle.turkish.proofs.Sizes.{postludeText-size, passText-size, foldText-size, stagePart-front, kept-bytes}
-use Rattle.turkish.proofs.Tables.{tables, one-key}
+use Rattle.turkish.proofs.Tables.{one-key, key-letters, key-start}
 use Rattle.turkish.proofs.PostludeRules.{appends, postlude-one}
 use Rattle.turkish.proofs.Starred as Starred
 
@@ -89,9 +91,18 @@ one-syllable-has-no-ending = moreThanOneSyllable-no
 -- ---- the key tables and the postlude's rules ----
 
 -- at most one key of a table ends a text
-pub at-most-one-key : (cs : List ℕ) {ks : List (List ℕ)} {j k : List ℕ} → List·Memᴰ ks tables → List·Memᴰ j ks → List·Memᴰ k ks
+pub at-most-one-key : (cs : List ℕ) {t : Table} {j k : List ℕ} → List·Memᴰ t tables → List·Memᴰ j (t .keys) → List·Memᴰ k (t .keys)
     → starts j cs ≡ true → starts k cs ≡ true → j ≡ k
 at-most-one-key = one-key
+
+-- a key has a letter, no more letters than its table's width, and none that is 0
+pub keys-have-letters : {t : Table} {k : List ℕ} → List·Memᴰ t tables → List·Memᴰ k (t .keys) → (0 < length k) × (length k ≤ t .width) × (letters k ≡ true)
+keys-have-letters = key-letters
+
+-- keys match only from a character's start: the first byte of each is a lead byte
+pub keys-begin-characters : {t : Table} {k : List ℕ} → List·Memᴰ t tables → List·Memᴰ k (t .keys)
+    → (0 < length (bytes k)) × (continuation (getD (bytes k) 0 0) ≡ false)
+keys-begin-characters = key-start
 
 -- the postlude's three rules never act together: a reserved word stays, a vowel is gained, or the last consonant hardens
 pub one-rule-acts : (cs : List ℕ) → postlude cs ≡ cond (reserved cs) cs (cond (appends cs) (appendU cs) (harden cs))

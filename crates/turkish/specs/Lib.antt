@@ -6,6 +6,7 @@ pub mod Grammar
 pub mod Marks
 pub mod Stage
 pub mod Postlude
+pub mod Tables
 pub mod WordPass
 pub mod Calls
 -- the terms in which the theorems are stated

@@ -1,0 +1,38 @@
+-- The tables of keys (turkish.rs, A_12 to A_23, and the literal `ken`), each with its width, and what the code's search asks of one.
+-- Assumes nothing.
+use Prim.Native.Nat.{ℕ}
+use mathlib.Core.Bool.{Bool, true, _&&_}
+use mathlib.Core.List.{List, [], _∷_}
+use lib.ListN.{length}
+use lib.Dec.{ltb, leb}
+use Rattle.turkish.specs.Grammar.{Mark}
+use Rattle.turkish.specs.Marks.{yUm, sUn, yUz, sUnUz, lAr, nUz, DUr, cAsInA, yDU, ysA, ymUs, yken}
+use Rattle.turkish.specs.Postlude.{hardKeys}
+
+-- the keys, from their ends, and the characters of the longest
+pub record Table : Type 0 where
+  pub width : ℕ
+  pub keys : List (List ℕ)
+
+-- a mark's table, and A_23
+abbrev pub tableOf : ℕ → Mark → Table
+tableOf width m = record { width = width; keys = m .keys }
+
+abbrev pub hardTable : Table
+hardTable = record { width = 1; keys = hardKeys }
+
+-- all of them, in the Rust's order
+unfoldable pub tables : List Table
+tables =
+    tableOf 2 yUm ∷ tableOf 3 sUn ∷ tableOf 2 yUz ∷ tableOf 5 sUnUz ∷ tableOf 3 lAr ∷ tableOf 3 nUz ∷ tableOf 3 DUr
+    ∷ tableOf 6 cAsInA ∷ tableOf 3 yDU ∷ tableOf 3 ysA ∷ tableOf 3 ymUs ∷ tableOf 3 yken ∷ hardTable ∷ []
+
+-- no character of the key is 0
+unfoldable pub letters : List ℕ → Bool
+letters [] = true
+letters (c ∷ cs) = ltb 0 c && letters cs
+
+-- no key of the table has a 0 or more than `width` characters
+unfoldable pub whole : ℕ → List (List ℕ) → Bool
+whole width [] = true
+whole width (k ∷ ks) = leb (length k) width && letters k && whole width ks
