@@ -15,7 +15,7 @@ use Rattle.turkish.specs.declared.answer.FoldAnswer.{FoldAnswer}
 use Rattle.turkish.specs.declared.answer.PassAnswer.{PassAnswer}
 use Rattle.turkish.specs.Harmony.{moreThanOneSyllable}
 use Rattle.turkish.specs.Stage.{stage}
-use Rattle.turkish.specs.Postlude.{postlude, postludeAnswer}
+use Rattle.turkish.specs.Postlude.{postlude, postludeYes}
 use Rattle.turkish.specs.WordPass.{fold, pass}
 
 -- ---- a word as characters ----
@@ -81,7 +81,7 @@ postludeRefusal w room = refusalInto w (length w + 2) room
 unfoldable pub postludeCall : List ℕ → ℕ → PostludeAnswer
 postludeCall w room =
     cond (eqb (postludeRefusal w room) 0)
-    (record { refusal = 0; length = length (postludeText w); yes = postludeAnswer (chars w) })
+    (record { refusal = 0; length = length (postludeText w); yes = postludeYes (chars w) })
     (record { refusal = postludeRefusal w room; length = 0; yes = false })
 
 unfoldable pub postludeOut : List ℕ → List ℕ → List ℕ

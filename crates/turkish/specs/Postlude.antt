@@ -62,5 +62,5 @@ harden (c ∷ cs) = hard c ∷ cs
 unfoldable pub postlude : List ℕ → List ℕ
 postlude cs = cond (reserved cs) cs (harden (appendU cs))
 
-unfoldable pub postludeAnswer : List ℕ → Bool
-postludeAnswer cs = not (reserved cs)
+unfoldable pub postludeYes : List ℕ → Bool
+postludeYes cs = not (reserved cs)
