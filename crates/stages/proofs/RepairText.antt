@@ -17,7 +17,7 @@ use Rattle.utf8.proofs.Laws.Characters.{lastWidth-le, before-step}
 use Rattle.utf8.proofs.TextCharacters.{encodeAll-append, encode-before, take-back}
 use Rattle.turkish.specs.Letters.{text, has}
 use Rattle.turkish.specs.Harmony.{lastVowel}
-use Rattle.turkish.specs.Postlude.{reserved, gained, appendU, hard, harden, postlude, postludeAnswer}
+use Rattle.turkish.specs.Postlude.{reserved, gained, appendU, hard, harden, postlude, postludeYes}
 use Rattle.turkish.specs.Calls.{bytes}
 use Rattle.turkish.proofs.PostludeRules.{hard-gained}
 use Rattle.stages.specs.declared.postlude.Repair.{Repair}
@@ -206,8 +206,8 @@ change-elim w n P p q =
     last (c ∷ cs) = cond-both P (eqb (hard c) c) _ _ p (q (n - lastWidth w n) (hard c) (omega arith))
 
 -- the repair's answer is the postlude's
-pub repair-answer : (w : List ℕ) (n : ℕ) → repairOf w n .yes ≡ postludeAnswer (before w n)
-unfolding repairOf postludeAnswer unchanged shortRepair
+pub repair-answer : (w : List ℕ) (n : ℕ) → repairOf w n .yes ≡ postludeYes (before w n)
+unfolding repairOf postludeYes unchanged shortRepair
 repair-answer w n = go (reserved (before w n))
   where
     r : Repair
