@@ -15,6 +15,7 @@ use Rattle.turkish.specs.Marks.{marked, yUm, sUn, yUz, sUnUz, lAr, nUz, 
 use Rattle.turkish.specs.Stage.{person, branch1, branch2, branch3, branch4, branch5, branch6, branches, staged, stage, kept}
 use Rattle.turkish.specs.Postlude.{reserved, gained, appendU, hard, harden, postlude}
 use Rattle.turkish.specs.WordPass.{passStage, pass}
+use Rattle.turkish.specs.Fronts.{endLength, mostRemoved}
 use Rattle.turkish.proofs.Laws.Outcome.{Post, unfit, fits}
 use Rattle.turkish.proofs.Laws.Bounds.{longest, most, among-most, run-most, stage-most}
 use Rattle.turkish.proofs.Laws.Vowels.{any-vowels, partner-vowel, has-last-beforeLastVowel}
@@ -114,21 +115,21 @@ run-near unset e f g a h = refl
 -- ---- the stage ----
 
 -- the stage's command may look at 16 characters
-need-branches : need branches ≡ 16
-unfolding need most longest branches branch1 branch2 branch3 branch4 branch5 branch6 person try marked yUm sUn yUz sUnUz lAr nUz DUr cAsInA yDU ysA ymUs yken fromEnd text
+need-branches : need branches ≡ endLength
+unfolding endLength need most longest branches branch1 branch2 branch3 branch4 branch5 branch6 person try marked yUm sUn yUz sUnUz lAr nUz DUr cAsInA yDU ysA ymUs yken fromEnd text
 need-branches = refl
 
 -- the stage answers alike on words with a shared end of 16 characters
-pub stage-near : (e f g : List ℕ) → AlikeChars f g → 16 ≤ length e → stage (e ++ f) ≡ stage (e ++ g)
+pub stage-near : (e f g : List ℕ) → AlikeChars f g → endLength ≤ length e → stage (e ++ f) ≡ stage (e ++ g)
 unfolding stage
 stage-near e f g a h = ap staged (run-near branches e f g a (omega (arith, need-branches)))
 
 -- of words with a shared end of 16 characters the stage keeps some of it
-kept-near : (e f g : List ℕ) → AlikeChars f g → 16 ≤ length e → (x : List ℕ) × (0 < length x) × (kept (e ++ f) ≡ x ++ f) × (kept (e ++ g) ≡ x ++ g)
-unfolding kept
+kept-near : (e f g : List ℕ) → AlikeChars f g → endLength ≤ length e → (x : List ℕ) × (0 < length x) × (kept (e ++ f) ≡ x ++ f) × (kept (e ++ g) ≡ x ++ g)
+unfolding kept endLength mostRemoved
 kept-near e f g a h =
     let k : ℕ = stage (e ++ g) .removed in
-    let l : k ≤ 15 = stage-most (e ++ g) in
+    let l : k ≤ mostRemoved = stage-most (e ++ g) in
     (drop k e, omega (arith, length-drop k e), rw (stage-near e f g a h) (drop-append-le k e f (omega arith)), drop-append-le k e g (omega arith))
 
 -- ---- the pass ----
@@ -160,7 +161,7 @@ pub record NearPasses (e f g : List ℕ) : Type 0 where
       → (x : List ℕ) × (pass (e ++ f) .text ≡ x ++ f) × (pass (e ++ g) .text ≡ x ++ g)
 
 -- it is that on words with a shared end of 16 characters
-pub pass-near : (e f g : List ℕ) → AlikeChars f g → 16 ≤ length e → NearPasses e f g
+pub pass-near : (e f g : List ℕ) → AlikeChars f g → endLength ≤ length e → NearPasses e f g
 unfolding pass passStage toReserved
 pass-near e f g a h = go (moreThanOneSyllable (e ++ g)) (moreThanOneSyllable-near e f g a) refl (stage-near e f g a h) (kept-near e f g a h)
   where

@@ -15,7 +15,7 @@ use Rattle.turkish.specs.Harmony.{moreThanOneSyllable}
 use Rattle.turkish.specs.Stage.{stage, kept}
 use Rattle.turkish.specs.Postlude.{reserved, appendU, harden, postlude}
 use Rattle.turkish.specs.Tables.{Table, tables, letters}
-use Rattle.turkish.specs.Calls.{chars, bytes, accepted, keptLength, stagePart, stageCall, postludeText, postludeRefusal, postludeOut, foldText, foldRefusal, foldOut, passText, passRefusal, passOut}
+use Rattle.turkish.specs.Calls.{chars, bytes, limit, accepted, keptLength, stagePart, stageCall, postludeText, postludeRefusal, postludeOut, foldText, foldRefusal, foldOut, passText, passRefusal, passOut}
 use Rattle.turkish.proofs.Laws.Bounds.{stage-most, stage-yes, stage-no}
 use Rattle.turkish.proofs.Laws.Accepted.{accepted-iff}
 use Rattle.turkish.specs.Fronts.{mostRemoved, Pair, leftEmpty, oneOf}
@@ -30,8 +30,8 @@ use Rattle.turkish.proofs.Starred as Starred
 
 -- ---- demand 1: who is refused, and that a refused output stays ----
 
--- a word is accepted exactly when it has at most 1,024 bytes and is UTF-8
-pub accepts-exactly : (w : List ℕ) → (accepted w ≡ true) ↔ ((length w ≤ 1024) × (isText w ≡ true))
+-- a word is accepted exactly when it has no more bytes than the limit and is UTF-8
+pub accepts-exactly : (w : List ℕ) → (accepted w ≡ true) ↔ ((length w ≤ limit) × (isText w ≡ true))
 accepts-exactly w = accepted-iff w
 
 -- a call refused under any number leaves its output as it was
@@ -73,7 +73,6 @@ misreadings-told = Starred.outcomes .1
 
 -- it removes at most 15 characters
 pub removes-at-most-15 : (w : List ℕ) → stage (chars w) .removed ≤ mostRemoved
-unfolding mostRemoved
 removes-at-most-15 w = stage-most (chars w)
 
 -- what it hands back is a front part of the word's bytes, and of an accepted word it is the characters kept

@@ -30,17 +30,17 @@ unfolding bytes chars
 bytes-chars w e = encode-before w (accepted-text w e)
 
 -- a word is accepted exactly when it is short enough and a text
-pub accepted-iff : (w : List ℕ) → (accepted w ≡ true) ↔ ((length w ≤ 1024) × (isText w ≡ true))
-unfolding accepted refusal limit
+pub accepted-iff : (w : List ℕ) → (accepted w ≡ true) ↔ ((length w ≤ limit) × (isText w ≡ true))
+unfolding accepted refusal
 accepted-iff w = (there, back)
   where
-    there : accepted w ≡ true → (length w ≤ 1024) × (isText w ≡ true)
-    there = go (ltb 1024 (length w)) refl (isText w) refl
+    there : accepted w ≡ true → (length w ≤ limit) × (isText w ≡ true)
+    there = go (ltb limit (length w)) refl (isText w) refl
       where
-        go : (over : Bool) → ltb 1024 (length w) ≡ over → (valid : Bool) → isText w ≡ valid → eqb (cond over 1 (cond valid 0 2)) 0 ≡ true → (length w ≤ 1024) × (isText w ≡ true)
+        go : (over : Bool) → ltb limit (length w) ≡ over → (valid : Bool) → isText w ≡ valid → eqb (cond over 1 (cond valid 0 2)) 0 ≡ true → (length w ≤ limit) × (isText w ≡ true)
         go true o valid v e = absurd (false≢true e)
-        go false o true v e = (ltb-false 1024 (length w) o, v)
+        go false o true v e = (ltb-false limit (length w) o, v)
         go false o false v e = absurd (false≢true e)
 
-    back : (length w ≤ 1024) × (isText w ≡ true) → accepted w ≡ true
-    back h = rw (le-ltb 1024 (length w) (h .0), h .1)
+    back : (length w ≤ limit) × (isText w ≡ true) → accepted w ≡ true
+    back h = rw (le-ltb limit (length w) (h .0), h .1)

@@ -13,6 +13,7 @@ use Rattle.turkish.specs.Harmony.{vowel, harmony}
 use Rattle.turkish.specs.Grammar.{Out, fail, took, after, among, optionalY, markOf, Command, mark, _then_, _or_, nothing, unset, try, run}
 use Rattle.turkish.specs.Marks.{marked, yUm, sUn, yUz, sUnUz, lAr, nUz, DUr, cAsInA, yDU, ysA, ymUs, yken}
 use Rattle.turkish.specs.Stage.{person, branch1, branch2, branch3, branch4, branch5, branch6, branches, staged, stage}
+use Rattle.turkish.specs.Fronts.{mostRemoved}
 use Rattle.turkish.proofs.Laws.Outcome.{Post, unfit, fits, post-map, post-first, post-asking, post-cond, post-then}
 use Rattle.turkish.proofs.Laws.Tests.{cond-test}
 
@@ -110,19 +111,19 @@ run-within p cs = post-map (λ k h. h .2) (run-between p cs)
 -- ---- the stage ----
 
 -- the stage's command takes at least one character and at most 15
-branches-between : (least branches ≡ 1) × (most branches ≡ 15)
-unfolding least most branches branch1 branch2 branch3 branch4 branch5 branch6 person try marked yUm sUn yUz sUnUz lAr nUz DUr cAsInA yDU ysA ymUs yken fromEnd text
+branches-between : (least branches ≡ 1) × (most branches ≡ mostRemoved)
+unfolding mostRemoved least most branches branch1 branch2 branch3 branch4 branch5 branch6 person try marked yUm sUn yUz sUnUz lAr nUz DUr cAsInA yDU ysA ymUs yken fromEnd text
 branches-between = (refl, refl)
 
 -- so does the stage where it says yes, and no more than there is
 staged-between : {n : ℕ} {o : Out} → Post (Between (least branches) (most branches) n) o
-    → (staged o .removed ≤ 15) × (staged o .removed ≤ n) × (staged o .yes ≡ true → 0 < staged o .removed)
+    → (staged o .removed ≤ mostRemoved) × (staged o .removed ≤ n) × (staged o .yes ≡ true → 0 < staged o .removed)
 unfolding staged
 staged-between unfit = (omega arith, omega arith, λ e. absurd (false≢true e))
 staged-between (fits k h) = (omega (arith, branches-between), omega arith, λ e. omega (arith, branches-between))
 
 -- at most 15 characters are removed
-pub stage-most : (cs : List ℕ) → stage cs .removed ≤ 15
+pub stage-most : (cs : List ℕ) → stage cs .removed ≤ mostRemoved
 unfolding stage
 stage-most cs = staged-between (run-between branches cs) .0
 

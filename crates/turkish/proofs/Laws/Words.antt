@@ -78,8 +78,8 @@ module _ (w : List ℕ) (t : TextOf w) where
   front-bytes = rw chars-front front-encoded
 
   -- a long word's end has 16 characters
-  pub end-long : long w ≡ true → 16 ≤ length (chars (end w))
-  unfolding long endLength
+  pub end-long : long w ≡ true → endLength ≤ length (chars (end w))
+  unfolding long
   end-long h = rw (chars-end, length-take) (omega (arith, leb-true))
 
 -- what stands before the place n characters back in a text is a text
