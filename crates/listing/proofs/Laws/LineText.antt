@@ -8,7 +8,7 @@ use native.Mathlib.Omega.{arith}
 use lib.ListN.{length, take}
 use borrow.Author.Tests.{lt-ltb, le-ltb}
 use Rattle.turkish.specs.Harmony.{moreThanOneSyllable}
-use Rattle.turkish.specs.Calls.{chars, accepted, passText}
+use Rattle.turkish.specs.Calls.{chars, limit, accepted, passText}
 use Rattle.turkish.proofs.Laws.Accepted.{accepted-iff}
 use Rattle.turkish.proofs.Sizes.{passText-size}
 use Rattle.stages.specs.declared.stem.Stem.{Stem}
@@ -78,6 +78,7 @@ fields-parts w syllable s y q = rw (y, q) (simp append-assoc)
 -- an accepted word, the text kept and the pass's text are short enough that the fields fit 3,084 bytes: three times 1,024 and twelve
 pub fields-sizes : (w : List ℕ) (s : Stem) → accepted w ≡ true → s ≡ stemOf w
     → (length w ≤ 1024) × (s .kept ≤ length w) × (length (passText w) ≤ length w + 2)
+unfolding limit
 fields-sizes w s ok q = (accepted-iff w .0 ok .0, kept-le w s q, passText-size w ok)
 
 -- ---- the call ----

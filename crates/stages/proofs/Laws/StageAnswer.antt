@@ -10,6 +10,7 @@ use Rattle.utf8.specs.Characters.{back}
 use Rattle.turkish.specs.Grammar.{Out, fail, took, first, run}
 use Rattle.turkish.specs.Stage.{branches, staged, stage}
 use Rattle.turkish.specs.Calls.{chars, keptLength}
+use Rattle.turkish.specs.Fronts.{mostRemoved}
 use Rattle.stages.specs.declared.mark.Marked.{Marked}
 use Rattle.stages.specs.declared.mark.Marked.the-variants.{To, Fails}
 use Rattle.stages.specs.declared.stem.Stem.{Stem}
@@ -44,7 +45,7 @@ first-failed o q is fails = ap (λ (x : Out). first x q) (fail-is o is fails)
 -- the stage's answer where a branch fits
 pub stemOf-took : (w t p : List ℕ) (k : ℕ) (f : Bool) → Tail w t p → run branches (chars w) ≡ took k f
     → record { kept = getD p k 0; yes = true; flag = f } ≡ stemOf w
-unfolding stemOf keptLength stage staged
+unfolding stemOf keptLength stage staged mostRemoved
 stemOf-took w t p k f tail e = rw (tail .p-is k (omega (arith, rw e at (stage-most (chars w)))), e)
 
 -- and where none does
