@@ -15,20 +15,15 @@ use Rattle.turkish.specs.Marks.{marked, yUm, sUn, yUz, sUnUz, lAr, nUz, 
 use Rattle.turkish.specs.Stage.{person, branch1, branch2, branch3, branch4, branch5, branch6, branches, staged, stage, kept}
 use Rattle.turkish.specs.Postlude.{reserved, gained, appendU, hard, harden, postlude}
 use Rattle.turkish.specs.WordPass.{passStage, pass}
-use Rattle.turkish.specs.Fronts.{endLength, mostRemoved}
+use Rattle.turkish.specs.Fronts.{endLength, mostRemoved, Alike, reachesReserved, SameAnswers}
 use Rattle.turkish.proofs.Laws.Outcome.{Post, unfit, fits}
 use Rattle.turkish.proofs.Laws.Bounds.{longest, most, among-most, run-most, stage-most}
 use Rattle.turkish.proofs.Laws.Vowels.{any-vowels, partner-vowel, has-last-beforeLastVowel}
 
 -- ---- alike fronts ----
 
--- characters told nearest first agree in the last vowel, or both have none, and in the set of the vowels before it
-pub record AlikeChars (f g : List ℕ) : Type 0 where
-  pub last : lastVowel f ≡ lastVowel g
-  pub others : (v : ℕ) → vowel v ≡ true → has (beforeLastVowel f) v ≡ has (beforeLastVowel g) v
-
--- they stay alike behind one more character
-alike-cons : (c : ℕ) (f g : List ℕ) → AlikeChars f g → AlikeChars (c ∷ f) (c ∷ g)
+-- fronts stay alike behind one more character
+alike-cons : (c : ℕ) (f g : List ℕ) → Alike f g → Alike (c ∷ f) (c ∷ g)
 unfolding lastVowel beforeLastVowel
 alike-cons c f g a =
     record {
@@ -38,23 +33,23 @@ alike-cons c f g a =
     }
 
 -- and behind a shared end
-pub alike-append : (e f g : List ℕ) → AlikeChars f g → AlikeChars (e ++ f) (e ++ g)
+pub alike-append : (e f g : List ℕ) → Alike f g → Alike (e ++ f) (e ++ g)
 alike-append [] f g a = a
 alike-append (c ∷ e) f g a = alike-cons c (e ++ f) (e ++ g) (alike-append e f g a)
 
 -- so words with a shared end, whatever it is, agree in the last vowel
-pub lastVowel-near : (e f g : List ℕ) → AlikeChars f g → lastVowel (e ++ f) ≡ lastVowel (e ++ g)
+pub lastVowel-near : (e f g : List ℕ) → Alike f g → lastVowel (e ++ f) ≡ lastVowel (e ++ g)
 lastVowel-near e f g a = alike-append e f g a .last
 
 -- in harmony
-pub harmony-near : (e f g : List ℕ) → AlikeChars f g → harmony (e ++ f) ≡ harmony (e ++ g)
+pub harmony-near : (e f g : List ℕ) → Alike f g → harmony (e ++ f) ≡ harmony (e ++ g)
 unfolding harmony
 harmony-near e f g a =
     rw (lastVowel-near e f g a)
     (any-vowels (partner (lastVowel (e ++ g))) (beforeLastVowel (e ++ f)) (beforeLastVowel (e ++ g)) (partner-vowel (lastVowel (e ++ g))) (alike-append e f g a .others))
 
 -- and in the syllable check
-pub moreThanOneSyllable-near : (e f g : List ℕ) → AlikeChars f g → moreThanOneSyllable (e ++ f) ≡ moreThanOneSyllable (e ++ g)
+pub moreThanOneSyllable-near : (e f g : List ℕ) → Alike f g → moreThanOneSyllable (e ++ f) ≡ moreThanOneSyllable (e ++ g)
 unfolding moreThanOneSyllable
 moreThanOneSyllable-near e f g a = any-vowels vowel (beforeLastVowel (e ++ f)) (beforeLastVowel (e ++ g)) (λ v h. h) (alike-append e f g a .others)
 
@@ -99,7 +94,7 @@ after-near q n m e f g near h (fits k {f = b} l) =
     ap (more k b) (rw (drop-append-le k e f (omega arith), drop-append-le k e g (omega arith)) (near (drop k e) (omega (arith, length-drop k e))))
 
 -- a command answers alike on words with a shared end of the characters that it may look at
-pub run-near : (p : Command) (e f g : List ℕ) → AlikeChars f g → need p ≤ length e → run p (e ++ f) ≡ run p (e ++ g)
+pub run-near : (p : Command) (e f g : List ℕ) → Alike f g → need p ≤ length e → run p (e ++ f) ≡ run p (e ++ g)
 unfolding run markOf need
 run-near (mark m) e f g a h =
     rw (harmony-near e f g a, among-append (m .keys) e f (omega arith), among-append (m .keys) e g (omega arith))
@@ -120,12 +115,12 @@ unfolding endLength need most longest branches branch1 branch2 branch3 branch4 b
 need-branches = refl
 
 -- the stage answers alike on words with a shared end of 16 characters
-pub stage-near : (e f g : List ℕ) → AlikeChars f g → endLength ≤ length e → stage (e ++ f) ≡ stage (e ++ g)
+pub stage-near : (e f g : List ℕ) → Alike f g → endLength ≤ length e → stage (e ++ f) ≡ stage (e ++ g)
 unfolding stage
 stage-near e f g a h = ap staged (run-near branches e f g a (omega (arith, need-branches)))
 
 -- of words with a shared end of 16 characters the stage keeps some of it
-kept-near : (e f g : List ℕ) → AlikeChars f g → endLength ≤ length e → (x : List ℕ) × (0 < length x) × (kept (e ++ f) ≡ x ++ f) × (kept (e ++ g) ≡ x ++ g)
+kept-near : (e f g : List ℕ) → Alike f g → endLength ≤ length e → (x : List ℕ) × (0 < length x) × (kept (e ++ f) ≡ x ++ f) × (kept (e ++ g) ≡ x ++ g)
 unfolding kept endLength mostRemoved
 kept-near e f g a h =
     let k : ℕ = stage (e ++ g) .removed in
@@ -135,7 +130,7 @@ kept-near e f g a h =
 -- ---- the pass ----
 
 -- where it runs, the postlude changes the shared end alone, and that alike
-postlude-near : (b : Bool) (x f g : List ℕ) → AlikeChars f g → 0 < length x → b && reserved (x ++ f) ≡ false → b && reserved (x ++ g) ≡ false
+postlude-near : (b : Bool) (x f g : List ℕ) → Alike f g → 0 < length x → b && reserved (x ++ f) ≡ false → b && reserved (x ++ g) ≡ false
     → (y : List ℕ) × (cond b (postlude (x ++ f)) (x ++ f) ≡ y ++ f) × (cond b (postlude (x ++ g)) (x ++ g) ≡ y ++ g)
 unfolding postlude appendU harden
 postlude-near false x f g a h p q = (x, refl, refl)
@@ -148,30 +143,19 @@ postlude-near true (c ∷ x) f g a h p q =
     × (harden (cond t (v ∷ c ∷ (x ++ g)) (c ∷ (x ++ g))) ≡ y ++ g))
     [ true ↦ (hard v ∷ c ∷ x, refl, refl) | false ↦ (hard c ∷ x, refl, refl) ])
 
--- the text that reaches the postlude is reserved
-unfoldable pub toReserved : List ℕ → Bool
-toReserved cs = moreThanOneSyllable cs && stage cs .flag && reserved (kept cs)
-
--- what the pass gives on two words with one end: equal answers, and texts with one end, unless a reserved text reaches the postlude
-pub record NearPasses (e f g : List ℕ) : Type 0 where
-  pub syllable : pass (e ++ f) .syllable ≡ pass (e ++ g) .syllable
-  pub yes : pass (e ++ f) .yes ≡ pass (e ++ g) .yes
-  pub flag : pass (e ++ f) .flag ≡ pass (e ++ g) .flag
-  pub texts : toReserved (e ++ f) ≡ false → toReserved (e ++ g) ≡ false
-      → (x : List ℕ) × (pass (e ++ f) .text ≡ x ++ f) × (pass (e ++ g) .text ≡ x ++ g)
-
--- it is that on words with a shared end of 16 characters
-pub pass-near : (e f g : List ℕ) → AlikeChars f g → endLength ≤ length e → NearPasses e f g
-unfolding pass passStage toReserved
-pass-near e f g a h = go (moreThanOneSyllable (e ++ g)) (moreThanOneSyllable-near e f g a) refl (stage-near e f g a h) (kept-near e f g a h)
+-- on words with a shared end of 16 characters the pass gives equal answers, and texts with a shared end, unless a reserved text
+-- reaches the postlude
+pub pass-near : (e f g : List ℕ) → Alike f g → endLength ≤ length e → SameAnswers (pass (e ++ f)) (pass (e ++ g))
+    × (reachesReserved (e ++ f) ≡ false → reachesReserved (e ++ g) ≡ false
+    → (x : List ℕ) × (pass (e ++ f) .text ≡ x ++ f) × (pass (e ++ g) .text ≡ x ++ g))
+unfolding pass passStage reachesReserved
+pass-near e f g a h = go (moreThanOneSyllable (e ++ g)) (moreThanOneSyllable-near e f g a) refl
   where
-    go : (t : Bool) → moreThanOneSyllable (e ++ f) ≡ moreThanOneSyllable (e ++ g) → moreThanOneSyllable (e ++ g) ≡ t → stage (e ++ f) ≡ stage (e ++ g)
-        → (x : List ℕ) × (0 < length x) × (kept (e ++ f) ≡ x ++ f) × (kept (e ++ g) ≡ x ++ g) → NearPasses e f g
-    go false p s q x = record { syllable = simp (p, s); yes = simp (p, s); flag = simp (p, s); texts = λ i j. (e, simp (p, s), simp s) }
-    go true p s q x =
-        record {
-          syllable = simp (p, s);
-          yes = simp (p, s, q);
-          flag = simp (p, s, q);
-          texts = simp (p, s, q, x .2, x .3) (postlude-near (stage (e ++ g) .flag) (x .0) f g a (x .1));
-        }
+    go : (t : Bool) → moreThanOneSyllable (e ++ f) ≡ moreThanOneSyllable (e ++ g) → moreThanOneSyllable (e ++ g) ≡ t → SameAnswers (pass (e ++ f)) (pass (e ++ g))
+        × (reachesReserved (e ++ f) ≡ false → reachesReserved (e ++ g) ≡ false
+        → (x : List ℕ) × (pass (e ++ f) .text ≡ x ++ f) × (pass (e ++ g) .text ≡ x ++ g))
+    go false p s = rw (p, s) (record { syllable = refl; yes = refl; flag = refl }, λ i j. (e, refl, refl))
+    go true p s =
+        let k = kept-near e f g a h in
+        rw (p, s, stage-near e f g a h, k .2, k .3)
+        (record { syllable = refl; yes = refl; flag = refl }, postlude-near (stage (e ++ g) .flag) (k .0) f g a (k .1))

@@ -4,7 +4,7 @@
 use Prim.Native.Nat.{ℕ, _+_, _≤_, _<_}
 use mathlib.Core.Path.{_≡_}
 use mathlib.Core.Bool.{true, false, cond}
-use mathlib.Core.List.{List, List·Memᴰ}
+use mathlib.Core.List.{List, _++_, List·Memᴰ}
 use mathlib.Core.Logic.{_↔_}
 use lib.ListN.{length, take, getD}
 use lib.Dec.{eqb}
@@ -18,9 +18,8 @@ use Rattle.turkish.specs.Tables.{Table, tables, letters}
 use Rattle.turkish.specs.Calls.{chars, bytes, limit, accepted, keptLength, stagePart, stageCall, postludeText, postludeRefusal, postludeOut, foldText, foldRefusal, foldOut, passText, passRefusal, passOut}
 use Rattle.turkish.proofs.Laws.Bounds.{stage-most, stage-yes, stage-no}
 use Rattle.turkish.proofs.Laws.Accepted.{accepted-iff}
-use Rattle.turkish.specs.Fronts.{mostRemoved, Pair, leftEmpty, oneOf}
-use Rattle.turkish.specs.FareAlike.{CallsAlike}
-use Rattle.turkish.proofs.Fronts.{calls-alike}
+use Rattle.turkish.specs.Fronts.{mostRemoved, front, Pair, reachesReserved, passGives, SameAnswers, leftEmpty, oneOf}
+use Rattle.turkish.proofs.Fronts.{pair-fares-alike}
 use Rattle.turkish.proofs.Nothing.{left-empty}
 use Rattle.turkish.proofs.Laws.Syllables.{moreThanOneSyllable-no}
 use Rattle.turkish.proofs.Sizes.{postludeText-size, passText-size, foldText-size, stagePart-front, kept-bytes}
@@ -51,8 +50,11 @@ outputs-suffice w a = (postludeText-size w a, passText-size w a, foldText-size w
 
 -- two accepted words of 16 characters or more that share their last 16, with fronts alike in their vowels, fare alike: equal answers,
 -- and texts that differ in the fronts alone, unless what reaches the postlude is `ad` or `soyad` for one of them
-pub fronts-fare-alike : (u v o p : List ℕ) → Pair u v → length u + 2 ≤ length o → length v + 2 ≤ length p → CallsAlike u v o p
-fronts-fare-alike = calls-alike
+pub fronts-fare-alike : (u v o p : List ℕ) → Pair u v → length u + 2 ≤ length o → length v + 2 ≤ length p
+    → SameAnswers (passGives u o) (passGives v p)
+    × (reachesReserved (chars u) ≡ false → reachesReserved (chars v) ≡ false
+    → (e : List ℕ) × (passGives u o .text ≡ front u ++ e) × (passGives v p .text ≡ front v ++ e))
+fronts-fare-alike = pair-fares-alike
 
 -- of an accepted word the suffix stage leaves nothing exactly when it is empty, siniz, sunuz, sınız or sünüz
 pub nothing-left : (w : List ℕ) → accepted w ≡ true → eqb (stageCall w .length) 0 ≡ oneOf leftEmpty w

@@ -1,10 +1,10 @@
 -- The terms of document 01, "Words of demand 3": a word's end and front, fronts that agree in their vowels, the text that reaches
--- the postlude, and the pass's result. Assumes nothing.
+-- the postlude, and the pass's result with its three further answers. Assumes nothing.
 use Prim.Native.Nat.{ℕ}
 use Prim.Native.String.{String}
 use mathlib.Core.Path.{_≡_}
 use mathlib.Core.Bool.{Bool, true, false, _&&_, _||_}
-use mathlib.Core.List.{List, [], _∷_, _++_, map}
+use mathlib.Core.List.{List, [], _∷_, map}
 use lib.ListN.{length, take, drop}
 use lib.Dec.{leb}
 use Rattle.utf8.specs.Encoding.{encodeAll}
@@ -14,6 +14,7 @@ use Rattle.turkish.specs.Letters.{text, has}
 use Rattle.turkish.specs.Harmony.{vowel, lastVowel, beforeLastVowel, moreThanOneSyllable}
 use Rattle.turkish.specs.Stage.{stage, kept}
 use Rattle.turkish.specs.Postlude.{reserved}
+use Rattle.turkish.specs.WordPass.{Passed}
 use Rattle.turkish.specs.Calls.{chars, accepted, passCall, passOut}
 
 -- the characters of a shared end
@@ -35,25 +36,33 @@ front w = take (back w (length w) endLength) w
 unfoldable pub end : List ℕ → List ℕ
 end w = drop (back w (length w) endLength) w
 
--- two fronts agree in their last vowel, or both have none, and in the set of the vowels before it
+-- two fronts, as characters, agree in their last vowel, or both have none, and in the set of the vowels before it
 pub record Alike (f g : List ℕ) : Type 0 where
-  pub last : lastVowel (chars f) ≡ lastVowel (chars g)
-  pub others : (v : ℕ) → vowel v ≡ true → has (beforeLastVowel (chars f)) v ≡ has (beforeLastVowel (chars g)) v
+  pub last : lastVowel f ≡ lastVowel g
+  pub others : (v : ℕ) → vowel v ≡ true → has (beforeLastVowel f) v ≡ has (beforeLastVowel g) v
 
 -- two words of demand 3: accepted, long, one end for both, fronts alike
 pub record Pair (u v : List ℕ) : Type 0 where
   pub accepts : (accepted u ≡ true) × (accepted v ≡ true)
   pub longs : (long u ≡ true) × (long v ≡ true)
   pub ends : end u ≡ end v
-  pub fronts : Alike (front u) (front v)
+  pub fronts : Alike (chars (front u)) (chars (front v))
 
--- the text that reaches the postlude is `ad` or `soyad`
+-- of a word's characters the text that reaches the postlude is `ad` or `soyad`
 unfoldable pub reachesReserved : List ℕ → Bool
-reachesReserved w = moreThanOneSyllable (chars w) && stage (chars w) .flag && reserved (kept (chars w))
+reachesReserved cs = moreThanOneSyllable cs && stage cs .flag && reserved (kept cs)
 
--- the pass's result: the output's bytes below the length that it gives
-unfoldable pub result : List ℕ → List ℕ → List ℕ
-result w out = take (passCall w (length out) .length) (passOut w out)
+-- what a call of the pass gives: its result, the output's bytes below the length that it gives, and the three further answers
+unfoldable pub passGives : List ℕ → List ℕ → Passed
+passGives w out =
+    let a = passCall w (length out) in
+    record { text = take (a .length) (passOut w out); syllable = a .syllable; yes = a .yes; flag = a .flag }
+
+-- the three further answers are equal
+pub record SameAnswers (p q : Passed) : Type 0 where
+  pub syllable : p .syllable ≡ q .syllable
+  pub yes : p .yes ≡ q .yes
+  pub flag : p .flag ≡ q .flag
 
 -- the words of which the stage leaves nothing
 unfoldable pub leftEmpty : List (List ℕ)

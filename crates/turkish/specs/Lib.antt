@@ -9,6 +9,5 @@ pub mod Postlude
 pub mod Tables
 pub mod WordPass
 pub mod Calls
--- the terms in which the theorems are stated
+-- the terms in which demand 3 is stated
 pub mod Fronts
-pub mod FareAlike
