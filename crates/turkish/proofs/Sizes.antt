@@ -4,16 +4,16 @@ use Prim.Native.Nat.{ℕ, zero, suc, _+_, _≤_}
 use Prim.Native.Char.{code}
 use mathlib.Core.Path.{_≡_, refl, sym, ap, _∙_}
 use mathlib.Core.Bool.{Bool, true, _&&_}
-use mathlib.Core.List.{List, [], _∷_, append-nil, reverse-cons}
+use mathlib.Core.List.{List, [], _∷_}
 use native.Mathlib.Omega.{arith}
 use lib.ListN.{length, take, drop, length-append, take-append-drop}
 use lib.Seq.{take-append-seam}
 use lib.Dec.{eqb, leb}
 use borrow.Author.Tests.{eqb-true, leb-true}
-use Rattle.utf8.specs.Encoding.{encode, encodeAll}
+use Rattle.utf8.specs.Encoding.{encode}
 use Rattle.utf8.proofs.Laws.Booleans.{and-left, and-right}
 use Rattle.utf8.proofs.Laws.Encoding.{encode-one}
-use Rattle.utf8.proofs.TextCharacters.{encodeAll-append, take-back}
+use Rattle.utf8.proofs.TextCharacters.{take-back}
 use Rattle.turkish.specs.Letters.{text, has, starts}
 use Rattle.turkish.specs.Harmony.{lastVowel, moreThanOneSyllable}
 use Rattle.turkish.specs.Stage.{stage, kept}
@@ -22,20 +22,20 @@ use Rattle.turkish.specs.WordPass.{foldChar, fold, Passed, passStage, pa
 use Rattle.turkish.specs.Calls.{chars, bytes, accepted, keptLength, stagePart, postludeText, foldText, passText}
 use Rattle.turkish.proofs.Laws.Tests.{cond-test, every}
 use Rattle.turkish.proofs.Laws.Accepted.{accepted-text, bytes-chars}
+use Rattle.turkish.proofs.Laws.Words.{bytes-cons}
 use Rattle.turkish.proofs.PostludeRules.{appends, postlude-one}
 
 -- ---- characters ----
 
 -- one more character takes its bytes more
-bytes-cons : (c : ℕ) (cs : List ℕ) → length (bytes (c ∷ cs)) ≡ length (bytes cs) + length (encode c)
-unfolding bytes encodeAll
-bytes-cons c cs = rw (reverse-cons, encodeAll-append, append-nil, length-append)
+length-bytes-cons : (c : ℕ) (cs : List ℕ) → length (bytes (c ∷ cs)) ≡ length (bytes cs) + length (encode c)
+length-bytes-cons c cs = rw (bytes-cons, length-append)
 
 -- some characters fewer take no more bytes
 bytes-drop : (n : ℕ) (cs : List ℕ) → length (bytes (drop n cs)) ≤ length (bytes cs)
 bytes-drop zero cs = omega arith
 bytes-drop (suc n) [] = omega arith
-bytes-drop (suc n) (c ∷ cs) = omega (arith, bytes-drop n cs, bytes-cons c cs)
+bytes-drop (suc n) (c ∷ cs) = omega (arith, bytes-drop n cs, length-bytes-cons c cs)
 
 -- a gained vowel takes two bytes at most
 gained-size : (v : ℕ) → length (encode (gained v)) ≤ 2
@@ -100,14 +100,14 @@ unfolding appendU appends
 appendU-size [] = omega arith
 appendU-size (c ∷ cs) =
     cond-test (TwoMore (c ∷ cs)) (appends (c ∷ cs))
-    (λ e. omega (arith, bytes-cons (gained (lastVowel cs)) (c ∷ cs), gained-size (lastVowel cs)))
+    (λ e. omega (arith, length-bytes-cons (gained (lastVowel cs)) (c ∷ cs), gained-size (lastVowel cs)))
     (omega arith)
 
 -- so does a hardened consonant
 harden-size : (cs : List ℕ) → TwoMore cs (harden cs)
 unfolding harden
 harden-size [] = omega arith
-harden-size (c ∷ cs) = omega (arith, bytes-cons c cs, bytes-cons (hard c) cs, hard-size c)
+harden-size (c ∷ cs) = omega (arith, length-bytes-cons c cs, length-bytes-cons (hard c) cs, hard-size c)
 
 -- so does the postlude
 postlude-size : (cs : List ℕ) → TwoMore cs (postlude cs)
@@ -128,7 +128,7 @@ pass-size cs =
 fold-size : (cs : List ℕ) → length (bytes (fold cs)) ≡ length (bytes cs)
 unfolding fold
 fold-size [] = refl
-fold-size (c ∷ cs) = omega (arith, bytes-cons c cs, bytes-cons (foldChar c) (fold cs), foldChar-size c, fold-size cs)
+fold-size (c ∷ cs) = omega (arith, length-bytes-cons c cs, length-bytes-cons (foldChar c) (fold cs), foldChar-size c, fold-size cs)
 
 -- ---- words ----
 

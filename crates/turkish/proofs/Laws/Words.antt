@@ -1,27 +1,30 @@
--- An accepted word as characters: it is a text, and its end and its front are those characters' two parts, encoded.
--- Assumes nothing.
+-- A text as characters: the bytes of characters told nearest first, and its end and its front, which are its characters' two parts
+-- encoded. Assumes nothing.
 use Prim.Native.Nat.{ℕ, _≤_}
-use mathlib.Core.Path.{_≡_, refl, sym, _∙_}
-use mathlib.Core.Bool.{Bool, true, false, cond, _&&_, false≢true}
-use mathlib.Core.List.{List, [], _++_, reverse, append-nil, reverse-append, reverse-reverse, append-cancel-left}
+use mathlib.Core.Path.{_≡_, sym, _∙_}
+use mathlib.Core.Bool.{true, _&&_}
+use mathlib.Core.List.{List, [], _∷_, _++_, reverse, append-nil, reverse-append, reverse-reverse, append-cancel-left}
 use native.Mathlib.Omega.{arith}
 use lib.ListN.{length, take, drop, take-append-drop, length-take}
-use lib.Dec.{ltb, eqb}
 use borrow.Author.Tests.{leb-true}
 use Rattle.utf8.specs.Scalar.{scalars}
+use Rattle.utf8.specs.Encoding.{encode, encodeAll}
 use Rattle.utf8.specs.Text.{TextOf}
-use Rattle.utf8.specs.Validity.{isText}
 use Rattle.utf8.specs.Characters.{back}
 use Rattle.utf8.proofs.Laws.Booleans.{and-left, and-right}
-use Rattle.utf8.proofs.CheckExact.{isText-encodes}
 use Rattle.utf8.proofs.TextCharacters.{encodeAll-append, scalars-append, before-text, encode-before, take-back}
-use Rattle.turkish.specs.Calls.{chars, bytes, limit, refusal, accepted}
+use Rattle.turkish.specs.Calls.{chars, bytes}
 use Rattle.turkish.specs.Fronts.{endLength, long, front, end}
 
 -- the bytes of two parts of a word told nearest first: the farther part comes first
 pub bytes-append : (e f : List ℕ) → bytes (e ++ f) ≡ bytes f ++ bytes e
 unfolding bytes
 bytes-append e f = rw (reverse-append, encodeAll-append)
+
+-- so of characters told nearest first, the first one's bytes come last
+pub bytes-cons : (c : ℕ) (cs : List ℕ) → bytes (c ∷ cs) ≡ bytes cs ++ encode c
+unfolding bytes encodeAll
+bytes-cons c cs = rw append-nil at (bytes-append (c ∷ []) cs)
 
 -- scalar values encoded have themselves for characters
 chars-bytes : (cs : List ℕ) → scalars (reverse cs) ≡ true → chars (bytes cs) ≡ cs
@@ -40,11 +43,6 @@ scalars-parts e f h =
     (and-right (scalars (reverse f)) (scalars (reverse e)) p, and-left (scalars (reverse f)) (scalars (reverse e)) p)
 
 module _ (w : List ℕ) (t : TextOf w) where
-  -- the bytes of a text's characters are its own
-  bytes-chars : bytes (chars w) ≡ w
-  unfolding bytes chars
-  bytes-chars = encode-before w t
-
   -- the front is the encoding of all but the last 16 characters
   front-encoded : front w ≡ bytes (drop endLength (chars w))
   unfolding front chars bytes
@@ -52,9 +50,9 @@ module _ (w : List ℕ) (t : TextOf w) where
 
   -- and the end the encoding of those
   end-encoded : end w ≡ bytes (take endLength (chars w))
-  unfolding front end
+  unfolding front end bytes chars
   end-encoded =
-      let s : front w ++ bytes (take endLength (chars w)) ≡ w = rw (front-encoded, ← bytes-append, take-append-drop) bytes-chars in
+      let s : front w ++ bytes (take endLength (chars w)) ≡ w = rw (front-encoded, ← bytes-append, take-append-drop) (encode-before w t) in
       append-cancel-left (front w) (end w) (bytes (take endLength (chars w))) (take-append-drop (back w (length w) endLength) w ∙ sym s)
 
   -- all these characters are scalar values
