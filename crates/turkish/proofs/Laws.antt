@@ -2,6 +2,7 @@
 pub mod Tests
 pub mod Outcome
 pub mod Bounds
+pub mod Flag
 pub mod Accepted
 pub mod Vowels
 pub mod Syllables

@@ -32,7 +32,7 @@ unfolding run branch5 try leaves spares every unharmonic harmony any partner has
 branch5-leaves cs h =
     post-then
     (post-first (mark-leaves sUnUz cs 1 (omega arith) (λ t o. absurd (false≢true (sym h ∙ o)))) (run-leaves (mark yUz or mark sUn or mark yUm) 0 cs (omega arith)))
-    λ k p. post-map (λ j q. omega (arith, length-drop k cs)) (run-leaves (try (mark ymUs)) 1 (drop k cs) (omega (arith, length-drop k cs)))
+    λ k f p. post-map (λ j f q. omega (arith, length-drop k cs)) (run-leaves (try (mark ymUs)) 1 (drop k cs) (omega (arith, length-drop k cs)))
 
 -- and so does the stage, as the other branches leave one of every text
 branches-leaves : (cs : List ℕ) → oneOf (sUnUz .keys) cs ≡ false → Post (λ k. k + 1 ≤ length cs) (run branches cs)

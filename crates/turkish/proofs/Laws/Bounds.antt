@@ -66,11 +66,11 @@ among-between [] cs = unfit
 among-between (k ∷ ks) cs =
     cond-test (Post _) (starts k cs)
     (λ e. fits (length k) (omega (arith, starts-length k cs e)))
-    (post-map (λ j h. omega arith) (among-between ks cs))
+    (post-map (λ j f h. omega arith) (among-between ks cs))
 
 -- no more than its longest
 pub among-most : (ks : List (List ℕ)) (cs : List ℕ) → Post (λ k. k ≤ longest ks) (among ks cs)
-among-most ks cs = post-map (λ k h. h .1) (among-between ks cs)
+among-most ks cs = post-map (λ k f h. h .1) (among-between ks cs)
 
 -- a test counts at most one
 one-at-most : (t : Bool) → cond t 1 0 ≤ 1
@@ -93,20 +93,20 @@ joins-between false cs = fits 0 (omega arith)
 run-between : (p : Command) (cs : List ℕ) → Post (Between (least p) (most p) (length cs)) (run p cs)
 unfolding run markOf least most
 run-between (mark m) cs =
-    post-asking (not (m .harmonic) || harmony cs)
-    (post-then (among-between (m .keys) cs) (λ k h. post-map (λ j i. omega (arith, length-drop k cs)) (joins-between (m .joins) (drop k cs))))
-run-between (p then q) cs = post-then (run-between p cs) (λ k h. post-map (λ j i. omega (arith, length-drop k cs)) (run-between q (drop k cs)))
-run-between (p or q) cs = post-first (post-map (λ k h. omega arith) (run-between p cs)) (post-map (λ k h. omega arith) (run-between q cs))
+    post-asking (not (m .harmonic) || harmony cs) λ t.
+    (post-then (among-between (m .keys) cs) (λ k f h. post-map (λ j f i. omega (arith, length-drop k cs)) (joins-between (m .joins) (drop k cs))))
+run-between (p then q) cs = post-then (run-between p cs) (λ k f h. post-map (λ j f i. omega (arith, length-drop k cs)) (run-between q (drop k cs)))
+run-between (p or q) cs = post-first (post-map (λ k f h. omega arith) (run-between p cs)) (post-map (λ k f h. omega arith) (run-between q cs))
 run-between nothing cs = fits 0 (omega arith)
 run-between unset cs = fits 0 (omega arith)
 
 -- a command takes at most what is computed for it
 pub run-most : (p : Command) (cs : List ℕ) → Post (λ k. k ≤ most p) (run p cs)
-run-most p cs = post-map (λ k h. h .1) (run-between p cs)
+run-most p cs = post-map (λ k f h. h .1) (run-between p cs)
 
 -- never more than there is
 pub run-within : (p : Command) (cs : List ℕ) → Post (λ k. k ≤ length cs) (run p cs)
-run-within p cs = post-map (λ k h. h .2) (run-between p cs)
+run-within p cs = post-map (λ k f h. h .2) (run-between p cs)
 
 -- ---- the stage ----
 

@@ -14,7 +14,7 @@ use Rattle.turkish.specs.Letters.{starts}
 use Rattle.turkish.specs.Harmony.{vowel, harmony}
 use Rattle.turkish.specs.Grammar.{took, among, optionalY, Mark, markOf, Command, mark, _then_, _or_, nothing, unset, run}
 use Rattle.turkish.specs.Fronts.{oneOf}
-use Rattle.turkish.proofs.Laws.Outcome.{Post, unfit, fits, post-map, post-first, post-cond, post-asked, post-then}
+use Rattle.turkish.proofs.Laws.Outcome.{Post, unfit, fits, post-map, post-first, post-cond, post-asking, post-then}
 use Rattle.turkish.proofs.Laws.Tests.{every}
 use Rattle.turkish.proofs.Laws.Same.{oneOf-every}
 
@@ -54,11 +54,11 @@ pub mark-leaves : (m : Mark) (cs : List ℕ) (n : ℕ) → n ≤ 1 → (not (m .
     → Post (λ k. k + cond (m .joins) 1 n ≤ length cs) (markOf m cs)
 unfolding markOf
 mark-leaves m cs n b h =
-    post-asked (not (m .harmonic) || harmony cs) (λ t. post-then (among-leaves (m .keys) cs n b (h t)) (go (m .joins)))
+    post-asking (not (m .harmonic) || harmony cs) (λ t. post-then (among-leaves (m .keys) cs n b (h t)) (go (m .joins)))
   where
-    go : (t : Bool) (k : ℕ) → k + n ≤ length cs → Post (λ j. k + j + cond t 1 n ≤ length cs) (cond t (optionalY 0x79 (drop k cs)) (took 0 true))
-    go true k p = post-map (λ j q. omega (arith, length-drop k cs)) (optionalY-leaves 0x79 (drop k cs))
-    go false k p = fits 0 (omega arith)
+    go : (t : Bool) (k : ℕ) (f : Bool) → k + n ≤ length cs → Post (λ j. k + j + cond t 1 n ≤ length cs) (cond t (optionalY 0x79 (drop k cs)) (took 0 true))
+    go true k f p = post-map (λ j f q. omega (arith, length-drop k cs)) (optionalY-leaves 0x79 (drop k cs))
+    go false k f p = fits 0 (omega arith)
 
 -- ---- any command on any text ----
 
@@ -95,8 +95,8 @@ pub run-leaves : (p : Command) (n : ℕ) (cs : List ℕ) → n ≤ length cs →
 unfolding run leaves
 run-leaves (mark m) n cs h = mark-spares m cs
 run-leaves (p then q) n cs h =
-    post-then (run-leaves p n cs h) λ k r.
-    post-map (λ j s. omega (arith, length-drop k cs)) (run-leaves q (leaves p n) (drop k cs) (omega (arith, length-drop k cs)))
-run-leaves (p or q) n cs h = post-first (post-map (λ k r. omega arith) (run-leaves p n cs h)) (post-map (λ k r. omega arith) (run-leaves q n cs h))
+    post-then (run-leaves p n cs h) λ k f r.
+    post-map (λ j f s. omega (arith, length-drop k cs)) (run-leaves q (leaves p n) (drop k cs) (omega (arith, length-drop k cs)))
+run-leaves (p or q) n cs h = post-first (post-map (λ k f r. omega arith) (run-leaves p n cs h)) (post-map (λ k f r. omega arith) (run-leaves q n cs h))
 run-leaves nothing n cs h = fits 0 (omega arith)
 run-leaves unset n cs h = fits 0 (omega arith)

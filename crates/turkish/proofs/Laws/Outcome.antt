@@ -2,61 +2,53 @@
 -- Assumes nothing.
 use Prim.Native.Nat.{ℕ, _+_}
 use mathlib.Core.Path.{_≡_, refl}
-use mathlib.Core.Bool.{Bool, true, false, cond, not, _&&_, _||_}
-use mathlib.Core.List.{List, [], _∷_}
-use native.Mathlib.Omega.{arith}
-use lib.ListN.{length, drop}
-use Rattle.turkish.specs.Letters.{starts}
-use Rattle.turkish.specs.Harmony.{harmony}
-use Rattle.turkish.specs.Grammar.{Out, fail, took, more, after, first, asking, among, optionalY, Mark, markOf, Command, mark, _then_, _or_, nothing, unset, run}
+use mathlib.Core.Bool.{Bool, true, false, cond, _&&_}
+use Rattle.turkish.specs.Grammar.{Out, fail, took, more, after, first, asking}
 
--- an answer that fails, or takes a number of characters of which P holds
-pub data Post (P : ℕ → Type 0) : Out → Type 0 where
-  unfit : Post P fail
-  fits : (k : ℕ) {f : Bool} → P k → Post P (took k f)
+-- an answer that fails, or of whose number of characters and flag P holds
+pub data Gives (P : ℕ → Bool → Type 0) : Out → Type 0 where
+  unfit : Gives P fail
+  fits : (k : ℕ) {f : Bool} → P k f → Gives P (took k f)
 
--- what P says of the number taken, Q says too
-pub post-map : {P Q : ℕ → Type 0} {o : Out} → ((k : ℕ) → P k → Q k) → Post P o → Post Q o
-post-map f unfit = unfit
-post-map f (fits k p) = fits k (f k p)
+-- one of whose number P holds
+abbrev pub Post : (ℕ → Type 0) → Out → Type 0
+Post P = Gives (λ k f. P k)
+
+-- one that leaves the flag at f
+abbrev pub Flagged : Bool → Out → Type 0
+Flagged f = Gives (λ k g. g ≡ f)
+
+-- what P says of the answer, Q says too
+pub post-map : {P Q : ℕ → Bool → Type 0} {o : Out} → ((k : ℕ) (f : Bool) → P k f → Q k f) → Gives P o → Gives Q o
+post-map h unfit = unfit
+post-map h (fits k {f} p) = fits k (h k f p)
 
 -- the first of two answers
-pub post-first : {P : ℕ → Type 0} {o q : Out} → Post P o → Post P q → Post P (first o q)
+pub post-first : {P : ℕ → Bool → Type 0} {o q : Out} → Gives P o → Gives P q → Gives P (first o q)
 unfolding first
 post-first unfit y = y
 post-first (fits k p) y = fits k p
 
--- an answer behind a test
-pub post-asking : {P : ℕ → Type 0} (t : Bool) {o : Out} → Post P o → Post P (asking t o)
+-- an answer behind a test, which may be taken to pass
+pub post-asking : {P : ℕ → Bool → Type 0} (t : Bool) {o : Out} → (t ≡ true → Gives P o) → Gives P (asking t o)
 unfolding asking
-post-asking true y = y
-post-asking false y = unfit
+post-asking true h = h refl
+post-asking false h = unfit
 
 -- one of two answers
-pub post-cond : {P : ℕ → Type 0} (t : Bool) {o q : Out} → Post P o → Post P q → Post P (cond t o q)
+pub post-cond : {P : ℕ → Bool → Type 0} (t : Bool) {o q : Out} → Gives P o → Gives P q → Gives P (cond t o q)
 post-cond true x y = x
 post-cond false x y = y
 
--- one answer after another: the numbers add up
-pub post-more : {P Q : ℕ → Type 0} (k : ℕ) (f : Bool) {o : Out} → ((j : ℕ) → P j → Q (k + j)) → Post P o → Post Q (more k f o)
+-- one answer after another: the numbers add up, and the flag is down where either took it down
+pub post-more : {P Q : ℕ → Bool → Type 0} (k : ℕ) (f : Bool) {o : Out} → ((j : ℕ) (g : Bool) → P j g → Q (k + j) (f && g)) → Gives P o → Gives Q (more k f o)
 unfolding more
-post-more k f g unfit = unfit
-post-more k f g (fits j p) = fits (k + j) (g j p)
+post-more k f h unfit = unfit
+post-more k f h (fits j {f = g} p) = fits (k + j) (h j g p)
 
-pub post-after : {P Q R : ℕ → Type 0} {o : Out} {q : ℕ → Out}
-    → ((k j : ℕ) → P k → Q j → R (k + j)) → Post P o → ((k : ℕ) → P k → Post Q (q k)) → Post R (after o q)
-unfolding after
-post-after g unfit h = unfit
-post-after g (fits k {f} p) h = post-more k f (λ j. g k j p) (h k p)
-
--- an answer behind a test, which may be taken to pass
-pub post-asked : {P : ℕ → Type 0} (t : Bool) {o : Out} → (t ≡ true → Post P o) → Post P (asking t o)
-unfolding asking
-post-asked true h = h refl
-post-asked false h = unfit
-
--- one answer after another, where the first one's number has a say in what holds of the second's
-pub post-then : {P R : ℕ → Type 0} {o : Out} {q : ℕ → Out} → Post P o → ((k : ℕ) → P k → Post (λ j. R (k + j)) (q k)) → Post R (after o q)
+-- where the first one's number and flag have a say in what holds of the second's
+pub post-then : {P R : ℕ → Bool → Type 0} {o : Out} {q : ℕ → Out}
+    → Gives P o → ((k : ℕ) (f : Bool) → P k f → Gives (λ j g. R (k + j) (f && g)) (q k)) → Gives R (after o q)
 unfolding after
 post-then unfit h = unfit
-post-then {R} (fits k {f} p) h = post-more {Q = R} k f (λ j r. r) (h k p)
+post-then {R} (fits k {f} p) h = post-more {Q = R} k f (λ j g r. r) (h k f p)

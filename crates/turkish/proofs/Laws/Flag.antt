@@ -1,0 +1,90 @@
+-- What a command leaves the flag at: true where no `unset` stands in it, and false behind one. The code's proofs cite it of the six
+-- branches. Assumes nothing.
+use Prim.Native.Nat.{ℕ}
+use mathlib.Core.Path.{_≡_, refl}
+use mathlib.Core.Bool.{Bool, true, false, cond, not, _&&_, _||_, false≢true}
+use mathlib.Core.List.{List, [], _∷_}
+use lib.ListN.{length, drop}
+use lib.Dec.{eqb}
+use Rattle.utf8.proofs.Laws.Booleans.{and-left, and-right, and-false}
+use Rattle.turkish.specs.Letters.{starts}
+use Rattle.turkish.specs.Harmony.{vowel, harmony}
+use Rattle.turkish.specs.Grammar.{Out, fail, took, after, among, optionalY, markOf, Command, mark, _then_, _or_, nothing, unset, try, run}
+use Rattle.turkish.specs.Stage.{person, branch1, branch2, branch3, branch4, branch5, branch6}
+use Rattle.turkish.proofs.Laws.Outcome.{Flagged, unfit, fits, post-map, post-first, post-asking, post-cond, post-more, post-then}
+
+-- ---- a flag left true ----
+
+-- by one answer after another, where both leave it
+flagged-after : {o : Out} {q : ℕ → Out} → Flagged true o → ((k : ℕ) → Flagged true (q k)) → Flagged true (after o q)
+flagged-after x y = post-then x (λ k f e. post-map (λ j g h. rw e h) (y k))
+
+-- by a key
+flagged-among : (ks : List (List ℕ)) (cs : List ℕ) → Flagged true (among ks cs)
+unfolding among
+flagged-among [] cs = unfit
+flagged-among (k ∷ ks) cs = post-cond (starts k cs) (fits (length k) refl) (flagged-among ks cs)
+
+-- by an optional y
+flagged-optionalY : (y : ℕ) (cs : List ℕ) → Flagged true (optionalY y cs)
+unfolding optionalY
+flagged-optionalY y [] = unfit
+flagged-optionalY y (c ∷ []) = unfit
+flagged-optionalY y (c ∷ v ∷ cs) = post-cond (vowel v) (fits (cond (eqb c y) 1 0) refl) unfit
+
+-- a command without `unset`
+keeps : Command → Bool
+keeps (mark m) = true
+keeps (p then q) = keeps p && keeps q
+keeps (p or q) = keeps p && keeps q
+keeps nothing = true
+keeps unset = false
+
+-- leaves the flag true
+keeps-flag : (p : Command) (cs : List ℕ) → keeps p ≡ true → Flagged true (run p cs)
+unfolding keeps run markOf
+keeps-flag (mark m) cs e =
+    post-asking (not (m .harmonic) || harmony cs) λ t.
+    flagged-after (flagged-among (m .keys) cs) (λ k. post-cond (m .joins) (flagged-optionalY 0x79 (drop k cs)) (fits 0 refl))
+keeps-flag (p then q) cs e =
+    flagged-after (keeps-flag p cs (and-left (keeps p) (keeps q) e)) (λ k. keeps-flag q (drop k cs) (and-right (keeps p) (keeps q) e))
+keeps-flag (p or q) cs e =
+    post-first (keeps-flag p cs (and-left (keeps p) (keeps q) e)) (keeps-flag q cs (and-right (keeps p) (keeps q) e))
+keeps-flag nothing cs e = fits 0 refl
+keeps-flag unset cs e = absurd (false≢true e)
+
+-- ---- a flag taken down ----
+
+-- by one answer after another, where the second takes it down
+lowered-after : (o : Out) {q : ℕ → Out} → ((k : ℕ) → Flagged false (q k)) → Flagged false (after o q)
+unfolding after
+lowered-after fail y = unfit
+lowered-after (took k f) y = post-more k f (λ j g h. rw h (and-false f)) (y k)
+
+-- ---- the branches ----
+
+-- the third takes the flag down
+pub branch3-lowers : (cs : List ℕ) → Flagged false (run branch3 cs)
+unfolding run branch3
+branch3-lowers cs = lowered-after _ (λ k. lowered-after _ (λ j. fits 0 refl))
+
+-- the others leave it true
+pub branch1-keeps : (cs : List ℕ) → Flagged true (run branch1 cs)
+unfolding keeps branch1
+branch1-keeps cs = keeps-flag branch1 cs refl
+
+pub branch2-keeps : (cs : List ℕ) → Flagged true (run branch2 cs)
+unfolding keeps branch2 person
+branch2-keeps cs = keeps-flag branch2 cs refl
+
+pub branch4-keeps : (cs : List ℕ) → Flagged true (run branch4 cs)
+unfolding keeps branch4
+branch4-keeps cs = keeps-flag branch4 cs refl
+
+pub branch5-keeps : (cs : List ℕ) → Flagged true (run branch5 cs)
+unfolding keeps branch5 try
+branch5-keeps cs = keeps-flag branch5 cs refl
+
+pub branch6-keeps : (cs : List ℕ) → Flagged true (run branch6 cs)
+unfolding keeps branch6 try person
+branch6-keeps cs = keeps-flag branch6 cs refl
