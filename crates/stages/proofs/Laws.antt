@@ -11,7 +11,6 @@ pub mod LiteralWhole
 pub mod Over
 pub mod Marks
 pub mod Reach
-pub mod Flag
 pub mod StageAnswer
 pub mod Hardened
 pub mod Repairs

@@ -1,7 +1,7 @@
 -- What the stage answers: where a branch fits and those before it fail, the place that the branch reaches; where all fail, the
 -- word's end. Assumes nothing.
 use Prim.Native.Nat.{ℕ, _+_}
-use mathlib.Core.Path.{_≡_, refl, sym, ap, _∙_}
+use mathlib.Core.Path.{_≡_, refl, sym, ap, ap₂, _∙_}
 use mathlib.Core.Bool.{Bool, true, false}
 use mathlib.Core.List.{List}
 use native.Mathlib.Omega.{arith}
@@ -16,15 +16,15 @@ use Rattle.stages.specs.declared.mark.Marked.the-variants.{To, Fails}
 use Rattle.stages.specs.declared.stem.Stem.{Stem}
 use Rattle.stages.specs.Tail.{Tail}
 use Rattle.stages.specs.Reach.{reach, stemOf}
+use Rattle.turkish.proofs.Laws.Outcome.{Flagged, unfit, fits}
 use Rattle.turkish.proofs.Laws.Bounds.{stage-most}
-use Rattle.stages.proofs.Laws.Flag.{Flagged, unfit, leaves}
 use Rattle.stages.proofs.Laws.Reach.{to-fails}
 
 -- an answer that reaches so far took so much
 pub took-is : {f : Bool} {o : Out} {r : Marked} {k : ℕ} → Flagged f o → r ≡ reach 0 o → r ≡ To k → o ≡ took k f
 unfolding reach
 took-is unfit is to = to-fails to is
-took-is {f} {k = k} (leaves j) is to = let place : k ≡ 0 + j = cc in let same : j ≡ k = omega arith in ap (λ (n : ℕ). took n f) same
+took-is {k = k} (fits j e) is to = let place : k ≡ 0 + j = cc in let same : j ≡ k = omega arith in ap₂ took same e
 
 -- the first of two, where it reaches
 pub first-took : {f : Bool} (o q : Out) {r : Marked} {k : ℕ} → Flagged f o → r ≡ reach 0 o → r ≡ To k → first o q ≡ took k f

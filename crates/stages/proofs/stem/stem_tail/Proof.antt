@@ -6,7 +6,7 @@ use borrow.Author.Needs.{needs}
 use Rattle.turkish.specs.Grammar.{run}
 use Rattle.turkish.specs.Stage.{branch1, branch2, branch3, branch4, branch5, branch6, branches}
 use Rattle.stages.proofs.Laws.Reach.{reach-most, most-branches}
-use Rattle.stages.proofs.Laws.Flag.{branch1-keeps, branch2-keeps, branch3-lowers, branch4-keeps, branch5-keeps, branch6-keeps}
+use Rattle.turkish.proofs.Laws.Flag.{branch1-keeps, branch2-keeps, branch3-lowers, branch4-keeps, branch5-keeps, branch6-keeps}
 use Rattle.stages.proofs.Laws.StageAnswer.{took-is, first-took, fail-is, first-failed, stemOf-took, stemOf-fail}
 use Rattle.stages.proofs.stem.stem_tail.Statement.{statement}
 use Rattle.stages.proofs.stem.stem_tail.Tie as tie
