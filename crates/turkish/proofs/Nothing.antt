@@ -4,6 +4,7 @@ use Prim.Native.Nat.{ℕ, zero, suc, _+_, _≤_}
 use mathlib.Core.Path.{_≡_, refl, sym, ap, _∙_}
 use mathlib.Core.Bool.{Bool, true, false, false≢true}
 use mathlib.Core.List.{List, [], _∷_}
+use mathlib.Mathlib.Data.Bool.Basic.{partialOrderLaws}
 use native.Mathlib.Omega.{arith}
 use lib.ListN.{length, drop, length-drop}
 use lib.Seq.{drop-cons}
@@ -22,7 +23,7 @@ use Rattle.turkish.specs.Calls.{chars, bytes, accepted, keptLength}
 use Rattle.turkish.specs.Fronts.{leftEmpty, oneOf}
 use Rattle.turkish.proofs.Laws.Outcome.{Post, unfit, fits, post-map, post-first, post-then}
 use Rattle.turkish.proofs.Laws.Accepted.{bytes-chars}
-use Rattle.turkish.proofs.Laws.Same.{oneOf-every, tests-equal}
+use Rattle.turkish.proofs.Laws.Same.{oneOf-every}
 use Rattle.turkish.proofs.Laws.Tests.{every}
 use Rattle.turkish.proofs.Laws.Leaves.{mark-leaves, unharmonic, spares, leaves, run-leaves}
 
@@ -91,7 +92,7 @@ chars-words = refl
 -- an accepted word is one of the five exactly where its characters are nothing or a key of sUnUz
 words-keys : (w : List ℕ) → accepted w ≡ true → oneOf ([] ∷ sUnUz .keys) (chars w) ≡ oneOf leftEmpty w
 words-keys w a =
-    tests-equal (oneOf ([] ∷ sUnUz .keys) (chars w)) (oneOf leftEmpty w)
+    partialOrderLaws .le-antisymm (oneOf ([] ∷ sUnUz .keys) (chars w)) (oneOf leftEmpty w)
     (λ o. rw (bytes-chars w a) at (oneOf-every (λ cs. oneOf leftEmpty (bytes cs)) ([] ∷ sUnUz .keys) (chars w) bytes-keys o))
     (oneOf-every (λ x. oneOf ([] ∷ sUnUz .keys) (chars x)) leftEmpty w chars-words)
 

@@ -1,36 +1,34 @@
 -- The postlude's three rules never act together: a reserved word stays, a word that gains a vowel is not hardened.
 -- Assumes nothing.
 use Prim.Native.Nat.{ℕ}
+use Prim.Native.Char.{code}
 use mathlib.Core.Path.{_≡_, refl, ap}
 use mathlib.Core.Bool.{Bool, true, false, cond, not, _&&_}
 use mathlib.Core.List.{List, [], _∷_}
 use lib.Dec.{eqb}
+use Rattle.utf8.proofs.Laws.Booleans.{cond-both}
 use Rattle.turkish.specs.Letters.{text, fromEnd, has, starts}
 use Rattle.turkish.specs.Harmony.{lastVowel}
 use Rattle.turkish.specs.Postlude.{reserved, gained, appendU, hardenings, hardIn, hard, harden, postlude}
-use Rattle.turkish.proofs.Laws.Tests.{cond-test}
 
 -- appendU's test: a final d or g, with some vowel before it
 unfoldable pub appends : List ℕ → Bool
 appends [] = false
 appends (c ∷ cs) = has (text "dg") c && not (eqb (gained (lastVowel cs)) 0)
 
--- a reserved word stays
-pub reserved-stays : (cs : List ℕ) → reserved cs ≡ true → postlude cs ≡ cs
-unfolding postlude
-reserved-stays cs e = rw e
+-- what holds of ı, i, u, ü and of none holds of the vowel gained
+pub gained-elim : (P : ℕ → Type 0) (v : ℕ) → P (code "ı") → P (code "i") → P (code "u") → P (code "ü") → P 0 → P (gained v)
+unfolding gained
+gained-elim P v p q r s z =
+    cond-both P (has (text "aı") v) _ _ p
+    (cond-both P (has (text "ei") v) _ _ q
+    (cond-both P (has (text "ou") v) _ _ r
+    (cond-both P (has (text "öü") v) _ _ s z)))
 
 -- a gained vowel does not harden
 pub hard-gained : (v : ℕ) → hard (gained v) ≡ gained v
-unfolding hard hardIn hardenings starts fromEnd text gained
-hard-gained v =
-    cond-test P (has (text "aı") v) (λ e. refl)
-    (cond-test P (has (text "ei") v) (λ e. refl)
-    (cond-test P (has (text "ou") v) (λ e. refl)
-    (cond-test P (has (text "öü") v) (λ e. refl) refl)))
-  where
-    P : ℕ → Type 0
-    P c = hard c ≡ c
+unfolding hard hardIn hardenings starts fromEnd text
+hard-gained v = gained-elim (λ c. hard c ≡ c) v refl refl refl refl refl
 
 -- a word that gains a vowel is not hardened, and any other is handed on as it is
 pub append-or-harden : (cs : List ℕ) → (appends cs ≡ true → harden (appendU cs) ≡ appendU cs) × (appends cs ≡ false → appendU cs ≡ cs)

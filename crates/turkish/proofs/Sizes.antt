@@ -14,7 +14,7 @@ use Rattle.utf8.specs.Encoding.{encode}
 use Rattle.utf8.proofs.Laws.Booleans.{and-left, and-right}
 use Rattle.utf8.proofs.Laws.Encoding.{encode-one}
 use Rattle.utf8.proofs.TextCharacters.{take-back}
-use Rattle.turkish.specs.Letters.{text, has, starts}
+use Rattle.turkish.specs.Letters.{text, starts}
 use Rattle.turkish.specs.Harmony.{lastVowel, moreThanOneSyllable}
 use Rattle.turkish.specs.Stage.{stage, kept}
 use Rattle.turkish.specs.Postlude.{reserved, gained, appendU, Hardening, hardenings, hardIn, hard, harden, postlude}
@@ -23,7 +23,7 @@ use Rattle.turkish.specs.Calls.{chars, bytes, accepted, keptLength, stag
 use Rattle.turkish.proofs.Laws.Tests.{cond-test, every}
 use Rattle.turkish.proofs.Laws.Accepted.{accepted-text, bytes-chars}
 use Rattle.turkish.proofs.Laws.Words.{bytes-cons}
-use Rattle.turkish.proofs.PostludeRules.{appends, postlude-one}
+use Rattle.turkish.proofs.PostludeRules.{gained-elim, appends, postlude-one}
 
 -- ---- characters ----
 
@@ -39,15 +39,8 @@ bytes-drop (suc n) (c ∷ cs) = omega (arith, bytes-drop n cs, length-bytes-cons
 
 -- a gained vowel takes two bytes at most
 gained-size : (v : ℕ) → length (encode (gained v)) ≤ 2
-unfolding gained encode
-gained-size v =
-    cond-test P (has (text "aı") v) (λ e. omega arith)
-    (cond-test P (has (text "ei") v) (λ e. omega arith)
-    (cond-test P (has (text "ou") v) (λ e. omega arith)
-    (cond-test P (has (text "öü") v) (λ e. omega arith) (omega arith))))
-  where
-    P : ℕ → Type 0
-    P c = length (encode c) ≤ 2
+unfolding encode
+gained-size v = gained-elim (λ c. length (encode c) ≤ 2) v (omega arith) (omega arith) (omega arith) (omega arith) (omega arith)
 
 -- what a key of A_23 becomes takes two bytes at most
 becomesTwo : Hardening → Bool

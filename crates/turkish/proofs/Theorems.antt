@@ -16,7 +16,7 @@ use Rattle.turkish.specs.Stage.{stage, kept}
 use Rattle.turkish.specs.Postlude.{reserved, appendU, harden, postlude}
 use Rattle.turkish.specs.Tables.{Table, tables, letters}
 use Rattle.turkish.specs.Calls.{chars, bytes, limit, accepted, keptLength, stagePart, stageCall, postludeText, postludeRefusal, postludeOut, foldText, foldRefusal, foldOut, passText, passRefusal, passOut}
-use Rattle.turkish.proofs.Laws.Bounds.{stage-most, stage-yes, stage-no}
+use Rattle.turkish.proofs.Laws.Bounds.{stage-most, stage-within, stage-yes, stage-no}
 use Rattle.turkish.proofs.Laws.Accepted.{accepted-iff}
 use Rattle.turkish.specs.Fronts.{mostRemoved, front, Pair, reachesReserved, passGives, SameAnswers, leftEmpty, oneOf}
 use Rattle.turkish.proofs.Fronts.{pair-fares-alike}
@@ -76,6 +76,10 @@ misreadings-told = Starred.outcomes .1
 -- it removes at most 15 characters
 pub removes-at-most-15 : (w : List ℕ) → stage (chars w) .removed ≤ mostRemoved
 removes-at-most-15 w = stage-most (chars w)
+
+-- and never more than there are
+pub removes-what-is-there : (cs : List ℕ) → stage cs .removed ≤ length cs
+removes-what-is-there = stage-within
 
 -- what it hands back is a front part of the word's bytes, and of an accepted word it is the characters kept
 pub keeps-a-front : (w : List ℕ) → (stagePart w ≡ take (length (stagePart w)) w) × (accepted w ≡ true → take (keptLength w) w ≡ bytes (kept (chars w)))

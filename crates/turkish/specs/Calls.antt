@@ -1,7 +1,7 @@
 -- What each call gives for a word of bytes, refused calls included, and what its lent output holds after it (document 01, "Whose
 -- fault a refusal is" and "Syllable check, postlude, folding, word pass"). The contracts cite these. Assumes nothing.
 use Prim.Native.Nat.{ℕ, _+_}
-use mathlib.Core.Bool.{Bool, true, false, cond}
+use mathlib.Core.Bool.{Bool, false, cond}
 use mathlib.Core.List.{List, [], _++_, reverse}
 use lib.ListN.{length, take, drop}
 use lib.Dec.{ltb, eqb}

@@ -1,6 +1,5 @@
 -- The twelve marks of the suffix stage (document 01, "Marks"; turkish.sbl, lines 246 to 308, by the routine's name). The keys
 -- stand as in the Rust's tables, A_12 to A_22, in the Rust's order. Assumes nothing.
-use Prim.Native.Nat.{ℕ}
 use Prim.Native.String.{String}
 use mathlib.Core.Bool.{Bool, true, false}
 use mathlib.Core.List.{List, [], _∷_, map}

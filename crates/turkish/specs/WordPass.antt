@@ -5,7 +5,7 @@ use mathlib.Core.Bool.{Bool, true, false, cond, _&&_}
 use mathlib.Core.List.{List, map}
 use lib.Dec.{eqb, leb}
 use Rattle.turkish.specs.Harmony.{moreThanOneSyllable}
-use Rattle.turkish.specs.Stage.{Staged, stage, kept}
+use Rattle.turkish.specs.Stage.{stage, kept}
 use Rattle.turkish.specs.Postlude.{postlude}
 
 -- one character folded: A to Z, and Ç Ğ Ö Ş Ü; every other one stays

@@ -10,7 +10,7 @@ use lib.Dec.{eqb}
 use Rattle.utf8.proofs.Laws.Booleans.{and-right}
 use Rattle.turkish.specs.Letters.{text, fromEnd, starts}
 use Rattle.turkish.specs.Harmony.{vowel, harmony}
-use Rattle.turkish.specs.Grammar.{Out, fail, took, after, among, optionalY, markOf, Command, mark, _then_, _or_, nothing, unset, try, run}
+use Rattle.turkish.specs.Grammar.{Out, fail, took, among, optionalY, markOf, Command, mark, _then_, _or_, nothing, unset, try, run}
 use Rattle.turkish.specs.Marks.{marked, yUm, sUn, yUz, sUnUz, lAr, nUz, DUr, cAsInA, yDU, ysA, ymUs, yken}
 use Rattle.turkish.specs.Stage.{person, branch1, branch2, branch3, branch4, branch5, branch6, branches, staged, stage}
 use Rattle.turkish.specs.Fronts.{mostRemoved}
@@ -103,10 +103,6 @@ run-between unset cs = fits 0 (omega arith)
 -- a command takes at most what is computed for it
 pub run-most : (p : Command) (cs : List ℕ) → Post (λ k. k ≤ most p) (run p cs)
 run-most p cs = post-map (λ k f h. h .1) (run-between p cs)
-
--- never more than there is
-pub run-within : (p : Command) (cs : List ℕ) → Post (λ k. k ≤ length cs) (run p cs)
-run-within p cs = post-map (λ k f h. h .2) (run-between p cs)
 
 -- ---- the stage ----
 

@@ -1,8 +1,8 @@
 -- Two lists that are the same, and a list that is one of several: what holds of each of those holds of it.
 -- Assumes nothing.
 use Prim.Native.Nat.{ℕ}
-use mathlib.Core.Path.{_≡_, refl, sym, ap, ap₂, _∙_}
-use mathlib.Core.Bool.{Bool, true, false, _&&_, _||_, false≢true}
+use mathlib.Core.Path.{_≡_, refl, ap, ap₂, _∙_}
+use mathlib.Core.Bool.{Bool, true, false, _||_, false≢true}
 use mathlib.Core.List.{List, [], _∷_}
 use lib.Dec.{eqb}
 use borrow.Author.Tests.{eqb-true}
@@ -29,9 +29,3 @@ oneOf-every f (x ∷ xs) w h e = go (same w x) refl e (oneOf-every f xs w (and-r
     go : (t : Bool) → same w x ≡ t → t || oneOf xs w ≡ true → (oneOf xs w ≡ true → f w ≡ true) → f w ≡ true
     go true s e r = ap f (same-true w x s) ∙ and-left (f x) (every f xs) h
     go false s e r = r e
-
--- two tests of which each passes where the other does are equal
-pub tests-equal : (a b : Bool) → (a ≡ true → b ≡ true) → (b ≡ true → a ≡ true) → a ≡ b
-tests-equal true b f g = sym (f refl)
-tests-equal false true f g = g refl
-tests-equal false false f g = refl

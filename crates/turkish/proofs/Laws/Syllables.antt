@@ -2,8 +2,7 @@
 -- Assumes nothing.
 use Prim.Native.Nat.{ℕ}
 use mathlib.Core.Path.{_≡_, refl, sym, ap, ap₂, _∙_}
-use mathlib.Core.Bool.{Bool, true, false, cond, not, _&&_, _||_, true≢false, false≢true, or-assoc, or-eq-true-iff, So-prop}
-use mathlib.Core.Logic.{Or·elim}
+use mathlib.Core.Bool.{Bool, true, false, cond, not, _&&_, _||_, true≢false, false≢true, or-assoc}
 use mathlib.Core.List.{List, [], _∷_, _++_}
 use mathlib.Mathlib.Data.Bool.Basic.{eq-false-of-not-eq-true, or-eq-false-eq-eq-false-and-eq-false as or-no}
 use lib.ListN.{length, drop}
@@ -11,7 +10,7 @@ use lib.Dec.{eqb}
 use borrow.Author.Tests.{eqb-true}
 use Rattle.utf8.proofs.Laws.Booleans.{and-left, and-right}
 use Rattle.turkish.specs.Letters.{text, fromEnd, any, has, starts}
-use Rattle.turkish.specs.Harmony.{vowels, vowel, Partners, partnerTable, partnersIn, partner, lastVowel, beforeLastVowel, harmony, moreThanOneSyllable}
+use Rattle.turkish.specs.Harmony.{vowels, vowel, partner, lastVowel, beforeLastVowel, harmony, moreThanOneSyllable}
 use Rattle.turkish.specs.Grammar.{Out, fail, took, more, after, first, asking, among, optionalY, markOf, Command, mark, _then_, _or_, nothing, unset, try, run}
 use Rattle.turkish.specs.Marks.{marked, yUm, sUn, yUz, sUnUz, lAr, nUz, DUr, cAsInA, yDU, ysA, ymUs, yken}
 use Rattle.turkish.specs.Stage.{person, branch1, branch2, branch3, branch4, branch5, branch6, branches, staged, stage}
@@ -50,11 +49,13 @@ any-append f [] ds = refl
 any-append f (c ∷ cs) ds = rw (any-append f cs ds) (sym (or-assoc (f c) (any f cs) (any f ds)))
 
 -- two vowels in two texts joined stand both in the first, one in each or both in the second
-pub moreThanOneSyllable-append : (cs ds : List ℕ) → moreThanOneSyllable (cs ++ ds) ≡ (moreThanOneSyllable cs || cond (any vowel cs) (any vowel ds) (moreThanOneSyllable ds))
+pub moreThanOneSyllable-append : (cs ds : List ℕ)
+    → moreThanOneSyllable (cs ++ ds) ≡ (moreThanOneSyllable cs || cond (any vowel cs) (any vowel ds) (moreThanOneSyllable ds))
 unfolding moreThanOneSyllable beforeLastVowel any
 moreThanOneSyllable-append [] ds = refl
 moreThanOneSyllable-append (c ∷ cs) ds =
-    elim (vowel c) as (λ t. any vowel (cond t (cs ++ ds) (beforeLastVowel (cs ++ ds))) ≡ (any vowel (cond t cs (beforeLastVowel cs)) || cond (t || any vowel cs) (any vowel ds) (any vowel (beforeLastVowel ds))))
+    elim (vowel c) as (λ t. any vowel (cond t (cs ++ ds) (beforeLastVowel (cs ++ ds)))
+    ≡ (any vowel (cond t cs (beforeLastVowel cs)) || cond (t || any vowel cs) (any vowel ds) (any vowel (beforeLastVowel ds))))
     [ true ↦ any-append vowel cs ds | false ↦ moreThanOneSyllable-append cs ds ]
 
 -- without a vowel there is no optional y
