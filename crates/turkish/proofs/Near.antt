@@ -4,6 +4,8 @@ use Prim.Native.Nat.{ℕ, _+_, _≤_, _<_, max}
 use mathlib.Core.Path.{_≡_, refl, sym, ap, _∙_}
 use mathlib.Core.Bool.{Bool, true, false, cond, not, _&&_, _||_}
 use mathlib.Core.List.{List, [], _∷_, _++_}
+use mathlib.Core.Logic.{inl, inr}
+use mathlib.Mathlib.Data.Bool.Basic.{dichotomy}
 use native.Mathlib.Omega.{arith}
 use lib.ListN.{length, drop, length-drop}
 use lib.Seq.{drop-append-le}
@@ -149,13 +151,12 @@ pub pass-near : (e f g : List ℕ) → Alike f g → endLength ≤ length e → 
     × (reachesReserved (e ++ f) ≡ false → reachesReserved (e ++ g) ≡ false
     → (x : List ℕ) × (pass (e ++ f) .text ≡ x ++ f) × (pass (e ++ g) .text ≡ x ++ g))
 unfolding pass passStage reachesReserved
-pass-near e f g a h = go (moreThanOneSyllable (e ++ g)) (moreThanOneSyllable-near e f g a) refl
-  where
-    go : (t : Bool) → moreThanOneSyllable (e ++ f) ≡ moreThanOneSyllable (e ++ g) → moreThanOneSyllable (e ++ g) ≡ t → SameAnswers (pass (e ++ f)) (pass (e ++ g))
-        × (reachesReserved (e ++ f) ≡ false → reachesReserved (e ++ g) ≡ false
-        → (x : List ℕ) × (pass (e ++ f) .text ≡ x ++ f) × (pass (e ++ g) .text ≡ x ++ g))
-    go false p s = rw (p, s) (record { syllable = refl; yes = refl; flag = refl }, λ i j. (e, refl, refl))
-    go true p s =
-        let k = kept-near e f g a h in
-        rw (p, s, stage-near e f g a h, k .2, k .3)
-        (record { syllable = refl; yes = refl; flag = refl }, postlude-near (stage (e ++ g) .flag) (k .0) f g a (k .1))
+pass-near e f g a h =
+    let p = moreThanOneSyllable-near e f g a in
+    let k = kept-near e f g a h in
+    elim (dichotomy (moreThanOneSyllable (e ++ g))) [
+      | inl s ↦ rw (p, s) (record { syllable = refl; yes = refl; flag = refl }, λ i j. (e, refl, refl))
+      | inr s ↦
+          rw (p, s, stage-near e f g a h, k .2, k .3)
+          (record { syllable = refl; yes = refl; flag = refl }, postlude-near (stage (e ++ g) .flag) (k .0) f g a (k .1))
+    ]

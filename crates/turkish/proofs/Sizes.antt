@@ -14,7 +14,7 @@ use Rattle.utf8.specs.Encoding.{encode}
 use Rattle.utf8.proofs.Laws.Booleans.{and-left, and-right}
 use Rattle.utf8.proofs.Laws.Encoding.{encode-one}
 use Rattle.utf8.proofs.TextCharacters.{take-back}
-use Rattle.turkish.specs.Letters.{text, starts}
+use Rattle.turkish.specs.Letters.{starts}
 use Rattle.turkish.specs.Harmony.{lastVowel, moreThanOneSyllable}
 use Rattle.turkish.specs.Stage.{stage, kept}
 use Rattle.turkish.specs.Postlude.{reserved, gained, appendU, Hardening, hardenings, hardIn, hard, harden, postlude}

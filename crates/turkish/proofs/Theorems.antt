@@ -16,9 +16,9 @@ use Rattle.turkish.specs.Stage.{stage, kept}
 use Rattle.turkish.specs.Postlude.{reserved, appendU, harden, postlude}
 use Rattle.turkish.specs.Tables.{Table, tables, letters}
 use Rattle.turkish.specs.Calls.{chars, bytes, limit, accepted, keptLength, stagePart, stageCall, postludeText, postludeRefusal, postludeOut, foldText, foldRefusal, foldOut, passText, passRefusal, passOut}
+use Rattle.turkish.specs.Fronts.{mostRemoved, front, Pair, reachesReserved, passGives, SameAnswers, leftEmpty, oneOf}
 use Rattle.turkish.proofs.Laws.Bounds.{stage-most, stage-within, stage-yes, stage-no}
 use Rattle.turkish.proofs.Laws.Accepted.{accepted-iff}
-use Rattle.turkish.specs.Fronts.{mostRemoved, front, Pair, reachesReserved, passGives, SameAnswers, leftEmpty, oneOf}
 use Rattle.turkish.proofs.Fronts.{pair-fares-alike}
 use Rattle.turkish.proofs.Nothing.{left-empty}
 use Rattle.turkish.proofs.Laws.Syllables.{moreThanOneSyllable-no}
@@ -48,8 +48,9 @@ outputs-suffice w a = (postludeText-size w a, passText-size w a, foldText-size w
 
 -- ---- demand 3 ----
 
--- two accepted words of 16 characters or more that share their last 16, with fronts alike in their vowels, fare alike: equal answers,
--- and texts that differ in the fronts alone, unless what reaches the postlude is `ad` or `soyad` for one of them
+-- two accepted words of 16 characters or more that share their last 16, with fronts alike in their vowels, fare alike in any calls of
+-- the pass with outputs long enough: the three further answers are equal, and the results differ in the fronts alone, unless what
+-- reaches the postlude is `ad` or `soyad` for one of them
 pub fronts-fare-alike : (u v o p : List ℕ) → Pair u v → length u + 2 ≤ length o → length v + 2 ≤ length p
     → SameAnswers (passGives u o) (passGives v p)
     × (reachesReserved (chars u) ≡ false → reachesReserved (chars v) ≡ false
