@@ -16,16 +16,16 @@ use Rattle.utf8.proofs.Laws.Characters.{before-zero, before-step, before-back}
 use Rattle.turkish.specs.Letters.{text, any, has, starts}
 use Rattle.turkish.specs.Letters
 use Rattle.turkish.specs.Harmony.{vowels, vowel, partnerTable, partnersIn, partner, lastVowel, beforeLastVowel, harmony}
-use Rattle.turkish.specs.Grammar.{Out, more, after, first, asking, among, markOf, mark, _or_, try, run}
+use Rattle.turkish.specs.Grammar.{more, after, first, asking, among, markOf, mark, _or_, try, run}
 use Rattle.turkish.specs.Marks.{marked, yUm, sUn, yUz, sUnUz, lAr, nUz, DUr, cAsInA, yDU, ysA, ymUs, yken}
 use Rattle.turkish.specs.Stage.{branch1, branch2, branch3, branch4, branch5, branch6, branches, staged, stage, kept}
 use Rattle.turkish.specs.Calls.{chars, bytes, accepted, keptLength}
 use Rattle.turkish.specs.Fronts.{leftEmpty, oneOf}
-use Rattle.turkish.proofs.Laws.Outcome.{Post, unfit, fits, post-map, post-first, post-then}
+use Rattle.turkish.proofs.Laws.Outcome.{Post, post-map, post-first, post-then}
 use Rattle.turkish.proofs.Laws.Accepted.{bytes-chars}
 use Rattle.turkish.proofs.Laws.Same.{oneOf-every}
 use Rattle.turkish.proofs.Laws.Tests.{every}
-use Rattle.turkish.proofs.Laws.Leaves.{mark-leaves, unharmonic, spares, leaves, run-leaves}
+use Rattle.turkish.proofs.Laws.Leaves.{mark-leaves, unharmonic, spares, leaves, run-leaves, staged-leaves}
 
 -- branch 5 leaves a character of a text that is no key of sUnUz
 branch5-leaves : (cs : List ℕ) → oneOf (sUnUz .keys) cs ≡ false → Post (λ k. k + 1 ≤ length cs) (run branch5 cs)
@@ -46,12 +46,6 @@ branches-leaves cs h =
     (post-first (run-leaves branch4 0 cs z)
     (post-first (branch5-leaves cs h) (run-leaves branch6 0 cs z)))))
 
--- where a command leaves a character, so does the stage
-staged-leaves : {n : ℕ} {o : Out} → 1 ≤ n → Post (λ k. k + 1 ≤ n) o → staged o .removed + 1 ≤ n
-unfolding staged
-staged-leaves h unfit = h
-staged-leaves h (fits k p) = p
-
 -- so the stage keeps something of every other text
 kept-others : (cs : List ℕ) → oneOf ([] ∷ sUnUz .keys) cs ≡ false → same (kept cs) [] ≡ false
 unfolding kept stage oneOf same
@@ -66,7 +60,7 @@ unfolding kept stage staged run branches branch1 branch2 branch3 branch4 branch5
 kept-keys = refl
 
 -- the stage keeps nothing exactly of nothing and of the keys of sUnUz
-pub kept-nothing : (cs : List ℕ) → same (kept cs) [] ≡ oneOf ([] ∷ sUnUz .keys) cs
+kept-nothing : (cs : List ℕ) → same (kept cs) [] ≡ oneOf ([] ∷ sUnUz .keys) cs
 kept-nothing cs = go (oneOf ([] ∷ sUnUz .keys) cs) refl
   where
     go : (t : Bool) → oneOf ([] ∷ sUnUz .keys) cs ≡ t → same (kept cs) [] ≡ t

@@ -31,7 +31,7 @@ unfolding hard hardIn hardenings starts fromEnd text
 hard-gained v = gained-elim (λ c. hard c ≡ c) v refl refl refl refl refl
 
 -- a word that gains a vowel is not hardened, and any other is handed on as it is
-pub append-or-harden : (cs : List ℕ) → (appends cs ≡ true → harden (appendU cs) ≡ appendU cs) × (appends cs ≡ false → appendU cs ≡ cs)
+append-or-harden : (cs : List ℕ) → (appends cs ≡ true → harden (appendU cs) ≡ appendU cs) × (appends cs ≡ false → appendU cs ≡ cs)
 unfolding appends appendU harden
 append-or-harden [] = (λ e. refl, λ e. refl)
 append-or-harden (c ∷ cs) = (λ e. rw (e, hard-gained (lastVowel cs)), λ e. rw e)

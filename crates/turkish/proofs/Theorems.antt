@@ -17,7 +17,8 @@ use Rattle.turkish.specs.Postlude.{reserved, appendU, harden, postlude}
 use Rattle.turkish.specs.Tables.{Table, tables, letters}
 use Rattle.turkish.specs.Calls.{chars, bytes, limit, accepted, keptLength, stagePart, stageCall, postludeText, postludeRefusal, postludeOut, foldText, foldRefusal, foldOut, passText, passRefusal, passOut}
 use Rattle.turkish.specs.Fronts.{mostRemoved, front, Pair, reachesReserved, passGives, SameAnswers, leftEmpty, oneOf}
-use Rattle.turkish.proofs.Laws.Bounds.{stage-most, stage-within, stage-yes, stage-no}
+use Rattle.turkish.proofs.Laws.Bounds.{stage-most, stage-yes, stage-no}
+use Rattle.turkish.proofs.Laws.Leaves.{stage-within}
 use Rattle.turkish.proofs.Laws.Accepted.{accepted-iff}
 use Rattle.turkish.proofs.Fronts.{pair-fares-alike}
 use Rattle.turkish.proofs.Nothing.{left-empty}

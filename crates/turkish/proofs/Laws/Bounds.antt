@@ -1,13 +1,12 @@
--- How many characters a command takes: bounds that are computed from the command, and never more than there are; and with them
--- what the stage removes. Assumes nothing.
+-- How many characters a command takes, at least and at most: bounds that are computed from the command; and with them what the stage
+-- removes. Assumes nothing.
 use Prim.Native.Nat.{ℕ, _+_, _≤_, _<_, min, max}
 use mathlib.Core.Path.{_≡_, refl, sym}
 use mathlib.Core.Bool.{Bool, true, false, cond, not, _||_, false≢true}
 use mathlib.Core.List.{List, [], _∷_}
 use native.Mathlib.Omega.{arith}
-use lib.ListN.{length, drop, length-drop}
+use lib.ListN.{length, drop}
 use lib.Dec.{eqb}
-use Rattle.utf8.proofs.Laws.Booleans.{and-right}
 use Rattle.turkish.specs.Letters.{text, fromEnd, starts}
 use Rattle.turkish.specs.Harmony.{vowel, harmony}
 use Rattle.turkish.specs.Grammar.{Out, fail, took, among, optionalY, markOf, Command, mark, _then_, _or_, nothing, unset, try, run}
@@ -15,7 +14,6 @@ use Rattle.turkish.specs.Marks.{marked, yUm, sUn, yUz, sUnUz, lAr, nUz, 
 use Rattle.turkish.specs.Stage.{person, branch1, branch2, branch3, branch4, branch5, branch6, branches, staged, stage}
 use Rattle.turkish.specs.Fronts.{mostRemoved}
 use Rattle.turkish.proofs.Laws.Outcome.{Post, unfit, fits, post-map, post-first, post-asking, post-cond, post-then}
-use Rattle.turkish.proofs.Laws.Tests.{cond-test}
 
 -- ---- the bounds ----
 
@@ -48,25 +46,15 @@ least unset = 0
 
 -- ---- a command ----
 
--- a number within what is computed and what is there
-abbrev Between : ℕ → ℕ → ℕ → ℕ → Type 0
-Between low high size k = (low ≤ k) × (k ≤ high) × (k ≤ size)
-
--- characters that begin with a key are no fewer
-pub starts-length : (k cs : List ℕ) → starts k cs ≡ true → length k ≤ length cs
-unfolding starts
-starts-length [] cs e = omega arith
-starts-length (k ∷ ks) [] e = absurd (false≢true e)
-starts-length (k ∷ ks) (c ∷ cs) e = omega (arith, starts-length ks cs (and-right (eqb k c) (starts ks cs) e))
+-- a number within what is computed
+abbrev Between : ℕ → ℕ → ℕ → Type 0
+Between low high k = (low ≤ k) × (k ≤ high)
 
 -- a table takes as many as one of its keys has
-among-between : (ks : List (List ℕ)) (cs : List ℕ) → Post (Between (shortest ks) (longest ks) (length cs)) (among ks cs)
+among-between : (ks : List (List ℕ)) (cs : List ℕ) → Post (Between (shortest ks) (longest ks)) (among ks cs)
 unfolding among shortest longest
 among-between [] cs = unfit
-among-between (k ∷ ks) cs =
-    cond-test (Post _) (starts k cs)
-    (λ e. fits (length k) (omega (arith, starts-length k cs e)))
-    (post-map (λ j f h. omega arith) (among-between ks cs))
+among-between (k ∷ ks) cs = post-cond (starts k cs) (fits (length k) (omega arith)) (post-map (λ j f h. omega arith) (among-between ks cs))
 
 -- no more than its longest
 pub among-most : (ks : List (List ℕ)) (cs : List ℕ) → Post (λ k. k ≤ longest ks) (among ks cs)
@@ -78,24 +66,24 @@ one-at-most true = omega arith
 one-at-most false = omega arith
 
 -- an optional y takes at most one character
-optionalY-between : (y : ℕ) (cs : List ℕ) → Post (Between 0 1 (length cs)) (optionalY y cs)
+optionalY-between : (y : ℕ) (cs : List ℕ) → Post (Between 0 1) (optionalY y cs)
 unfolding optionalY
 optionalY-between y [] = unfit
 optionalY-between y (c ∷ []) = unfit
 optionalY-between y (c ∷ v ∷ cs) = post-cond (vowel v) (fits (cond (eqb c y) 1 0) (omega (arith, one-at-most (eqb c y)))) unfit
 
 -- and a mark that does not join takes none
-joins-between : (j : Bool) (cs : List ℕ) → Post (Between 0 (cond j 1 0) (length cs)) (cond j (optionalY 0x79 cs) (took 0 true))
+joins-between : (j : Bool) (cs : List ℕ) → Post (Between 0 (cond j 1 0)) (cond j (optionalY 0x79 cs) (took 0 true))
 joins-between true cs = optionalY-between 0x79 cs
 joins-between false cs = fits 0 (omega arith)
 
--- a command takes what is computed for it, and no more than there is
-run-between : (p : Command) (cs : List ℕ) → Post (Between (least p) (most p) (length cs)) (run p cs)
+-- a command takes what is computed for it
+run-between : (p : Command) (cs : List ℕ) → Post (Between (least p) (most p)) (run p cs)
 unfolding run markOf least most
 run-between (mark m) cs =
     post-asking (not (m .harmonic) || harmony cs) λ t.
-    (post-then (among-between (m .keys) cs) (λ k f h. post-map (λ j f i. omega (arith, length-drop k cs)) (joins-between (m .joins) (drop k cs))))
-run-between (p then q) cs = post-then (run-between p cs) (λ k f h. post-map (λ j f i. omega (arith, length-drop k cs)) (run-between q (drop k cs)))
+    (post-then (among-between (m .keys) cs) (λ k f h. post-map (λ j f i. omega arith) (joins-between (m .joins) (drop k cs))))
+run-between (p then q) cs = post-then (run-between p cs) (λ k f h. post-map (λ j f i. omega arith) (run-between q (drop k cs)))
 run-between (p or q) cs = post-first (post-map (λ k f h. omega arith) (run-between p cs)) (post-map (λ k f h. omega arith) (run-between q cs))
 run-between nothing cs = fits 0 (omega arith)
 run-between unset cs = fits 0 (omega arith)
@@ -111,27 +99,22 @@ branches-between : (least branches ≡ 1) × (most branches ≡ mostRemoved)
 unfolding mostRemoved least most branches branch1 branch2 branch3 branch4 branch5 branch6 person try marked yUm sUn yUz sUnUz lAr nUz DUr cAsInA yDU ysA ymUs yken fromEnd text
 branches-between = (refl, refl)
 
--- so does the stage where it says yes, and no more than there is
-staged-between : {n : ℕ} {o : Out} → Post (Between (least branches) (most branches) n) o
-    → (staged o .removed ≤ mostRemoved) × (staged o .removed ≤ n) × (staged o .yes ≡ true → 0 < staged o .removed)
+-- so does the stage where it says yes
+staged-between : {o : Out} → Post (Between (least branches) (most branches)) o
+    → (staged o .removed ≤ mostRemoved) × (staged o .yes ≡ true → 0 < staged o .removed)
 unfolding staged
-staged-between unfit = (omega arith, omega arith, λ e. absurd (false≢true e))
-staged-between (fits k h) = (omega (arith, branches-between), omega arith, λ e. omega (arith, branches-between))
+staged-between unfit = (omega arith, λ e. absurd (false≢true e))
+staged-between (fits k h) = (omega (arith, branches-between), λ e. omega (arith, branches-between))
 
 -- at most 15 characters are removed
 pub stage-most : (cs : List ℕ) → stage cs .removed ≤ mostRemoved
 unfolding stage
 stage-most cs = staged-between (run-between branches cs) .0
 
--- never more than there is
-pub stage-within : (cs : List ℕ) → stage cs .removed ≤ length cs
-unfolding stage
-stage-within cs = staged-between (run-between branches cs) .1
-
 -- where the stage says yes it removes something
 pub stage-yes : (cs : List ℕ) → stage cs .yes ≡ true → 0 < stage cs .removed
 unfolding stage
-stage-yes cs = staged-between (run-between branches cs) .2
+stage-yes cs = staged-between (run-between branches cs) .1
 
 -- where it says no it removes nothing and the flag is true
 pub stage-no : (cs : List ℕ) → stage cs .yes ≡ false → (stage cs .removed ≡ 0) × (stage cs .flag ≡ true)

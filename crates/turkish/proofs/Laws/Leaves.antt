@@ -1,5 +1,5 @@
--- How many characters a command leaves at least, one or none, computed from the command; so it never takes more than there are.
--- Assumes nothing.
+-- How many characters a command leaves at least, one or none, computed from the command; so neither it nor the stage ever takes more
+-- than there are. Assumes nothing.
 use Prim.Native.Nat.{ℕ, _+_, _≤_, min}
 use mathlib.Core.Path.{_≡_, refl, sym}
 use mathlib.Core.Bool.{Bool, true, false, cond, not, _&&_, _||_, or-true, false≢true}
@@ -12,7 +12,8 @@ use Rattle.utf8.specs.Steps.{same}
 use Rattle.utf8.proofs.Laws.Booleans.{and-left, and-right}
 use Rattle.turkish.specs.Letters.{starts}
 use Rattle.turkish.specs.Harmony.{vowel, harmony}
-use Rattle.turkish.specs.Grammar.{took, among, optionalY, Mark, markOf, Command, mark, _then_, _or_, nothing, unset, run}
+use Rattle.turkish.specs.Grammar.{Out, took, among, optionalY, Mark, markOf, Command, mark, _then_, _or_, nothing, unset, run}
+use Rattle.turkish.specs.Stage.{branches, staged, stage}
 use Rattle.turkish.specs.Fronts.{oneOf}
 use Rattle.turkish.proofs.Laws.Outcome.{Post, unfit, fits, post-map, post-first, post-cond, post-asking, post-then}
 use Rattle.turkish.proofs.Laws.Tests.{every}
@@ -100,3 +101,18 @@ run-leaves (p then q) n cs h =
 run-leaves (p or q) n cs h = post-first (post-map (λ k f r. omega arith) (run-leaves p n cs h)) (post-map (λ k f r. omega arith) (run-leaves q n cs h))
 run-leaves nothing n cs h = fits 0 (omega arith)
 run-leaves unset n cs h = fits 0 (omega arith)
+
+-- ---- the stage ----
+
+-- where a command leaves m characters of n, so does the stage
+pub staged-leaves : {m n : ℕ} {o : Out} → m ≤ n → Post (λ k. k + m ≤ n) o → staged o .removed + m ≤ n
+unfolding staged
+staged-leaves h unfit = omega arith
+staged-leaves h (fits k p) = p
+
+-- so it removes no more than there are
+pub stage-within : (cs : List ℕ) → stage cs .removed ≤ length cs
+unfolding stage
+stage-within cs =
+    let s : stage cs .removed + 0 ≤ length cs = staged-leaves (omega arith) (post-map (λ k f h. omega arith) (run-leaves branches 0 cs (omega arith))) in
+    omega arith

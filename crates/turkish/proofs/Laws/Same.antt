@@ -12,7 +12,7 @@ use Rattle.turkish.proofs.Laws.Tests.{every}
 use Rattle.turkish.specs.Fronts.{oneOf}
 
 -- lists that are the same are equal
-pub same-true : (xs ys : List ℕ) → same xs ys ≡ true → xs ≡ ys
+same-true : (xs ys : List ℕ) → same xs ys ≡ true → xs ≡ ys
 unfolding same
 same-true [] [] e = refl
 same-true [] (y ∷ ys) e = absurd (false≢true e)
