@@ -15,7 +15,7 @@ use Rattle.turkish.specs.Harmony.{vowel, partner, lastVowel, beforeLastV
 use Rattle.turkish.specs.Grammar.{Out, took, more, after, asking, among, optionalY, markOf, Command, mark, _then_, _or_, nothing, unset, try, run}
 use Rattle.turkish.specs.Marks.{marked, yUm, sUn, yUz, sUnUz, lAr, nUz, DUr, cAsInA, yDU, ysA, ymUs, yken}
 use Rattle.turkish.specs.Stage.{person, branch1, branch2, branch3, branch4, branch5, branch6, branches, staged, stage, kept}
-use Rattle.turkish.specs.Postlude.{reserved, gained, appendU, hard, harden, postlude}
+use Rattle.turkish.specs.Postlude.{reserved, gained, appends, appendU, hard, harden, postlude}
 use Rattle.turkish.specs.WordPass.{passStage, pass}
 use Rattle.turkish.specs.Fronts.{endLength, mostRemoved, Alike, reachesReserved, SameAnswers}
 use Rattle.turkish.proofs.Laws.Outcome.{Post, unfit, fits}
@@ -131,6 +131,11 @@ kept-near e f g a h =
 
 -- ---- the pass ----
 
+-- a final d or g of a shared end gains a vowel in both words or in neither
+appends-near : (c : ℕ) (x f g : List ℕ) → Alike f g → appends (c ∷ (x ++ f)) ≡ appends (c ∷ (x ++ g))
+unfolding appends
+appends-near c x f g a = rw (lastVowel-near x f g a)
+
 -- where it runs, the postlude changes the shared end alone, and that alike
 postlude-near : (b : Bool) (x f g : List ℕ) → Alike f g → 0 < length x → b && reserved (x ++ f) ≡ false → b && reserved (x ++ g) ≡ false
     → (y : List ℕ) × (cond b (postlude (x ++ f)) (x ++ f) ≡ y ++ f) × (cond b (postlude (x ++ g)) (x ++ g) ≡ y ++ g)
@@ -139,8 +144,8 @@ postlude-near false x f g a h p q = (x, refl, refl)
 postlude-near true [] f g a h p q = absurd (omega arith)
 postlude-near true (c ∷ x) f g a h p q =
     let v : ℕ = gained (lastVowel (x ++ g)) in
-    rw (p, q, lastVowel-near x f g a)
-    (elim (has (text "dg") c && not (eqb v 0)) as (λ t. (y : List ℕ)
+    rw (p, q, appends-near c x f g a, lastVowel-near x f g a)
+    (elim (appends (c ∷ (x ++ g))) as (λ t. (y : List ℕ)
     × (harden (cond t (v ∷ c ∷ (x ++ f)) (c ∷ (x ++ f))) ≡ y ++ f)
     × (harden (cond t (v ∷ c ∷ (x ++ g)) (c ∷ (x ++ g))) ≡ y ++ g))
     [ true ↦ (hard v ∷ c ∷ x, refl, refl) | false ↦ (hard c ∷ x, refl, refl) ])

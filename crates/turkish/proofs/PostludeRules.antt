@@ -3,18 +3,12 @@
 use Prim.Native.Nat.{ℕ}
 use Prim.Native.Char.{code}
 use mathlib.Core.Path.{_≡_, refl, ap}
-use mathlib.Core.Bool.{Bool, true, false, cond, not, _&&_}
+use mathlib.Core.Bool.{Bool, true, false, cond}
 use mathlib.Core.List.{List, [], _∷_}
-use lib.Dec.{eqb}
 use Rattle.utf8.proofs.Laws.Booleans.{cond-both}
 use Rattle.turkish.specs.Letters.{text, fromEnd, has, starts}
 use Rattle.turkish.specs.Harmony.{lastVowel}
-use Rattle.turkish.specs.Postlude.{reserved, gained, appendU, hardenings, hardIn, hard, harden, postlude}
-
--- appendU's test: a final d or g, with some vowel before it
-unfoldable pub appends : List ℕ → Bool
-appends [] = false
-appends (c ∷ cs) = has (text "dg") c && not (eqb (gained (lastVowel cs)) 0)
+use Rattle.turkish.specs.Postlude.{reserved, gained, appends, appendU, hardenings, hardIn, hard, harden, postlude}
 
 -- what holds of ı, i, u, ü and of none holds of the vowel gained
 pub gained-elim : (P : ℕ → Type 0) (v : ℕ) → P (code "ı") → P (code "i") → P (code "u") → P (code "ü") → P 0 → P (gained v)
@@ -32,7 +26,7 @@ hard-gained v = gained-elim (λ c. hard c ≡ c) v refl refl refl refl refl
 
 -- a word that gains a vowel is not hardened, and any other is handed on as it is
 append-or-harden : (cs : List ℕ) → (appends cs ≡ true → harden (appendU cs) ≡ appendU cs) × (appends cs ≡ false → appendU cs ≡ cs)
-unfolding appends appendU harden
+unfolding appendU harden
 append-or-harden [] = (λ e. refl, λ e. refl)
 append-or-harden (c ∷ cs) = (λ e. rw (e, hard-gained (lastVowel cs)), λ e. rw e)
 

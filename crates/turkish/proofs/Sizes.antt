@@ -17,13 +17,13 @@ use Rattle.utf8.proofs.TextCharacters.{take-back}
 use Rattle.turkish.specs.Letters.{starts}
 use Rattle.turkish.specs.Harmony.{lastVowel, moreThanOneSyllable}
 use Rattle.turkish.specs.Stage.{stage, kept}
-use Rattle.turkish.specs.Postlude.{reserved, gained, appendU, Hardening, hardenings, hardIn, hard, harden, postlude}
+use Rattle.turkish.specs.Postlude.{reserved, gained, appends, appendU, Hardening, hardenings, hardIn, hard, harden, postlude}
 use Rattle.turkish.specs.WordPass.{foldChar, fold, Passed, passStage, pass}
 use Rattle.turkish.specs.Calls.{chars, bytes, accepted, keptLength, stagePart, postludeText, foldText, passText}
 use Rattle.turkish.proofs.Laws.Tests.{cond-test, every}
 use Rattle.turkish.proofs.Laws.Accepted.{accepted-text, bytes-chars}
 use Rattle.turkish.proofs.Laws.Words.{bytes-cons}
-use Rattle.turkish.proofs.PostludeRules.{gained-elim, appends, postlude-one}
+use Rattle.turkish.proofs.PostludeRules.{gained-elim, postlude-one}
 
 -- ---- characters ----
 
@@ -89,7 +89,7 @@ TwoMore cs ds = length (bytes ds) ≤ length (bytes cs) + 2
 
 -- a gained vowel adds two bytes at most
 appendU-size : (cs : List ℕ) → TwoMore cs (appendU cs)
-unfolding appendU appends
+unfolding appendU
 appendU-size [] = omega arith
 appendU-size (c ∷ cs) =
     cond-test (TwoMore (c ∷ cs)) (appends (c ∷ cs))

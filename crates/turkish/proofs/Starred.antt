@@ -18,7 +18,7 @@ use Rattle.turkish.specs.Harmony.{vowels, vowel, partnerTable, partnersI
 use Rattle.turkish.specs.Grammar.{more, after, first, asking, among, optionalY, markOf, try, run}
 use Rattle.turkish.specs.Marks.{marked, yUm, sUn, yUz, sUnUz, lAr, nUz, DUr, cAsInA, yDU, ysA, ymUs, yken}
 use Rattle.turkish.specs.Stage.{person, branch1, branch2, branch3, branch4, branch5, branch6, branches, staged, stage, kept}
-use Rattle.turkish.specs.Postlude.{reserved, gained, appendU, hardenings, hardIn, hard, harden, postlude, postludeYes}
+use Rattle.turkish.specs.Postlude.{reserved, gained, appends, appendU, hardenings, hardIn, hard, harden, postlude, postludeYes}
 use Rattle.turkish.specs.WordPass.{passStage, pass}
 use Rattle.turkish.specs.Calls.{chars, bytes, limit, refusal, refusalInto, accepted, keptLength, stagePart, stageCall, postludeText, postludeRefusal, postludeCall, passText, passRefusal, passCall}
 
@@ -101,7 +101,7 @@ pub outcomes : Met table × Met misread
 unfolding table misread stageOf postludeOf passOf word
     stageCall stagePart keptLength postludeCall postludeText postludeRefusal passCall passText passRefusal refusalInto accepted refusal limit chars bytes
     encodeAll encode decode isText accepts next lead leadIn table37 due refused before beforeWithin lastChar charAt lastWidth width goesOn continuation placeBack
-    pass passStage postlude postludeYes reserved same appendU gained harden hard hardIn hardenings
+    pass passStage postlude postludeYes reserved same appendU appends gained harden hard hardIn hardenings
     kept stage staged branches branch1 branch2 branch3 branch4 branch5 branch6 person try run markOf optionalY among asking first after more
     marked yUm sUn yUz sUnUz lAr nUz DUr cAsInA yDU ysA ymUs yken
     moreThanOneSyllable harmony beforeLastVowel lastVowel partner partnersIn partnerTable vowel vowels starts has any fromEnd text

@@ -13,7 +13,7 @@ use Rattle.utf8.specs.Characters.{continuation}
 use Rattle.turkish.specs.Letters.{starts}
 use Rattle.turkish.specs.Harmony.{moreThanOneSyllable}
 use Rattle.turkish.specs.Stage.{stage, kept}
-use Rattle.turkish.specs.Postlude.{reserved, appendU, harden, postlude}
+use Rattle.turkish.specs.Postlude.{reserved, appends, appendU, harden, postlude}
 use Rattle.turkish.specs.Tables.{Table, tables, letters}
 use Rattle.turkish.specs.Calls.{chars, bytes, limit, accepted, keptLength, stagePart, stageCall, postludeText, postludeRefusal, postludeOut, foldText, foldRefusal, foldOut, passText, passRefusal, passOut}
 use Rattle.turkish.specs.Fronts.{mostRemoved, front, Pair, reachesReserved, passGives, SameAnswers, leftEmpty, oneOf}
@@ -25,7 +25,7 @@ use Rattle.turkish.proofs.Nothing.{left-empty}
 use Rattle.turkish.proofs.Laws.Syllables.{moreThanOneSyllable-no}
 use Rattle.turkish.proofs.Sizes.{postludeText-size, passText-size, foldText-size, stagePart-front, kept-bytes}
 use Rattle.turkish.proofs.Tables.{one-key, key-letters, key-start}
-use Rattle.turkish.proofs.PostludeRules.{appends, postlude-one}
+use Rattle.turkish.proofs.PostludeRules.{postlude-one}
 use Rattle.turkish.proofs.Starred as Starred
 
 -- ---- demand 1: who is refused, and that a refused output stays ----

@@ -1,7 +1,7 @@
 -- The postlude (turkish.sbl, lines 415 to 459; document 01, "Postlude"). Assumes nothing.
 use Prim.Native.Nat.{ℕ}
 use Prim.Native.Char.{code}
-use mathlib.Core.Bool.{Bool, cond, not, _&&_, _||_}
+use mathlib.Core.Bool.{Bool, false, cond, not, _&&_, _||_}
 use mathlib.Core.List.{List, [], _∷_, map}
 use lib.Dec.{eqb}
 use Rattle.utf8.specs.Steps.{same}
@@ -20,11 +20,15 @@ gained v =
     (cond (has (text "ou") v) (code "u")
     (cond (has (text "öü") v) (code "ü") 0)))
 
--- a final d or g with some vowel before it gains a vowel (`append_U_to_stems_ending_with_d_or_g`, lines 430 to 438)
+-- a final d or g with some vowel before it
+unfoldable pub appends : List ℕ → Bool
+appends [] = false
+appends (c ∷ cs) = has (text "dg") c && not (eqb (gained (lastVowel cs)) 0)
+
+-- gains a vowel (`append_U_to_stems_ending_with_d_or_g`, lines 430 to 438)
 unfoldable pub appendU : List ℕ → List ℕ
 appendU [] = []
-appendU (c ∷ cs) =
-    cond (has (text "dg") c && not (eqb (gained (lastVowel cs)) 0)) (gained (lastVowel cs) ∷ c ∷ cs) (c ∷ cs)
+appendU (c ∷ cs) = cond (appends (c ∷ cs)) (gained (lastVowel cs) ∷ c ∷ cs) (c ∷ cs)
 
 -- a consonant that hardens, as a key from its end, and what it becomes
 pub record Hardening : Type 0 where

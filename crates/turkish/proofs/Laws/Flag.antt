@@ -68,23 +68,23 @@ pub branch3-lowers : (cs : List ℕ) → Flagged false (run branch3 cs)
 unfolding run branch3
 branch3-lowers cs = lowered-after _ (λ k. lowered-after _ (λ j. fits 0 refl))
 
--- the others leave it true
+-- no `unset` stands in the others
+branches-keep : (keeps branch1 ≡ true) × (keeps branch2 ≡ true) × (keeps branch4 ≡ true) × (keeps branch5 ≡ true) × (keeps branch6 ≡ true)
+unfolding keeps branch1 branch2 branch4 branch5 branch6 person try
+branches-keep = (refl, refl, refl, refl, refl)
+
+-- so they leave it true
 pub branch1-keeps : (cs : List ℕ) → Flagged true (run branch1 cs)
-unfolding keeps branch1
-branch1-keeps cs = keeps-flag branch1 cs refl
+branch1-keeps cs = keeps-flag branch1 cs (branches-keep .0)
 
 pub branch2-keeps : (cs : List ℕ) → Flagged true (run branch2 cs)
-unfolding keeps branch2 person
-branch2-keeps cs = keeps-flag branch2 cs refl
+branch2-keeps cs = keeps-flag branch2 cs (branches-keep .1)
 
 pub branch4-keeps : (cs : List ℕ) → Flagged true (run branch4 cs)
-unfolding keeps branch4
-branch4-keeps cs = keeps-flag branch4 cs refl
+branch4-keeps cs = keeps-flag branch4 cs (branches-keep .2)
 
 pub branch5-keeps : (cs : List ℕ) → Flagged true (run branch5 cs)
-unfolding keeps branch5 try
-branch5-keeps cs = keeps-flag branch5 cs refl
+branch5-keeps cs = keeps-flag branch5 cs (branches-keep .3)
 
 pub branch6-keeps : (cs : List ℕ) → Flagged true (run branch6 cs)
-unfolding keeps branch6 try person
-branch6-keeps cs = keeps-flag branch6 cs refl
+branch6-keeps cs = keeps-flag branch6 cs (branches-keep .4)
