@@ -17,7 +17,7 @@ use Rattle.utf8.proofs.Laws.Characters.{lastWidth-le, before-step}
 use Rattle.utf8.proofs.TextCharacters.{encodeAll-append, encode-before, take-back}
 use Rattle.turkish.specs.Letters.{text, has}
 use Rattle.turkish.specs.Harmony.{lastVowel}
-use Rattle.turkish.specs.Postlude.{reserved, gained, appendU, hard, harden, postlude, postludeYes}
+use Rattle.turkish.specs.Postlude.{reserved, gained, appends, appendU, hard, harden, postlude, postludeYes}
 use Rattle.turkish.specs.Calls.{bytes}
 use Rattle.turkish.proofs.PostludeRules.{hard-gained}
 use Rattle.stages.specs.declared.postlude.Repair.{Repair}
@@ -96,7 +96,7 @@ shortRepair-text w keep v h = rw (lt-ltb v 0x800 h) (go (ltb v 0x80))
 
 -- characters that gain a vowel end in it
 harden-appendU : (cs : List ℕ) → (appended cs ≡ 0 → ⊥) → harden (appendU cs) ≡ appended cs ∷ cs
-unfolding appended appendU harden
+unfolding appended appends appendU harden
 harden-appendU [] d = absurd (d refl)
 harden-appendU (c ∷ cs) d = go (has (text "dg") c) d
   where
@@ -109,7 +109,7 @@ harden-appendU (c ∷ cs) d = go (has (text "dg") c) d
 
 -- others stay
 appendU-none : (cs : List ℕ) → appended cs ≡ 0 → appendU cs ≡ cs
-unfolding appended appendU
+unfolding appended appends appendU
 appendU-none [] e = refl
 appendU-none (c ∷ cs) e = go (has (text "dg") c) e
   where
