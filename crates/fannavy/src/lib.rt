@@ -9,7 +9,7 @@ use words::check;
 use words::fold;
 use words::pass;
 use words::postlude;
-use words::stem;
+use words::stage;
 use words::syllable;
 ghost use mathlib.Core.Path.{_≡_};
 ghost use lib.ListN.{length};
@@ -37,7 +37,7 @@ pub extern "C" fn fannavy_syllable(w: &[u8]) -> SyllableAnswer
 pub extern "C" fn fannavy_stage(w: &[u8]) -> StageAnswer
     ensures { λ r. ⌜ r ≡ stageCall (now (w .entry)) ⌝ }
 {
-    stem::stem_numbers(w)
+    stage::stage_numbers(w)
 }
 
 // The postlude of the word, to an output of n + 2 bytes or more.
@@ -45,7 +45,7 @@ pub extern "C" fn fannavy_stage(w: &[u8]) -> StageAnswer
 pub extern "C" fn fannavy_postlude(w: &[u8], out: &mut [u8]) -> PostludeAnswer
     ensures { λ r. ⌜ (r ≡ postludeCall (now (w .entry)) (length (now (out .entry)))) × (now (out .exit) ≡ postludeOut (now (w .entry)) (now (out .entry))) ⌝ }
 {
-    postlude::repair_end(w, out)
+    postlude::postlude_word(w, out)
 }
 
 // The word folded, to an output of n bytes or more.

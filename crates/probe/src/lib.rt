@@ -3,7 +3,7 @@
 use utf8::cursor::Cursor;
 use utf8::literal;
 use utf8::step;
-use words::stem;
+use words::stage;
 ghost use mathlib.Core.Path.{_≡_};
 ghost use lib.ListN.{length};
 ghost use Rattle.utf8.specs.Steps.{previousChar, nextChar, eqSB, eqS};
@@ -129,10 +129,10 @@ pub extern "C" fn probe_eq_s(
 
 // Copies the part of the word that the suffix stage keeps, and gives its length; 0, and nothing written, where it does not fit.
 #[no_mangle]
-pub extern "C" fn probe_stem_part(w: &[u8], out: &mut [u8]) -> usize
+pub extern "C" fn probe_stage_part(w: &[u8], out: &mut [u8]) -> usize
     ensures { λ r. ⌜ (r ≡ partLength (stagePart (now (w .entry))) (length (now (out .entry)))) × (now (out .exit) ≡ partOut (stagePart (now (w .entry))) (now (out .entry))) ⌝ }
 {
-    let part = stem::stem_part(w);
+    let part = stage::stage_part(w);
     if out.len() < part.len() {
         return 0;
     }

@@ -4,6 +4,6 @@ pub mod fold;
 pub mod pass;
 pub mod postlude;
 pub mod refusal;
-pub mod repair;
-pub mod stem;
+mod repair;
+pub mod stage;
 pub mod syllable;

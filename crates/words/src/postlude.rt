@@ -7,7 +7,7 @@ ghost use mathlib.Core.Path.{_≡_};
 ghost use lib.ListN.{length};
 ghost use Rattle.turkish.specs.Calls.{postludeCall, postludeOut};
 
-pub fn repair_end(w: &[u8], out: &mut [u8]) -> PostludeAnswer
+pub fn postlude_word(w: &[u8], out: &mut [u8]) -> PostludeAnswer
     ensures { λ r. ⌜ (r ≡ postludeCall (now (w .entry)) (length (now (out .entry)))) × (now (out .exit) ≡ postludeOut (now (w .entry)) (now (out .entry))) ⌝ }
 {
     let n = refusal::refusal_into(w, w.len() + 2, out.len());

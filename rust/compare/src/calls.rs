@@ -92,7 +92,7 @@ impl Call for StagePart {
     fn call(lent: &mut Lent, output: &mut Output) -> Self {
         let (w, n) = lent.slice();
         let (out, room) = output.slice();
-        let length = unsafe { ffi::probe_stem_part(w, n, out, room) };
+        let length = unsafe { ffi::probe_stage_part(w, n, out, room) };
         StagePart { length }
     }
 

@@ -23,7 +23,7 @@ pub struct StagePart {
 }
 
 extern "C" {
-    pub fn probe_stem_part(w: *const u8, n: usize, out: *mut u8, m: usize) -> usize;
+    pub fn probe_stage_part(w: *const u8, n: usize, out: *mut u8, m: usize) -> usize;
     pub fn probe_previous_char(
         w: *const u8,
         n: usize,

@@ -1,4 +1,4 @@
--- `words::postlude::repair_end` meets its contract: the number found says which case of `postludeCall` and `postludeOut` holds;
+-- `words::postlude::postlude_word` meets its contract: the number found says which case of `postludeCall` and `postludeOut` holds;
 -- the repair fits the output. Assumes nothing.
 use Rattle.words.proofs.Laws.RepairCalls.{postludeCall-refused, postludeOut-refused, postludeCall-given, postludeOut-given, into-room, repair-fits}
 use denote.Ref.{now}
@@ -6,8 +6,8 @@ use lib.ListN.{length}
 use native.Mathlib.Nat.{le-refl}
 use mathlib.Core.Path.{_∙_}
 use borrow.Author.Needs.{needs}
-use Rattle.words.proofs.postlude.repair_end.Statement.{statement}
-use Rattle.words.proofs.postlude.repair_end.Tie as tie
+use Rattle.words.proofs.postlude.postlude_word.Statement.{statement}
+use Rattle.words.proofs.postlude.postlude_word.Tie as tie
 
 add-refusal-into : tie.Need-add-refusal-into
 add-refusal-into c = search needs
@@ -30,8 +30,8 @@ same-length c = search needs
 returns-2 : tie.Need-returns-2
 returns-2 c = let a = c .before .before .before .before .before .before .before .before .before .args in (postludeCall-given (now (a .w)) (length (now (a .out))) _ (c .before .before .before .before .before .before .refusal-into .ensures) (c .before .before .before .before .before .if1 .left) _ _ (c .before .before .before .before .postlude .ensures) (c .before .before .write-repair .ensures .0), c .before .before .write-repair .ensures .1 ∙ postludeOut-given (now (a .w)) (now (a .out)) _ (c .before .before .before .before .before .before .refusal-into .ensures) (c .before .before .before .before .before .if1 .left) _ (c .before .before .before .before .postlude .ensures))
 
-pub repair-end-spec : {M : Type 1} → statement M
-repair-end-spec =
+pub postlude-word-spec : {M : Type 1} → statement M
+postlude-word-spec =
     tie.close
     (tie.spec
     add-refusal-into

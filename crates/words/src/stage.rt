@@ -6,7 +6,7 @@ ghost use mathlib.Core.Path.{_≡_};
 ghost use Rattle.turkish.specs.Calls.{stagePart, stageCall};
 
 // The part of the word that is kept; empty on a refusal.
-pub fn stem_part(w: &[u8]) -> &[u8]
+pub fn stage_part(w: &[u8]) -> &[u8]
     ensures { λ r. ⌜ now r ≡ stagePart (now (w .entry)) ⌝ }
 {
     if refusal::refusal_of(w) != 0 {
@@ -18,7 +18,7 @@ pub fn stem_part(w: &[u8]) -> &[u8]
 }
 
 // The kept text's length, yes or no, and the flag.
-pub fn stem_numbers(w: &[u8]) -> StageAnswer
+pub fn stage_numbers(w: &[u8]) -> StageAnswer
     ensures { λ r. ⌜ r ≡ stageCall (now (w .entry)) ⌝ }
 {
     let n = refusal::refusal_of(w);

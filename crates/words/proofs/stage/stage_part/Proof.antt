@@ -1,4 +1,4 @@
--- `words::stem::stem_part` meets its contract: the number found says which case of `stagePart` holds; the text kept lies within
+-- `words::stage::stage_part` meets its contract: the number found says which case of `stagePart` holds; the text kept lies within
 -- the word. Assumes nothing.
 use Rattle.words.proofs.Laws.WordCalls.{stagePart-refused, stagePart-given, kept-le}
 use Rattle.stages.specs.Reach.{stemOf}
@@ -8,8 +8,8 @@ use denote.Ref.{now}
 use mathlib.Core.Path.{ap, _∙_}
 use native.Mathlib.Omega.{arith}
 use borrow.Author.Needs.{needs}
-use Rattle.words.proofs.stem.stem_part.Statement.{statement}
-use Rattle.words.proofs.stem.stem_part.Tie as tie
+use Rattle.words.proofs.stage.stage_part.Statement.{statement}
+use Rattle.words.proofs.stage.stage_part.Tie as tie
 
 refusal-of-requires : tie.Need-refusal-of-requires
 refusal-of-requires c κs = search needs
@@ -30,8 +30,8 @@ returns-2 : tie.Need-returns-2
 unfolding stemOf
 returns-2 c = stagePart-given _ _ (c .before .before .before .refusal-of .ensures) (c .before .before .if1 .left) _ (ap (λ (s : Stem). s .kept) (c .before .stem-nominal-verb-suffixes .ensures))
 
-pub stem-part-spec : {M : Type 1} → statement M
-stem-part-spec =
+pub stage-part-spec : {M : Type 1} → statement M
+stage-part-spec =
     tie.close
     (tie.spec
     refusal-of-requires
