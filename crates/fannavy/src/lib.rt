@@ -43,7 +43,8 @@ pub extern "C" fn fannavy_stage(w: &[u8]) -> StageAnswer
 // The postlude of the word, to an output of n + 2 bytes or more.
 #[no_mangle]
 pub extern "C" fn fannavy_postlude(w: &[u8], out: &mut [u8]) -> PostludeAnswer
-    ensures { λ r. ⌜ (r ≡ postludeCall (now (w .entry)) (length (now (out .entry)))) × (now (out .exit) ≡ postludeOut (now (w .entry)) (now (out .entry))) ⌝ }
+    ensures { λ r. ⌜ r ≡ postludeCall (now (w .entry)) (length (now (out .entry))) ⌝ }
+    ensures { λ _. ⌜ now (out .exit) ≡ postludeOut (now (w .entry)) (now (out .entry)) ⌝ }
 {
     postlude::postlude_word(w, out)
 }
@@ -51,7 +52,8 @@ pub extern "C" fn fannavy_postlude(w: &[u8], out: &mut [u8]) -> PostludeAnswer
 // The word folded, to an output of n bytes or more.
 #[no_mangle]
 pub extern "C" fn fannavy_fold(w: &[u8], out: &mut [u8]) -> FoldAnswer
-    ensures { λ r. ⌜ (r ≡ foldCall (now (w .entry)) (length (now (out .entry)))) × (now (out .exit) ≡ foldOut (now (w .entry)) (now (out .entry))) ⌝ }
+    ensures { λ r. ⌜ r ≡ foldCall (now (w .entry)) (length (now (out .entry))) ⌝ }
+    ensures { λ _. ⌜ now (out .exit) ≡ foldOut (now (w .entry)) (now (out .entry)) ⌝ }
 {
     fold::fold_word(w, out)
 }
@@ -59,7 +61,8 @@ pub extern "C" fn fannavy_fold(w: &[u8], out: &mut [u8]) -> FoldAnswer
 // The word pass, to an output of n + 2 bytes or more.
 #[no_mangle]
 pub extern "C" fn fannavy_pass(w: &[u8], out: &mut [u8]) -> PassAnswer
-    ensures { λ r. ⌜ (r ≡ passCall (now (w .entry)) (length (now (out .entry)))) × (now (out .exit) ≡ passOut (now (w .entry)) (now (out .entry))) ⌝ }
+    ensures { λ r. ⌜ r ≡ passCall (now (w .entry)) (length (now (out .entry))) ⌝ }
+    ensures { λ _. ⌜ now (out .exit) ≡ passOut (now (w .entry)) (now (out .entry)) ⌝ }
 {
     pass::pass_word(w, out)
 }

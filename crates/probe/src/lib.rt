@@ -130,7 +130,8 @@ pub extern "C" fn probe_eq_s(
 // Copies the part of the word that the suffix stage keeps, and gives its length; 0, and nothing written, where it does not fit.
 #[no_mangle]
 pub extern "C" fn probe_stage_part(w: &[u8], out: &mut [u8]) -> usize
-    ensures { λ r. ⌜ (r ≡ partLength (stagePart (now (w .entry))) (length (now (out .entry)))) × (now (out .exit) ≡ partOut (stagePart (now (w .entry))) (now (out .entry))) ⌝ }
+    ensures { λ r. ⌜ r ≡ partLength (stagePart (now (w .entry))) (length (now (out .entry))) ⌝ }
+    ensures { λ _. ⌜ now (out .exit) ≡ partOut (stagePart (now (w .entry))) (now (out .entry)) ⌝ }
 {
     let part = stage::stage_part(w);
     if out.len() < part.len() {

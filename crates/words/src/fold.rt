@@ -62,7 +62,8 @@ fn write_folded(w: &[u8], out: &mut [u8])
 
 // The word with A to Z and Ç Ğ Ö Ş Ü in their small letters.
 pub fn fold_word(w: &[u8], out: &mut [u8]) -> FoldAnswer
-    ensures { λ r. ⌜ (r ≡ foldCall (now (w .entry)) (length (now (out .entry)))) × (now (out .exit) ≡ foldOut (now (w .entry)) (now (out .entry))) ⌝ }
+    ensures { λ r. ⌜ r ≡ foldCall (now (w .entry)) (length (now (out .entry))) ⌝ }
+    ensures { λ _. ⌜ now (out .exit) ≡ foldOut (now (w .entry)) (now (out .entry)) ⌝ }
 {
     let n = refusal::refusal_into(w, w.len(), out.len());
     if n != 0 {

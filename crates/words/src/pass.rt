@@ -10,7 +10,8 @@ ghost use lib.ListN.{length};
 ghost use Rattle.turkish.specs.Calls.{passCall, passOut};
 
 pub fn pass_word(w: &[u8], out: &mut [u8]) -> PassAnswer
-    ensures { λ r. ⌜ (r ≡ passCall (now (w .entry)) (length (now (out .entry)))) × (now (out .exit) ≡ passOut (now (w .entry)) (now (out .entry))) ⌝ }
+    ensures { λ r. ⌜ r ≡ passCall (now (w .entry)) (length (now (out .entry))) ⌝ }
+    ensures { λ _. ⌜ now (out .exit) ≡ passOut (now (w .entry)) (now (out .entry)) ⌝ }
 {
     let n = refusal::refusal_into(w, w.len() + 2, out.len());
     if n != 0 {

@@ -8,7 +8,8 @@ ghost use lib.ListN.{length};
 ghost use Rattle.turkish.specs.Calls.{postludeCall, postludeOut};
 
 pub fn postlude_word(w: &[u8], out: &mut [u8]) -> PostludeAnswer
-    ensures { λ r. ⌜ (r ≡ postludeCall (now (w .entry)) (length (now (out .entry)))) × (now (out .exit) ≡ postludeOut (now (w .entry)) (now (out .entry))) ⌝ }
+    ensures { λ r. ⌜ r ≡ postludeCall (now (w .entry)) (length (now (out .entry))) ⌝ }
+    ensures { λ _. ⌜ now (out .exit) ≡ postludeOut (now (w .entry)) (now (out .entry)) ⌝ }
 {
     let n = refusal::refusal_into(w, w.len() + 2, out.len());
     if n != 0 {

@@ -1,7 +1,6 @@
 // Why a call refuses a word, as document 01's number; 0 where it does not.
 use utf8::validity;
 ghost use mathlib.Core.Path.{_≡_};
-ghost use lib.ListN.{length};
 ghost use Rattle.turkish.specs.Calls.{refusal, refusalInto};
 
 // The longest word, in bytes.

@@ -17,7 +17,10 @@ same-length : tie.Need-same-length
 same-length c = search needs
 
 returns-2 : tie.Need-returns-2
-returns-2 c = part-copied _ _ _ _ _ (c .before .before .before .before .before .stage-part .ensures) (c .before .before .before .before .if1 .left) (c .before .before .copy .ensures .0) (c .before .before .copy .ensures .1)
+returns-2 c =
+    let at-copy = c .before .before in
+    let at-room = at-copy .before .before in
+    part-copied _ _ _ _ _ (at-room .before .stage-part .ensures) (at-room .if1 .left) (at-copy .copy .ensures .0) (at-copy .copy .ensures .1)
 
 pub probe-stage-part-spec : {M : Type 1} → statement M
 probe-stage-part-spec =

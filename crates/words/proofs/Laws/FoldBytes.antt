@@ -2,7 +2,7 @@
 -- the first does not matter, and only a first byte from 0xC3 to 0xC5, which has one byte after it, matters to the next. Assumes nothing.
 use Prim.Native.Nat.{ℕ, zero, suc, _+_, _/_, _%_, _≤_, _<_}
 use mathlib.Core.Path.{_≡_, refl, sym, ap, _∙_}
-use mathlib.Core.Bool.{true, false, _&&_, false≢true}
+use mathlib.Core.Bool.{_&&_, false≢true}
 use mathlib.Core.List.{List, [], _∷_, _++_, map, reverse, append-nil, reverse-cons, reverse-reverse, map-append}
 use native.Mathlib.Omega.{arith}
 use lib.ListN.{length, getD}
@@ -105,7 +105,8 @@ module _ (rest folded : List ℕ) (any : (q : ℕ) → foldBytes q rest ≡ fold
   fold-capital c h k = rw (encode-one c (omega arith), encode-one (c + 0x20) (omega arith), ← foldByte-capital p c h k, any c)
 
   -- a letter of two bytes, of which the second is folded
-  fold-letter : (c d a b b′ : ℕ) → encode c ≡ a ∷ b ∷ [] → encode d ≡ a ∷ b′ ∷ [] → 0xC0 ≤ a → foldByte a b ≡ b′ → foldBytes p (encode c ++ rest) ≡ encode d ++ folded
+  fold-letter : (c d a b b′ : ℕ) → encode c ≡ a ∷ b ∷ [] → encode d ≡ a ∷ b′ ∷ [] → 0xC0 ≤ a → foldByte a b ≡ b′
+      → foldBytes p (encode c ++ rest) ≡ encode d ++ folded
   unfolding foldBytes
   fold-letter c d a b b′ e f h g = rw (e, f, lead-stays p a h, g, any b)
 

@@ -1,15 +1,15 @@
--- What the calls of postlude and pass give and leave in the output, refused and not, by the number that the code found.
--- Assumes nothing.
+-- What the calls of postlude and pass give and leave in the output, refused and not, by the number that the code found. Both write
+-- the text of a repair, which fits. Assumes nothing.
 use Prim.Native.Nat.{ℕ, _+_, _≤_}
-use mathlib.Core.Path.{_≡_, refl, sym, ap, _∙_}
-use mathlib.Core.Bool.{Bool, true, false, cond}
-use mathlib.Core.List.{List, _++_}
-use lib.ListN.{length, take, drop}
+use mathlib.Core.Path.{_≡_, sym, ap, _∙_}
+use mathlib.Core.Bool.{true, false}
+use mathlib.Core.List.{List}
+use lib.ListN.{length, take, length-take}
 use lib.Seq.{take-length}
 use native.Mathlib.Nat.{le-refl}
 use native.Mathlib.Omega.{arith}
-use borrow.Author.Tests.{eq-eqb, ne-eqb}
-use Rattle.utf8.specs.Characters.{before, back}
+use borrow.Author.Tests.{ne-eqb}
+use Rattle.utf8.specs.Characters.{before}
 use Rattle.utf8.specs.Text.{TextOf}
 use Rattle.utf8.proofs.Laws.Characters.{back-le, before-back}
 use Rattle.turkish.specs.declared.answer.PostludeAnswer.{PostludeAnswer}
@@ -18,7 +18,8 @@ use Rattle.turkish.specs.Harmony.{moreThanOneSyllable}
 use Rattle.turkish.specs.Stage.{stage, kept}
 use Rattle.turkish.specs.Postlude.{postlude}
 use Rattle.turkish.specs.WordPass.{passStage, pass}
-use Rattle.turkish.specs.Calls.{chars, bytes, accepted, written, refusalInto, keptLength, postludeText, postludeRefusal, postludeCall, postludeOut, passText, passRefusal, passCall, passOut}
+use Rattle.turkish.specs.Calls.{chars, bytes, accepted, written, refusalInto, keptLength}
+use Rattle.turkish.specs.Calls.{postludeText, postludeRefusal, postludeCall, postludeOut, passText, passRefusal, passCall, passOut}
 use Rattle.turkish.proofs.Laws.Accepted.{accepted-text, bytes-chars}
 use Rattle.turkish.proofs.Laws.Words.{text-back}
 use Rattle.turkish.proofs.Sizes.{kept-bytes}
@@ -27,114 +28,128 @@ use Rattle.stages.specs.declared.postlude.Repair.{Repair}
 use Rattle.stages.specs.Reach.{stemOf}
 use Rattle.stages.specs.Repairs.{repairText, repairOf}
 use Rattle.stages.proofs.RepairText.{repair-text, repair-answer, repair-size}
-use Rattle.words.proofs.Laws.Refusals.{refusalInto-zero}
+use Rattle.words.proofs.Laws.Refusals.{into-accepted, into-room}
 
 -- ---- the texts ----
 
 -- the characters before the place where the text kept ends are those kept
-before-kept : (w : List ℕ) → before w (keptLength w) ≡ kept (chars w)
+before-keptLength : (w : List ℕ) → before w (keptLength w) ≡ kept (chars w)
 unfolding keptLength kept chars
-before-kept w = before-back w (length w) (stage (chars w) .removed)
+before-keptLength w = before-back w (length w) (stage (chars w) .removed)
 
 -- the repair of an accepted word has the postlude's text
-repair-postlude : (w : List ℕ) → accepted w ≡ true → repairText w (repairOf w (length w)) ≡ postludeText w
+repairText-postludeText : (w : List ℕ) → accepted w ≡ true → repairText w (repairOf w (length w)) ≡ postludeText w
 unfolding postludeText chars
-repair-postlude w a = repair-text w (length w) (rw take-length (accepted-text w a)) (le-refl (length w))
+repairText-postludeText w a = repair-text w (length w) (rw take-length (accepted-text w a)) (le-refl (length w))
 
--- the pass of a word of one syllable is the word
-pub pass-short : (w : List ℕ) → accepted w ≡ true → moreThanOneSyllable (chars w) ≡ false → passText w ≡ w
-unfolding passText pass
-pass-short w a s = rw s (bytes-chars w a)
+module _ (w : List ℕ) (a : accepted w ≡ true) where
+  -- the repair of the text kept is the postlude of it
+  repairText-kept : repairText w (repairOf w (keptLength w)) ≡ bytes (postlude (kept (chars w)))
+  unfolding keptLength
+  repairText-kept =
+      let t : TextOf (take (keptLength w) w) = text-back w (accepted-text w a) (stage (chars w) .removed) in
+      let h : keptLength w ≤ length w = back-le w (length w) (stage (chars w) .removed) in
+      repair-text w (keptLength w) t h ∙ ap (λ (cs : List ℕ). bytes (postlude cs)) (before-keptLength w)
 
--- the pass of one whose flag is false is the text kept
-pub pass-cut : (w : List ℕ) → accepted w ≡ true → moreThanOneSyllable (chars w) ≡ true → stage (chars w) .flag ≡ false → passText w ≡ take (keptLength w) w
-unfolding passText pass passStage
-pass-cut w a s f = rw (s, f) (sym (kept-bytes w a))
+  -- the pass of a word of one syllable is the word
+  passText-short : moreThanOneSyllable (chars w) ≡ false → passText w ≡ w
+  unfolding passText pass
+  passText-short s = rw s (bytes-chars w a)
 
--- the pass of any other is the repair of the text kept
-pub pass-repaired : (w : List ℕ) → accepted w ≡ true → moreThanOneSyllable (chars w) ≡ true → stage (chars w) .flag ≡ true → passText w ≡ repairText w (repairOf w (keptLength w))
-unfolding passText pass passStage keptLength
-pass-repaired w a s f =
-    rw (s, f) (sym (repair-text w (keptLength w) (text-back w (accepted-text w a) (stage (chars w) .removed)) (back-le w (length w) (stage (chars w) .removed)) ∙ ap (λ (cs : List ℕ). bytes (postlude cs)) (before-kept w)))
+  -- the pass of one whose flag is false is the text kept
+  passText-kept : moreThanOneSyllable (chars w) ≡ true → stage (chars w) .flag ≡ false → passText w ≡ take (keptLength w) w
+  unfolding passText pass passStage
+  passText-kept s f = rw (s, f) (sym (kept-bytes w a))
 
--- ---- the numbers ----
+  -- the pass of any other is the repair of the text kept
+  passText-repaired : moreThanOneSyllable (chars w) ≡ true → stage (chars w) .flag ≡ true → passText w ≡ repairText w (repairOf w (keptLength w))
+  unfolding passText pass passStage
+  passText-repaired s f = rw (s, f) (sym repairText-kept)
 
-module _ (w : List ℕ) (room n : ℕ) (e : n ≡ refusalInto w (length w + 2) room) where
-  -- a call that is not refused accepts the word
-  pub into-accepted : n ≡ 0 → accepted w ≡ true
-  unfolding accepted
-  into-accepted z = eq-eqb _ 0 (refusalInto-zero w (length w + 2) room (sym e ∙ z) .0)
+-- ---- the room ----
 
-  -- and has room for two bytes more
-  pub into-room : n ≡ 0 → length w + 2 ≤ room
-  into-room z = refusalInto-zero w (length w + 2) room (sym e ∙ z) .1
+-- an output of two bytes more than the word
+module _ (w : List ℕ) (room n : ℕ) (e : n ≡ refusalInto w (length w + 2) room) (z : n ≡ 0) where
+  -- the word fits
+  pub word-fits : length w ≤ room
+  word-fits = omega (arith, into-room w (length w + 2) room n e z)
 
+  -- and a front part of it
+  pub front-fits : (k : ℕ) → length (take k w) ≤ room
+  front-fits k = omega (arith, into-room w (length w + 2) room n e z, length-take k w)
+
+  -- and a repair of one
+  pub repair-fits : (k : ℕ) (r : Repair) → r ≡ repairOf w k → k ≤ length w
+      → (r .keep ≤ length w) × ((r .more ≤ 2) × (r .keep + r .more ≤ room))
+  repair-fits k r q h =
+      let s = repair-size w k h in
+      rw q (omega arith, (omega arith, omega (arith, s .sum, s .fits, into-room w (length w + 2) room n e z)))
+
+-- ---- the calls ----
+
+module _ (w out : List ℕ) (n : ℕ) (e : n ≡ refusalInto w (length w + 2) (length out)) where
   -- ---- postlude ----
 
-  pub postludeCall-refused : (n ≡ 0 → ⊥) → _≡_ {A = PostludeAnswer} (record { refusal = n; length = 0; yes = false }) (postludeCall w room)
-  unfolding postludeCall postludeRefusal
-  postludeCall-refused h = rw (← e, ne-eqb n 0 h)
+  -- a refused call gives its number and leaves the output
+  pub postlude-refused : (n ≡ 0 → ⊥)
+      → (_≡_ {A = PostludeAnswer} (record { refusal = n; length = 0; yes = false }) (postludeCall w (length out)))
+      × (out ≡ postludeOut w out)
+  unfolding postludeCall postludeOut postludeRefusal
+  postlude-refused h = (rw (← e, ne-eqb n 0 h), rw (← e, ne-eqb n 0 h))
 
-  pub postludeCall-given : n ≡ 0 → (r : Repair) (k : ℕ) → r ≡ repairOf w (length w) → k ≡ length (repairText w r)
-      → _≡_ {A = PostludeAnswer} (record { refusal = 0; length = k; yes = r .yes }) (postludeCall w room)
-  unfolding postludeCall postludeRefusal chars
-  postludeCall-given z r k q l = rw (← e, z, ← repair-postlude w (into-accepted z), l, q, repair-answer w (length w))
+  -- any other gives the length of the repair's text, and leaves it written
+  pub postlude-given : n ≡ 0 → (r : Repair) → r ≡ repairOf w (length w)
+      → (k : ℕ) (last : List ℕ) → k ≡ length (repairText w r) → last ≡ written (repairText w r) out
+      → (_≡_ {A = PostludeAnswer} (record { refusal = 0; length = k; yes = r .yes }) (postludeCall w (length out)))
+      × (last ≡ postludeOut w out)
+  unfolding postludeCall postludeOut postludeRefusal chars
+  postlude-given z r q k last l o =
+      let t = repairText-postludeText w (into-accepted w (length w + 2) (length out) n e z) in
+      (rw (← e, z, ← t, l, q, repair-answer w (length w)), o ∙ rw (← e, z, ← t, q))
 
   -- ---- pass ----
 
-  pub passCall-refused : (n ≡ 0 → ⊥) → _≡_ {A = PassAnswer} (record { refusal = n; length = 0; syllable = false; yes = false; flag = false }) (passCall w room)
-  unfolding passCall passRefusal
-  passCall-refused h = rw (← e, ne-eqb n 0 h)
+  -- a refused call gives its number and leaves the output
+  pub pass-refused : (n ≡ 0 → ⊥)
+      → (_≡_ {A = PassAnswer} (record { refusal = n; length = 0; syllable = false; yes = false; flag = false }) (passCall w (length out)))
+      × (out ≡ passOut w out)
+  unfolding passCall passOut passRefusal
+  pass-refused h = (rw (← e, ne-eqb n 0 h), rw (← e, ne-eqb n 0 h))
 
-  pub passCall-short : n ≡ 0 → (k : ℕ) → k ≡ length w → moreThanOneSyllable (chars w) ≡ false
-      → _≡_ {A = PassAnswer} (record { refusal = 0; length = k; syllable = false; yes = false; flag = true }) (passCall w room)
-  unfolding passCall passRefusal pass
-  passCall-short z k l s = rw (← e, z, pass-short w (into-accepted z) s, s, l)
+  -- a word of one syllable is written as it is
+  pub pass-short : n ≡ 0 → moreThanOneSyllable (chars w) ≡ false
+      → (k : ℕ) (last : List ℕ) → k ≡ length w → last ≡ written w out
+      → (_≡_ {A = PassAnswer} (record { refusal = 0; length = k; syllable = false; yes = false; flag = true }) (passCall w (length out)))
+      × (last ≡ passOut w out)
+  unfolding passCall passOut passRefusal pass
+  pass-short z y k last l o =
+      let t = passText-short w (into-accepted w (length w + 2) (length out) n e z) y in
+      (rw (← e, z, t, y, l), o ∙ rw (← e, z, t))
 
-  pub passCall-cut : n ≡ 0 → (s : Stem) (k : ℕ) → s ≡ stemOf w → k ≡ length (take (s .kept) w) → moreThanOneSyllable (chars w) ≡ true → s .flag ≡ false
-      → _≡_ {A = PassAnswer} (record { refusal = 0; length = k; syllable = true; yes = s .yes; flag = false }) (passCall w room)
-  unfolding passCall passRefusal pass passStage stemOf
-  passCall-cut z s k q l y f =
-      let g : stage (chars w) .flag ≡ false = sym (ap (λ (x : Stem). x .flag) q) ∙ f in
-      rw (← e, z, pass-cut w (into-accepted z) y g, y, l, q, g)
+  module _ (z : n ≡ 0) (y : moreThanOneSyllable (chars w) ≡ true) (s : Stem) (q : s ≡ stemOf w) where
+    -- the code's flag is the stage's
+    stemOf-flag : s .flag ≡ stage (chars w) .flag
+    unfolding stemOf
+    stemOf-flag = ap (λ (x : Stem). x .flag) q
 
-  pub passCall-repaired : n ≡ 0 → (s : Stem) (r : Repair) (k : ℕ) → s ≡ stemOf w → r ≡ repairOf w (s .kept) → k ≡ length (repairText w r)
-      → moreThanOneSyllable (chars w) ≡ true → s .flag ≡ true
-      → _≡_ {A = PassAnswer} (record { refusal = 0; length = k; syllable = true; yes = s .yes; flag = true }) (passCall w room)
-  unfolding passCall passRefusal pass passStage stemOf
-  passCall-repaired z s r k q p l y f =
-      let g : stage (chars w) .flag ≡ true = sym (ap (λ (x : Stem). x .flag) q) ∙ f in
-      rw (← e, z, pass-repaired w (into-accepted z) y g, y, l, p, q, g)
+    -- where the flag is false the text kept is written
+    pub pass-kept : s .flag ≡ false
+        → (k : ℕ) (last : List ℕ) → k ≡ length (take (s .kept) w) → last ≡ written (take (s .kept) w) out
+        → (_≡_ {A = PassAnswer} (record { refusal = 0; length = k; syllable = true; yes = s .yes; flag = false }) (passCall w (length out)))
+        × (last ≡ passOut w out)
+    unfolding passCall passOut passRefusal pass passStage stemOf
+    pass-kept f k last l o =
+        let g : stage (chars w) .flag ≡ false = sym stemOf-flag ∙ f in
+        let t = passText-kept w (into-accepted w (length w + 2) (length out) n e z) y g in
+        (rw (← e, z, t, y, l, q, g), o ∙ rw (← e, z, t, q))
 
--- ---- the outputs ----
-
-module _ (w out : List ℕ) (n : ℕ) (e : n ≡ refusalInto w (length w + 2) (length out)) where
-  pub postludeOut-refused : (n ≡ 0 → ⊥) → out ≡ postludeOut w out
-  unfolding postludeOut postludeRefusal
-  postludeOut-refused h = rw (← e, ne-eqb n 0 h)
-
-  pub postludeOut-given : n ≡ 0 → (r : Repair) → r ≡ repairOf w (length w) → written (repairText w r) out ≡ postludeOut w out
-  unfolding postludeOut postludeRefusal
-  postludeOut-given z r q = rw (← e, z, q, ← repair-postlude w (into-accepted w (length out) n e z))
-
-  pub passOut-refused : (n ≡ 0 → ⊥) → out ≡ passOut w out
-  unfolding passOut passRefusal
-  passOut-refused h = rw (← e, ne-eqb n 0 h)
-
-  pub passOut-short : n ≡ 0 → moreThanOneSyllable (chars w) ≡ false → written w out ≡ passOut w out
-  unfolding passOut passRefusal
-  passOut-short z s = rw (← e, z, pass-short w (into-accepted w (length out) n e z) s)
-
-  pub passOut-cut : n ≡ 0 → (s : Stem) → s ≡ stemOf w → moreThanOneSyllable (chars w) ≡ true → s .flag ≡ false → written (take (s .kept) w) out ≡ passOut w out
-  unfolding passOut passRefusal stemOf
-  passOut-cut z s q y f = rw (← e, z, pass-cut w (into-accepted w (length out) n e z) y (sym (ap (λ (x : Stem). x .flag) q) ∙ f), q)
-
-  pub passOut-repaired : n ≡ 0 → (s : Stem) (r : Repair) → s ≡ stemOf w → r ≡ repairOf w (s .kept) → moreThanOneSyllable (chars w) ≡ true → s .flag ≡ true
-      → written (repairText w r) out ≡ passOut w out
-  unfolding passOut passRefusal stemOf
-  passOut-repaired z s r q p y f = rw (← e, z, pass-repaired w (into-accepted w (length out) n e z) y (sym (ap (λ (x : Stem). x .flag) q) ∙ f), p, q)
-
--- a repair of a part of the word fits an output of two bytes more than the word
-pub repair-fits : (w : List ℕ) (n room : ℕ) (r : Repair) → r ≡ repairOf w n → n ≤ length w → length w + 2 ≤ room
-    → (r .keep ≤ length w) × (r .more ≤ 2) × (r .keep + r .more ≤ room)
-repair-fits w n room r q l m = rw q (let s = repair-size w n l in (omega arith, omega arith, omega (arith, s .sum, s .fits)))
+    -- where it is true, its repair
+    pub pass-repaired : s .flag ≡ true → (r : Repair) → r ≡ repairOf w (s .kept)
+        → (k : ℕ) (last : List ℕ) → k ≡ length (repairText w r) → last ≡ written (repairText w r) out
+        → (_≡_ {A = PassAnswer} (record { refusal = 0; length = k; syllable = true; yes = s .yes; flag = true }) (passCall w (length out)))
+        × (last ≡ passOut w out)
+    unfolding passCall passOut passRefusal pass passStage stemOf
+    pass-repaired f r p k last l o =
+        let g : stage (chars w) .flag ≡ true = sym stemOf-flag ∙ f in
+        let t = passText-repaired w (into-accepted w (length w + 2) (length out) n e z) y g in
+        (rw (← e, z, t, y, l, p, q, g), o ∙ rw (← e, z, t, p, q))

@@ -1,10 +1,11 @@
 -- What the syllable check's and the suffix stage's calls give, refused and not, by the number that the code found.
 -- Assumes nothing.
 use Prim.Native.Nat.{ℕ, _≤_}
-use mathlib.Core.Path.{_≡_, refl, sym, ap, _∙_}
+use mathlib.Core.Path.{_≡_, sym, _∙_}
 use mathlib.Core.Bool.{Bool, true, false}
 use mathlib.Core.List.{List, []}
-use lib.ListN.{length, take}
+use lib.ListN.{length, take, length-take}
+use native.Mathlib.Omega.{arith}
 use borrow.Author.Tests.{eq-eqb, ne-eqb}
 use Rattle.utf8.specs.Characters.{before}
 use Rattle.utf8.proofs.Laws.Characters.{back-le}
@@ -18,40 +19,48 @@ use Rattle.stages.specs.Reach.{stemOf}
 
 module _ (w : List ℕ) (n : ℕ) (e : n ≡ refusal w) where
   -- a number means that the word is not accepted
-  pub accepted-no : (n ≡ 0 → ⊥) → accepted w ≡ false
+  accepted-no : (n ≡ 0 → ⊥) → accepted w ≡ false
   unfolding accepted
   accepted-no h = rw (← e, ne-eqb n 0 h)
 
   -- no number that it is
-  pub accepted-yes : n ≡ 0 → accepted w ≡ true
+  accepted-yes : n ≡ 0 → accepted w ≡ true
   unfolding accepted
   accepted-yes z = eq-eqb (refusal w) 0 (sym e ∙ z)
 
   -- ---- syllable check ----
 
+  -- a refused check gives its number and no
   pub syllableCall-refused : (n ≡ 0 → ⊥) → _≡_ {A = SyllableAnswer} (record { refusal = n; yes = false }) (syllableCall w)
   unfolding syllableCall
   syllableCall-refused h = rw (accepted-no h, ← e)
 
-  pub syllableCall-given : n ≡ 0 → (t : Bool) → t ≡ moreThanOneSyllable (before w (length w)) → _≡_ {A = SyllableAnswer} (record { refusal = 0; yes = t }) (syllableCall w)
+  -- any other tells whether the word has two vowels or more
+  pub syllableCall-given : n ≡ 0 → (t : Bool) → t ≡ moreThanOneSyllable (before w (length w))
+      → _≡_ {A = SyllableAnswer} (record { refusal = 0; yes = t }) (syllableCall w)
   unfolding syllableCall chars
   syllableCall-given z t q = rw (accepted-yes z, q)
 
   -- ---- suffix stage ----
 
+  -- a refused stage hands back nothing
   pub stagePart-refused : (n ≡ 0 → ⊥) → [] ≡ stagePart w
   unfolding stagePart
   stagePart-refused h = rw (accepted-no h)
 
-  pub stagePart-given : n ≡ 0 → (k : ℕ) → k ≡ keptLength w → take k w ≡ stagePart w
-  unfolding stagePart
-  stagePart-given z k q = rw (accepted-yes z, q)
+  -- any other the front of the word that it keeps
+  pub stagePart-given : n ≡ 0 → (s : Stem) → s ≡ stemOf w → take (s .kept) w ≡ stagePart w
+  unfolding stagePart stemOf
+  stagePart-given z s q = rw (accepted-yes z, q)
 
+  -- a refused stage gives its number, length 0, no, and false for the flag
   pub stageCall-refused : (n ≡ 0 → ⊥) → _≡_ {A = StageAnswer} (record { refusal = n; length = 0; yes = false; flag = false }) (stageCall w)
   unfolding stageCall
   stageCall-refused h = rw (accepted-no h, ← e)
 
-  pub stageCall-given : n ≡ 0 → (s : Stem) → s ≡ stemOf w → _≡_ {A = StageAnswer} (record { refusal = 0; length = s .kept; yes = s .yes; flag = s .flag }) (stageCall w)
+  -- any other the length kept, yes or no, and the flag
+  pub stageCall-given : n ≡ 0 → (s : Stem) → s ≡ stemOf w
+      → _≡_ {A = StageAnswer} (record { refusal = 0; length = s .kept; yes = s .yes; flag = s .flag }) (stageCall w)
   unfolding stageCall stemOf
   stageCall-given z s q = rw (accepted-yes z, q)
 
@@ -59,3 +68,7 @@ module _ (w : List ℕ) (n : ℕ) (e : n ≡ refusal w) where
 pub kept-le : (w : List ℕ) (s : Stem) → s ≡ stemOf w → s .kept ≤ length w
 unfolding stemOf keptLength
 kept-le w s q = rw q (back-le w (length w) (stage (chars w) .removed))
+
+-- and as long as the stage says
+pub kept-length-take : (w : List ℕ) (s : Stem) → s ≡ stemOf w → s .kept ≡ length (take (s .kept) w)
+kept-length-take w s q = omega (arith, length-take (s .kept) w, kept-le w s q)

@@ -1,10 +1,7 @@
 -- `words::postlude::postlude_word` meets its contract: the number found says which case of `postludeCall` and `postludeOut` holds;
 -- the repair fits the output. Assumes nothing.
-use Rattle.words.proofs.Laws.RepairCalls.{postludeCall-refused, postludeOut-refused, postludeCall-given, postludeOut-given, into-room, repair-fits}
-use denote.Ref.{now}
-use lib.ListN.{length}
+use Rattle.words.proofs.Laws.RepairCalls.{repair-fits, postlude-refused, postlude-given}
 use native.Mathlib.Nat.{le-refl}
-use mathlib.Core.Path.{_∙_}
 use borrow.Author.Needs.{needs}
 use Rattle.words.proofs.postlude.postlude_word.Statement.{statement}
 use Rattle.words.proofs.postlude.postlude_word.Tie as tie
@@ -16,19 +13,28 @@ refusal-into-requires : tie.Need-refusal-into-requires
 refusal-into-requires c κs = search needs
 
 returns : tie.Need-returns
-returns c = let a = c .before .before .before .before .args in (postludeCall-refused (now (a .w)) (length (now (a .out))) _ (c .before .refusal-into .ensures) (c .if1 .taken), postludeOut-refused (now (a .w)) (now (a .out)) _ (c .before .refusal-into .ensures) (c .if1 .taken))
+returns c = postlude-refused _ _ _ (c .before .refusal-into .ensures) (c .if1 .taken)
 
 postlude-requires : tie.Need-postlude-requires
 postlude-requires c κs = search needs
 
 write-repair-requires : tie.Need-write-repair-requires
-write-repair-requires c κs = let a = c .before .before .before .before .before .before .args in repair-fits (now (a .w)) (length (now (a .w))) (length (now (a .out))) _ (c .before .postlude .ensures) (le-refl _) (into-room (now (a .w)) (length (now (a .out))) _ (c .before .before .before .refusal-into .ensures) (c .before .before .if1 .left))
+write-repair-requires c κs =
+    let at-number = c .before .before in
+    repair-fits _ _ _ (at-number .before .refusal-into .ensures) (at-number .if1 .left) _ _ (c .before .postlude .ensures) (le-refl _)
 
 same-length : tie.Need-same-length
 same-length c = search needs
 
 returns-2 : tie.Need-returns-2
-returns-2 c = let a = c .before .before .before .before .before .before .before .before .before .args in (postludeCall-given (now (a .w)) (length (now (a .out))) _ (c .before .before .before .before .before .before .refusal-into .ensures) (c .before .before .before .before .before .if1 .left) _ _ (c .before .before .before .before .postlude .ensures) (c .before .before .write-repair .ensures .0), c .before .before .write-repair .ensures .1 ∙ postludeOut-given (now (a .w)) (now (a .out)) _ (c .before .before .before .before .before .before .refusal-into .ensures) (c .before .before .before .before .before .if1 .left) _ (c .before .before .before .before .postlude .ensures))
+returns-2 c =
+    let at-repair = c .before .before in
+    let at-postlude = at-repair .before .before in
+    let at-number = at-postlude .before in
+    postlude-given _ _ _ (at-number .before .refusal-into .ensures) (at-number .if1 .left) _
+    (at-postlude .postlude .ensures) _ _
+    (at-repair .write-repair .ensures .0)
+    (at-repair .write-repair .ensures .1)
 
 pub postlude-word-spec : {M : Type 1} → statement M
 postlude-word-spec =

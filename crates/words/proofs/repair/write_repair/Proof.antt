@@ -24,9 +24,11 @@ same-length c = search needs
 
 returns : tie.Need-returns
 returns c =
-    let at-start = c .before .before .before .before .before .before .before .before .before .before .before in (
-      length-repair _ _ (at-start .pre .0) (at-start .pre .1),
-      written-repair _ _ (at-start .pre .0) (at-start .pre .1) _ _ _ (c .before .before .before .before .before .before .copy .ensures .1) (c .before .before .write-two .ensures),
+    let at-two = c .before .before in
+    let at-copy = at-two .before .before .before .before in
+    let fits = at-copy .before .before .before .before .before .pre in (
+      length-repair _ _ (fits .0) (fits .1 .0),
+      written-repair _ _ (fits .0) (fits .1 .0) _ _ _ (at-copy .copy .ensures .1) (at-two .write-two .ensures),
     )
 
 pub write-repair-spec : {M : Type 1} → statement M

@@ -1,12 +1,6 @@
 -- `words::stage::stage_part` meets its contract: the number found says which case of `stagePart` holds; the text kept lies within
 -- the word. Assumes nothing.
-use Rattle.words.proofs.Laws.WordCalls.{stagePart-refused, stagePart-given, kept-le}
-use Rattle.stages.specs.Reach.{stemOf}
-use Rattle.stages.specs.declared.stem.Stem.{Stem}
-use lib.ListN.{length-take}
-use denote.Ref.{now}
-use mathlib.Core.Path.{ap, _∙_}
-use native.Mathlib.Omega.{arith}
+use Rattle.words.proofs.Laws.WordCalls.{stagePart-refused, stagePart-given, kept-length-take}
 use borrow.Author.Needs.{needs}
 use Rattle.words.proofs.stage.stage_part.Statement.{statement}
 use Rattle.words.proofs.stage.stage_part.Tie as tie
@@ -24,11 +18,12 @@ stem-nominal-verb-suffixes-requires : tie.Need-stem-nominal-verb-suffixes-requir
 stem-nominal-verb-suffixes-requires c κs = search needs
 
 slice-aggregate-result-2 : tie.Need-slice-aggregate-result-2
-slice-aggregate-result-2 c = let w = now (c .before .before .before .before .before .args .w) in let s = c .before .stem-nominal-verb-suffixes .result in omega (arith, length-take (s .kept) w, kept-le w s (c .before .stem-nominal-verb-suffixes .ensures))
+slice-aggregate-result-2 c = kept-length-take _ _ (c .before .stem-nominal-verb-suffixes .ensures)
 
 returns-2 : tie.Need-returns-2
-unfolding stemOf
-returns-2 c = stagePart-given _ _ (c .before .before .before .refusal-of .ensures) (c .before .before .if1 .left) _ (ap (λ (s : Stem). s .kept) (c .before .stem-nominal-verb-suffixes .ensures))
+returns-2 c =
+    let at-number = c .before .before in
+    stagePart-given _ _ (at-number .before .refusal-of .ensures) (at-number .if1 .left) _ (c .before .stem-nominal-verb-suffixes .ensures)
 
 pub stage-part-spec : {M : Type 1} → statement M
 stage-part-spec =
