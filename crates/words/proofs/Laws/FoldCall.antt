@@ -14,14 +14,14 @@ use Rattle.words.proofs.Laws.FoldBytes.{foldBytes-text}
 
 module _ (w out : List ℕ) (n : ℕ) (e : n ≡ refusalInto w (length w) (length out)) where
   -- a refused call gives its number and leaves the output
-  pub fold-refused : (n ≡ 0 → ⊥) → (record { refusal = n; length = 0 } ≡ foldCall w (length out)) × (out ≡ foldOut w out)
+  pub foldCall-foldOut-refused : (n ≡ 0 → ⊥) → (record { refusal = n; length = 0 } ≡ foldCall w (length out)) × (out ≡ foldOut w out)
   unfolding foldCall foldOut foldRefusal
-  fold-refused h = (rw (← e, ne-eqb n 0 h), rw (← e, ne-eqb n 0 h))
+  foldCall-foldOut-refused h = (rw (← e, ne-eqb n 0 h), rw (← e, ne-eqb n 0 h))
 
   -- any other gives the word's length, and leaves the folded bytes written
-  pub fold-given : n ≡ 0 → (last : List ℕ) → last ≡ written (foldBytes 0 w) out
+  pub foldCall-foldOut-given : n ≡ 0 → (last : List ℕ) → last ≡ written (foldBytes 0 w) out
       → (record { refusal = 0; length = length w } ≡ foldCall w (length out)) × (last ≡ foldOut w out)
   unfolding foldCall foldOut foldRefusal
-  fold-given z last o =
+  foldCall-foldOut-given z last o =
       let a = into-accepted w (length w) (length out) n e z in
       (rw (← e, z, foldText-size w a), o ∙ rw (← e, z, foldBytes-text w (accepted-text w a)))

@@ -52,19 +52,19 @@ module _ (w : List ℕ) (a : accepted w ≡ true) where
       repair-text w (keptLength w) t h ∙ ap (λ (cs : List ℕ). bytes (postlude cs)) (before-keptLength w)
 
   -- the pass of a word of one syllable is the word
-  passText-short : moreThanOneSyllable (chars w) ≡ false → passText w ≡ w
+  pub pass-short : moreThanOneSyllable (chars w) ≡ false → passText w ≡ w
   unfolding passText pass
-  passText-short s = rw s (bytes-chars w a)
+  pass-short s = rw s (bytes-chars w a)
 
   -- the pass of one whose flag is false is the text kept
-  passText-kept : moreThanOneSyllable (chars w) ≡ true → stage (chars w) .flag ≡ false → passText w ≡ take (keptLength w) w
+  pub pass-kept : moreThanOneSyllable (chars w) ≡ true → stage (chars w) .flag ≡ false → passText w ≡ take (keptLength w) w
   unfolding passText pass passStage
-  passText-kept s f = rw (s, f) (sym (kept-bytes w a))
+  pass-kept s f = rw (s, f) (sym (kept-bytes w a))
 
   -- the pass of any other is the repair of the text kept
-  passText-repaired : moreThanOneSyllable (chars w) ≡ true → stage (chars w) .flag ≡ true → passText w ≡ repairText w (repairOf w (keptLength w))
+  pub pass-repaired : moreThanOneSyllable (chars w) ≡ true → stage (chars w) .flag ≡ true → passText w ≡ repairText w (repairOf w (keptLength w))
   unfolding passText pass passStage
-  passText-repaired s f = rw (s, f) (sym repairText-kept)
+  pass-repaired s f = rw (s, f) (sym repairText-kept)
 
 -- ---- the room ----
 
@@ -78,12 +78,10 @@ module _ (w : List ℕ) (room n : ℕ) (e : n ≡ refusalInto w (length w + 2) r
   pub front-fits : (k : ℕ) → length (take k w) ≤ room
   front-fits k = omega (arith, into-room w (length w + 2) room n e z, length-take k w)
 
-  -- and a repair of one
-  pub repair-fits : (k : ℕ) (r : Repair) → r ≡ repairOf w k → k ≤ length w
-      → (r .keep ≤ length w) × ((r .more ≤ 2) × (r .keep + r .more ≤ room))
-  repair-fits k r q h =
-      let s = repair-size w k h in
-      rw q (omega arith, (omega arith, omega (arith, s .sum, s .fits, into-room w (length w + 2) room n e z)))
+-- a repair of a front part of the word fits an output of two bytes more than the word
+pub repair-fits : (w : List ℕ) (k room : ℕ) (r : Repair) → r ≡ repairOf w k → k ≤ length w → length w + 2 ≤ room
+    → (r .keep ≤ length w) × (r .more ≤ 2) × (r .keep + r .more ≤ room)
+repair-fits w k room r q h l = rw q (let s = repair-size w k h in (omega arith, omega arith, omega (arith, s .sum, s .fits)))
 
 -- ---- the calls ----
 
@@ -91,39 +89,39 @@ module _ (w out : List ℕ) (n : ℕ) (e : n ≡ refusalInto w (length w + 2) (l
   -- ---- postlude ----
 
   -- a refused call gives its number and leaves the output
-  pub postlude-refused : (n ≡ 0 → ⊥)
+  pub postludeCall-postludeOut-refused : (n ≡ 0 → ⊥)
       → (_≡_ {A = PostludeAnswer} (record { refusal = n; length = 0; yes = false }) (postludeCall w (length out)))
       × (out ≡ postludeOut w out)
   unfolding postludeCall postludeOut postludeRefusal
-  postlude-refused h = (rw (← e, ne-eqb n 0 h), rw (← e, ne-eqb n 0 h))
+  postludeCall-postludeOut-refused h = (rw (← e, ne-eqb n 0 h), rw (← e, ne-eqb n 0 h))
 
   -- any other gives the length of the repair's text, and leaves it written
-  pub postlude-given : n ≡ 0 → (r : Repair) → r ≡ repairOf w (length w)
+  pub postludeCall-postludeOut-given : n ≡ 0 → (r : Repair) → r ≡ repairOf w (length w)
       → (k : ℕ) (last : List ℕ) → k ≡ length (repairText w r) → last ≡ written (repairText w r) out
       → (_≡_ {A = PostludeAnswer} (record { refusal = 0; length = k; yes = r .yes }) (postludeCall w (length out)))
       × (last ≡ postludeOut w out)
   unfolding postludeCall postludeOut postludeRefusal chars
-  postlude-given z r q k last l o =
+  postludeCall-postludeOut-given z r q k last l o =
       let t = repairText-postludeText w (into-accepted w (length w + 2) (length out) n e z) in
       (rw (← e, z, ← t, l, q, repair-answer w (length w)), o ∙ rw (← e, z, ← t, q))
 
   -- ---- pass ----
 
   -- a refused call gives its number and leaves the output
-  pub pass-refused : (n ≡ 0 → ⊥)
+  pub passCall-passOut-refused : (n ≡ 0 → ⊥)
       → (_≡_ {A = PassAnswer} (record { refusal = n; length = 0; syllable = false; yes = false; flag = false }) (passCall w (length out)))
       × (out ≡ passOut w out)
   unfolding passCall passOut passRefusal
-  pass-refused h = (rw (← e, ne-eqb n 0 h), rw (← e, ne-eqb n 0 h))
+  passCall-passOut-refused h = (rw (← e, ne-eqb n 0 h), rw (← e, ne-eqb n 0 h))
 
   -- a word of one syllable is written as it is
-  pub pass-short : n ≡ 0 → moreThanOneSyllable (chars w) ≡ false
+  pub passCall-passOut-short : n ≡ 0 → moreThanOneSyllable (chars w) ≡ false
       → (k : ℕ) (last : List ℕ) → k ≡ length w → last ≡ written w out
       → (_≡_ {A = PassAnswer} (record { refusal = 0; length = k; syllable = false; yes = false; flag = true }) (passCall w (length out)))
       × (last ≡ passOut w out)
   unfolding passCall passOut passRefusal pass
-  pass-short z y k last l o =
-      let t = passText-short w (into-accepted w (length w + 2) (length out) n e z) y in
+  passCall-passOut-short z y k last l o =
+      let t = pass-short w (into-accepted w (length w + 2) (length out) n e z) y in
       (rw (← e, z, t, y, l), o ∙ rw (← e, z, t))
 
   module _ (z : n ≡ 0) (y : moreThanOneSyllable (chars w) ≡ true) (s : Stem) (q : s ≡ stemOf w) where
@@ -133,23 +131,23 @@ module _ (w out : List ℕ) (n : ℕ) (e : n ≡ refusalInto w (length w + 2) (l
     stemOf-flag = ap (λ (x : Stem). x .flag) q
 
     -- where the flag is false the text kept is written
-    pub pass-kept : s .flag ≡ false
+    pub passCall-passOut-kept : s .flag ≡ false
         → (k : ℕ) (last : List ℕ) → k ≡ length (take (s .kept) w) → last ≡ written (take (s .kept) w) out
         → (_≡_ {A = PassAnswer} (record { refusal = 0; length = k; syllable = true; yes = s .yes; flag = false }) (passCall w (length out)))
         × (last ≡ passOut w out)
     unfolding passCall passOut passRefusal pass passStage stemOf
-    pass-kept f k last l o =
+    passCall-passOut-kept f k last l o =
         let g : stage (chars w) .flag ≡ false = sym stemOf-flag ∙ f in
-        let t = passText-kept w (into-accepted w (length w + 2) (length out) n e z) y g in
+        let t = pass-kept w (into-accepted w (length w + 2) (length out) n e z) y g in
         (rw (← e, z, t, y, l, q, g), o ∙ rw (← e, z, t, q))
 
     -- where it is true, its repair
-    pub pass-repaired : s .flag ≡ true → (r : Repair) → r ≡ repairOf w (s .kept)
+    pub passCall-passOut-repaired : s .flag ≡ true → (r : Repair) → r ≡ repairOf w (s .kept)
         → (k : ℕ) (last : List ℕ) → k ≡ length (repairText w r) → last ≡ written (repairText w r) out
         → (_≡_ {A = PassAnswer} (record { refusal = 0; length = k; syllable = true; yes = s .yes; flag = true }) (passCall w (length out)))
         × (last ≡ passOut w out)
     unfolding passCall passOut passRefusal pass passStage stemOf
-    pass-repaired f r p k last l o =
+    passCall-passOut-repaired f r p k last l o =
         let g : stage (chars w) .flag ≡ true = sym stemOf-flag ∙ f in
-        let t = passText-repaired w (into-accepted w (length w + 2) (length out) n e z) y g in
+        let t = pass-repaired w (into-accepted w (length w + 2) (length out) n e z) y g in
         (rw (← e, z, t, y, l, p, q, g), o ∙ rw (← e, z, t, p, q))

@@ -2,7 +2,7 @@
 -- Assumes nothing.
 use borrow.Author.Needs.{needs}
 use Rattle.words.proofs.Laws.Refusals.{into-room}
-use Rattle.words.proofs.Laws.FoldCall.{fold-refused, fold-given}
+use Rattle.words.proofs.Laws.FoldCall.{foldCall-foldOut-refused, foldCall-foldOut-given}
 use Rattle.words.proofs.fold.fold_word.Statement.{statement}
 use Rattle.words.proofs.fold.fold_word.Tie as tie
 
@@ -10,7 +10,7 @@ refusal-into-requires : tie.Need-refusal-into-requires
 refusal-into-requires c κs = search needs
 
 returns : tie.Need-returns
-returns c = fold-refused _ _ _ (c .before .refusal-into .ensures) (c .if1 .taken)
+returns c = foldCall-foldOut-refused _ _ _ (c .before .refusal-into .ensures) (c .if1 .taken)
 
 write-folded-requires : tie.Need-write-folded-requires
 write-folded-requires c κs = into-room _ _ _ _ (c .before .before .refusal-into .ensures) (c .before .if1 .left)
@@ -21,7 +21,7 @@ same-length c = search needs
 returns-2 : tie.Need-returns-2
 returns-2 c =
     let at-number = c .before .before .before .before in
-    fold-given _ _ _ (at-number .before .refusal-into .ensures) (at-number .if1 .left) _ (c .before .before .write-folded .ensures)
+    foldCall-foldOut-given _ _ _ (at-number .before .refusal-into .ensures) (at-number .if1 .left) _ (c .before .before .write-folded .ensures)
 
 pub fold-word-spec : {M : Type 1} → statement M
 fold-word-spec =

@@ -1,6 +1,8 @@
 -- `words::pass::pass_word` meets its contract: the number, the syllable answer and the flag say which case of `passCall` and
 -- `passOut` holds. Assumes nothing.
-use Rattle.words.proofs.Laws.RepairCalls.{word-fits, front-fits, repair-fits, pass-refused, pass-short, pass-kept, pass-repaired}
+use Rattle.words.proofs.Laws.Refusals.{into-room}
+use Rattle.words.proofs.Laws.RepairCalls.{word-fits, front-fits, repair-fits}
+use Rattle.words.proofs.Laws.RepairCalls.{passCall-passOut-refused, passCall-passOut-short, passCall-passOut-kept, passCall-passOut-repaired}
 use Rattle.words.proofs.Laws.Writing.{copy-written}
 use Rattle.words.proofs.Laws.WordCalls.{kept-le, kept-length-take}
 use Rattle.turkish.specs.Calls.{chars}
@@ -17,7 +19,7 @@ refusal-into-requires : tie.Need-refusal-into-requires
 refusal-into-requires c κs = search needs
 
 returns : tie.Need-returns
-returns c = pass-refused _ _ _ (c .before .refusal-into .ensures) (c .if1 .taken)
+returns c = passCall-passOut-refused _ _ _ (c .before .refusal-into .ensures) (c .if1 .taken)
 
 more-than-one-syllable-word-requires : tie.Need-more-than-one-syllable-word-requires
 more-than-one-syllable-word-requires c κs = search needs
@@ -37,7 +39,7 @@ returns-2 c =
     let at-syllable = at-copy .before .before in
     let at-number = at-syllable .before .before in
     let no = sym (at-syllable .before .more-than-one-syllable-word .ensures) ∙ not-true _ (at-syllable .if2 .taken) in
-    pass-short _ _ _ (at-number .before .refusal-into .ensures) (at-number .if1 .left) no _ _
+    passCall-passOut-short _ _ _ (at-number .before .refusal-into .ensures) (at-number .if1 .left) no _ _
     (at-copy .copy .ensures .0)
     (at-copy .copy .ensures .1 ∙ copy-written _ _)
 
@@ -65,7 +67,7 @@ returns-3 c =
     let at-syllable = at-stage .before in
     let at-number = at-syllable .before .before in
     let yes = sym (at-syllable .before .more-than-one-syllable-word .ensures) ∙ not-false _ (at-syllable .if2 .left) in
-    pass-kept _ _ _ (at-number .before .refusal-into .ensures) (at-number .if1 .left) yes _
+    passCall-passOut-kept _ _ _ (at-number .before .refusal-into .ensures) (at-number .if1 .left) yes _
     (at-stage .stem-nominal-verb-suffixes .ensures)
     (not-true _ (at-flag .if3 .taken)) _ _
     (at-copy .copy2 .ensures .0)
@@ -78,9 +80,9 @@ write-repair-requires : tie.Need-write-repair-requires
 write-repair-requires c κs =
     let at-stage = c .before .before .before .before in
     let at-number = at-stage .before .before .before in
-    repair-fits _ _ _ (at-number .before .refusal-into .ensures) (at-number .if1 .left) _ _
-    (c .before .postlude .ensures)
-    (kept-le _ _ (at-stage .stem-nominal-verb-suffixes .ensures))
+    let room = into-room _ _ _ _ (at-number .before .refusal-into .ensures) (at-number .if1 .left) in
+    let fits = repair-fits _ _ _ _ (c .before .postlude .ensures) (kept-le _ _ (at-stage .stem-nominal-verb-suffixes .ensures)) room in
+    (fits .0, (fits .1, fits .2))
 
 same-length-3 : tie.Need-same-length-3
 same-length-3 c = search needs
@@ -94,7 +96,7 @@ returns-4 c =
     let at-syllable = at-stage .before in
     let at-number = at-syllable .before .before in
     let yes = sym (at-syllable .before .more-than-one-syllable-word .ensures) ∙ not-false _ (at-syllable .if2 .left) in
-    pass-repaired _ _ _ (at-number .before .refusal-into .ensures) (at-number .if1 .left) yes _
+    passCall-passOut-repaired _ _ _ (at-number .before .refusal-into .ensures) (at-number .if1 .left) yes _
     (at-stage .stem-nominal-verb-suffixes .ensures)
     (not-false _ (at-flag .if3 .left)) _
     (at-repair .before .before .postlude .ensures) _ _

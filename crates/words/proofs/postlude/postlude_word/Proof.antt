@@ -1,6 +1,7 @@
 -- `words::postlude::postlude_word` meets its contract: the number found says which case of `postludeCall` and `postludeOut` holds;
 -- the repair fits the output. Assumes nothing.
-use Rattle.words.proofs.Laws.RepairCalls.{repair-fits, postlude-refused, postlude-given}
+use Rattle.words.proofs.Laws.Refusals.{into-room}
+use Rattle.words.proofs.Laws.RepairCalls.{repair-fits, postludeCall-postludeOut-refused, postludeCall-postludeOut-given}
 use native.Mathlib.Nat.{le-refl}
 use borrow.Author.Needs.{needs}
 use Rattle.words.proofs.postlude.postlude_word.Statement.{statement}
@@ -13,7 +14,7 @@ refusal-into-requires : tie.Need-refusal-into-requires
 refusal-into-requires c κs = search needs
 
 returns : tie.Need-returns
-returns c = postlude-refused _ _ _ (c .before .refusal-into .ensures) (c .if1 .taken)
+returns c = postludeCall-postludeOut-refused _ _ _ (c .before .refusal-into .ensures) (c .if1 .taken)
 
 postlude-requires : tie.Need-postlude-requires
 postlude-requires c κs = search needs
@@ -21,7 +22,9 @@ postlude-requires c κs = search needs
 write-repair-requires : tie.Need-write-repair-requires
 write-repair-requires c κs =
     let at-number = c .before .before in
-    repair-fits _ _ _ (at-number .before .refusal-into .ensures) (at-number .if1 .left) _ _ (c .before .postlude .ensures) (le-refl _)
+    let room = into-room _ _ _ _ (at-number .before .refusal-into .ensures) (at-number .if1 .left) in
+    let fits = repair-fits _ _ _ _ (c .before .postlude .ensures) (le-refl _) room in
+    (fits .0, (fits .1, fits .2))
 
 same-length : tie.Need-same-length
 same-length c = search needs
@@ -31,7 +34,7 @@ returns-2 c =
     let at-repair = c .before .before in
     let at-postlude = at-repair .before .before in
     let at-number = at-postlude .before in
-    postlude-given _ _ _ (at-number .before .refusal-into .ensures) (at-number .if1 .left) _
+    postludeCall-postludeOut-given _ _ _ (at-number .before .refusal-into .ensures) (at-number .if1 .left) _
     (at-postlude .postlude .ensures) _ _
     (at-repair .write-repair .ensures .0)
     (at-repair .write-repair .ensures .1)
