@@ -16,7 +16,7 @@ use Rattle.stages.specs.declared.postlude.Repair.{Repair}
 use Rattle.stages.specs.Reach.{stemOf}
 use Rattle.stages.specs.Repairs.{repairText, repairOf}
 use Rattle.words.proofs.Laws.WordCalls.{kept-le}
-use Rattle.words.proofs.Laws.RepairCalls.{pass-short, pass-cut, pass-repaired}
+use Rattle.words.proofs.Laws.RepairCalls.{pass-short, pass-kept, pass-repaired}
 use Rattle.listing.specs.Listing.{tab, lf, yesNo, oneZero, answers, fields, listLine}
 use Rattle.listing.specs.Put.{put, lineRoom, lineLength, lineOut}
 
@@ -49,7 +49,7 @@ module _ (w : List ℕ) (ok : accepted w ≡ true) (syllable : Bool) (y : syllab
     -- of one whose flag is false the text kept
     pub passText-cut : s .flag ≡ false → take (s .kept) w ≡ passText w
     unfolding stemOf
-    passText-cut f = rw q (sym (pass-cut w ok (sym y ∙ yes) (sym (ap (λ (x : Stem). x .flag) q) ∙ f)))
+    passText-cut f = rw q (sym (pass-kept w ok (sym y ∙ yes) (sym (ap (λ (x : Stem). x .flag) q) ∙ f)))
 
     -- of any other the repair of that
     pub passText-repaired : s .flag ≡ true → (r : Repair) → r ≡ repairOf w (s .kept) → repairText w r ≡ passText w
