@@ -13,10 +13,10 @@ pub fn refusal_of(w: &[u8]) -> u32
     if LIMIT < w.len() {
         return 1;
     }
-    if !validity::is_utf8(w) {
-        return 2;
+    if validity::is_utf8(w) {
+        return 0;
     }
-    0
+    2
 }
 
 // The same, and 3 where an output of `room` bytes is shorter than the call needs.

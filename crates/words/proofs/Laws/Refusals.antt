@@ -16,15 +16,15 @@ pub refusal-long : (w : List ℕ) → limit < length w → 1 ≡ refusal w
 unfolding refusal
 refusal-long w h = rw (lt-ltb limit (length w) h)
 
--- a word within it that is no text by number 2
-pub refusal-not-text : (w : List ℕ) → length w ≤ limit → isText w ≡ false → 2 ≡ refusal w
-unfolding refusal
-refusal-not-text w h e = rw (le-ltb limit (length w) h, e)
-
 -- a text within it by none
 pub refusal-text : (w : List ℕ) → length w ≤ limit → isText w ≡ true → 0 ≡ refusal w
 unfolding refusal
 refusal-text w h e = rw (le-ltb limit (length w) h, e)
+
+-- any other word within it by number 2
+pub refusal-not-text : (w : List ℕ) → length w ≤ limit → isText w ≡ false → 2 ≡ refusal w
+unfolding refusal
+refusal-not-text w h e = rw (le-ltb limit (length w) h, e)
 
 module _ (w : List ℕ) (need room n : ℕ) (e : n ≡ refusal w) where
   -- the number that the word has comes first

@@ -2,7 +2,7 @@
 -- the repair fits the output. Assumes nothing.
 use Rattle.words.proofs.Laws.Refusals.{into-room}
 use Rattle.words.proofs.Laws.RepairCalls.{repair-fits, postludeCall-postludeOut-refused, postludeCall-postludeOut-given}
-use native.Mathlib.Nat.{le-refl}
+use native.Mathlib.Omega.{arith}
 use borrow.Author.Needs.{needs}
 use Rattle.words.proofs.postlude.postlude_word.Statement.{statement}
 use Rattle.words.proofs.postlude.postlude_word.Tie as tie
@@ -23,7 +23,7 @@ write-repair-requires : tie.Need-write-repair-requires
 write-repair-requires c κs =
     let at-number = c .before .before in
     let room = into-room _ _ _ _ (at-number .before .refusal-into .ensures) (at-number .if1 .left) in
-    let fits = repair-fits _ _ _ _ (c .before .postlude .ensures) (le-refl _) room in
+    let fits = repair-fits _ _ _ _ (c .before .postlude .ensures) (omega arith) room in
     (fits .0, (fits .1, fits .2))
 
 same-length : tie.Need-same-length

@@ -1,6 +1,7 @@
 -- `words::stage::stage_part` meets its contract: the number found says which case of `stagePart` holds; the text kept lies within
 -- the word. Assumes nothing.
 use Rattle.words.proofs.Laws.WordCalls.{stagePart-refused, stagePart-given, kept-length-take}
+use native.Mathlib.Omega.{arith}
 use borrow.Author.Needs.{needs}
 use Rattle.words.proofs.stage.stage_part.Statement.{statement}
 use Rattle.words.proofs.stage.stage_part.Tie as tie
@@ -18,7 +19,8 @@ stem-nominal-verb-suffixes-requires : tie.Need-stem-nominal-verb-suffixes-requir
 stem-nominal-verb-suffixes-requires c κs = search needs
 
 slice-aggregate-result-2 : tie.Need-slice-aggregate-result-2
-slice-aggregate-result-2 c = kept-length-take _ _ (c .before .stem-nominal-verb-suffixes .ensures)
+slice-aggregate-result-2 c =
+    let as-long = kept-length-take _ _ (c .before .stem-nominal-verb-suffixes .ensures) in omega arith
 
 returns-2 : tie.Need-returns-2
 returns-2 c =
