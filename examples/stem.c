@@ -7,7 +7,7 @@
 
 static const uint8_t *bytes(const char *text) { return (const uint8_t *)text; }
 
-static const char *yes_or_no(bool answer) { return answer ? "yes" : "no"; }
+static const char *yes_or_no(bool yes) { return yes ? "yes" : "no"; }
 
 static const char *true_or_false(bool flag) { return flag ? "true" : "false"; }
 

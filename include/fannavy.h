@@ -28,7 +28,7 @@
 extern "C" {
 #endif
 
-/* The longest word, in bytes: 1,024 pass and 1,025 do not. */
+/* The longest word, in bytes: one byte more is refused. */
 #define FANNAVY_LIMIT 1024
 
 /* The least output for a word of n bytes: of fannavy_postlude and fannavy_pass; of fannavy_fold. */
@@ -71,7 +71,7 @@ typedef struct {
  *
  *   yes   an ending was removed; where none was, length is n
  *   flag  stemming may go on (noun endings, the postlude). False only where the plural (-lar, -ler)
- *         was removed from the word's very end, after which nothing more is to be cut or mended.
+ *         was removed from the word's very end, after which no more is to be removed or mended.
  *         True where no ending was found; in a refused call false, so look at `refusal` first
  *
  * Refuses by the numbers 1 and 2.
@@ -85,9 +85,10 @@ typedef struct {
 } FannavyPostlude;
 
 /*
- * Mends the end of a text from which an ending was cut, and writes it to out[0] .. out[length - 1].
- * A final d or g, with a vowel anywhere before it, gains ı, i, u or ü by the last vowel (kanad:
- * kanadı). Otherwise a final b, c, d or ğ becomes p, ç, t or k (ayağ: ayak). All else is copied.
+ * Mends the end of a text from which an ending was removed, and writes it to
+ * out[0] .. out[length - 1]. A final d or g, with a vowel anywhere before it, gains ı, i, u or ü by
+ * the last vowel (kanad: kanadı). Otherwise a final b, c, d or ğ becomes p, ç, t or k (ayağ: ayak).
+ * All else is copied.
  *
  *   yes   false for the words ad and soyad, which are copied; true for every other text, whether
  *         anything was mended or not

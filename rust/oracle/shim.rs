@@ -1,23 +1,23 @@
 // Stands at the end of the crate's turkish module in the generated file (build.rs), where the
 // private stages can be called.
 
-/// The suffix stage: its answer, and the flag as it leaves it. The flag is true on entry, as the
+/// The suffix stage: yes or no, and the flag as it leaves it. The flag is true on entry, as the
 /// stage itself makes it at once.
 pub fn enter_stem_nominal_verb_suffixes(env: &mut SnowballEnv) -> (bool, bool) {
     let mut context = Context {
         b_continue_stemming_noun_suffixes: true,
         i_strlen: 0,
     };
-    let answer = r_stem_nominal_verb_suffixes(env, &mut context);
-    (answer, context.b_continue_stemming_noun_suffixes)
+    let yes = r_stem_nominal_verb_suffixes(env, &mut context);
+    (yes, context.b_continue_stemming_noun_suffixes)
 }
 
-/// The syllable check's answer.
+/// The syllable check's yes or no.
 pub fn enter_more_than_one_syllable_word(env: &mut SnowballEnv) -> bool {
     r_more_than_one_syllable_word(env, &mut no_context())
 }
 
-/// The postlude's answer.
+/// The postlude's yes or no.
 pub fn enter_postlude(env: &mut SnowballEnv) -> bool {
     r_postlude(env, &mut no_context())
 }

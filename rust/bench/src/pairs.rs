@@ -42,7 +42,7 @@ pub const PAIRS: &[Pair] = &[
         },
         rust: |word, _| {
             let stage = oracle::stem_nominal_verb_suffixes(word);
-            sum(stage.text.len(), [stage.answer, stage.flag])
+            sum(stage.text.len(), [stage.yes, stage.flag])
         },
     },
     #[cfg(feature = "oracle")]
@@ -55,7 +55,7 @@ pub const PAIRS: &[Pair] = &[
         },
         rust: |word, _| {
             let postlude = oracle::postlude(word);
-            sum(postlude.text.len(), [postlude.answer])
+            sum(postlude.text.len(), [postlude.yes])
         },
     },
     #[cfg(feature = "oracle")]
@@ -68,7 +68,7 @@ pub const PAIRS: &[Pair] = &[
         },
         rust: |word, _| {
             let pass = oracle::pass(word);
-            sum(pass.text.len(), [pass.syllable, pass.answer, pass.flag])
+            sum(pass.text.len(), [pass.syllable, pass.yes, pass.flag])
         },
     },
 ];

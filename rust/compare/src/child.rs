@@ -13,7 +13,7 @@ use std::time::{Duration, Instant};
 // As much of a program's complaint as is shown.
 const COMPLAINT: u64 = 4096;
 
-/// How standard input is cut into writes, of so many bytes each.
+/// How standard input is parted into writes, of so many bytes each.
 #[derive(Clone, Copy, Debug)]
 pub enum Feed {
     /// Through a pipe, where the reader may find several writes at once.
@@ -183,12 +183,12 @@ mod tests {
     use super::*;
 
     const FEEDS: [Feed; 3] = [Feed::Pipe(3), Feed::Packets(1), Feed::Packets(3)];
-    const LIMIT: Duration = Duration::from_secs(60);
+    const PATIENCE: Duration = Duration::from_secs(60);
 
     fn through(program: &str, bytes: &[u8], times: usize, feed: Feed) -> (Vec<u8>, bool) {
         let mut output = Vec::new();
         let input = Input { bytes, times, feed };
-        let outcome = run(Path::new(program), input, LIMIT, |block| {
+        let outcome = run(Path::new(program), input, PATIENCE, |block| {
             output.extend_from_slice(block);
             true
         });
@@ -219,7 +219,7 @@ mod tests {
             times: 1_000_000,
             feed: Feed::Pipe(1000),
         };
-        assert!(run(Path::new("cat"), input, LIMIT, |_| false).is_ok());
+        assert!(run(Path::new("cat"), input, PATIENCE, |_| false).is_ok());
     }
 
     #[test]

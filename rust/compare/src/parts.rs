@@ -68,7 +68,7 @@ pub const PARTS: &[Part] = &[
     #[cfg(feature = "oracle")]
     Part {
         name: "stage",
-        what: "the suffix stage's text, answer and flag, with the crate's own",
+        what: "the suffix stage's text, yes or no and flag, with the crate's own",
         run: Run::Words(stages::stage),
     },
     #[cfg(feature = "oracle")]
@@ -80,7 +80,7 @@ pub const PARTS: &[Part] = &[
     #[cfg(feature = "oracle")]
     Part {
         name: "postlude",
-        what: "the postlude's text and answer, with the crate's own",
+        what: "the postlude's text and yes or no, with the crate's own",
         run: Run::Words(stages::postlude),
     },
     #[cfg(feature = "oracle")]

@@ -1,8 +1,7 @@
 //! Document 01's rule of refusals: the first number that applies.
 
+use fannavy::LIMIT;
 use std::str::from_utf8;
-
-const LIMIT: usize = 1024;
 
 /// The number for a word whose call needs an output of `need` bytes and is lent one of `room`; 0
 /// where the call is not refused.
@@ -20,17 +19,17 @@ pub fn number(word: &[u8], need: usize, room: usize) -> u32 {
 
 #[cfg(test)]
 mod tests {
-    use super::number;
+    use super::{number, LIMIT};
 
     #[test]
     fn the_first_number_that_applies_is_given() {
-        let long = [b'a'; 1025];
-        let broken = [0xFF; 1025];
-        assert_eq!(number(&long, 1027, 1027), 1);
-        assert_eq!(number(&broken, 1027, 0), 1);
-        assert_eq!(number(&broken[1..], 1026, 0), 2);
-        assert_eq!(number(&long[1..], 1026, 1025), 3);
-        assert_eq!(number(&long[1..], 1026, 1026), 0);
+        let long = [b'a'; LIMIT + 1];
+        let broken = [0xFF; LIMIT + 1];
+        assert_eq!(number(&long, LIMIT + 3, LIMIT + 3), 1);
+        assert_eq!(number(&broken, LIMIT + 3, 0), 1);
+        assert_eq!(number(&broken[1..], LIMIT + 2, 0), 2);
+        assert_eq!(number(&long[1..], LIMIT + 2, LIMIT + 1), 3);
+        assert_eq!(number(&long[1..], LIMIT + 2, LIMIT + 2), 0);
         assert_eq!(number(b"", 2, 1), 3);
         assert_eq!(number(b"", 0, 0), 0);
     }

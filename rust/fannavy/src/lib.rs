@@ -26,7 +26,7 @@ mod refusal;
 use refusal::refused;
 pub use refusal::Refusal;
 
-/// The longest word, in bytes: 1,024 pass and 1,025 do not.
+/// The longest word, in bytes: one byte more is refused.
 pub const LIMIT: usize = 1024;
 
 /// The least output of [`postlude`] and [`pass`] for a word of `n` bytes.
@@ -124,8 +124,8 @@ pub fn stage(word: &[u8]) -> Result<Stage<'_>, Refusal> {
     })
 }
 
-/// The postlude: mends the last consonant of a text from which an ending was cut. The output has
-/// [`pass_room`] bytes or more.
+/// The postlude: mends the last consonant of a text from which an ending was removed. The output
+/// has [`pass_room`] bytes or more.
 ///
 /// ```
 /// let mut out = [0; 8];

@@ -1,9 +1,7 @@
 //! One line of the listing, in the form that document 01 gives the program stemlist.
 
+use fannavy::LIMIT;
 use std::str::from_utf8;
-
-/// The longest word, in bytes.
-pub const LIMIT: usize = 1024;
 
 /// Appends the line of a word, closed by LF: word, syllable check, stage, flag, kept text and the
 /// pass's text, parted by tabs; or the number that refuses it.
@@ -31,7 +29,7 @@ fn text(word: &[u8]) -> Result<&str, u8> {
 fn append_fields(word: &str, listing: &mut Vec<u8>) {
     let syllable = oracle::more_than_one_syllable_word(word);
     let stage = oracle::stem_nominal_verb_suffixes(word);
-    let [first, second] = [syllable, stage.answer].map(|yes| if yes { b'Y' } else { b'N' });
+    let [first, second] = [syllable, stage.yes].map(|yes| if yes { b'Y' } else { b'N' });
     let third = b'0' + u8::from(stage.flag);
     listing.extend_from_slice(word.as_bytes());
     listing.extend_from_slice(&[b'\t', first, b'\t', second, b'\t', third, b'\t']);
@@ -46,7 +44,7 @@ fn append_fields(word: &str, listing: &mut Vec<u8>) {
 
 #[cfg(test)]
 mod tests {
-    use super::append;
+    use super::{append, LIMIT};
 
     fn listed(word: &[u8]) -> String {
         let mut line = Vec::new();
@@ -73,10 +71,10 @@ mod tests {
     fn the_first_number_refuses() {
         assert_eq!(listed(b"ev\tler"), "!\t4");
         assert_eq!(listed(b"ev\t\xFF"), "!\t2");
-        assert_eq!(listed(&[b'\t'; 1024]), "!\t4");
-        assert_eq!(listed(&[b'\t'; 1025]), "!\t1");
-        assert_eq!(listed(&[0xFF; 1025]), "!\t1");
-        assert_eq!(listed(&[0xFF; 1024]), "!\t2");
-        assert!(listed(&[b'b'; 1024]).contains("b\tN\tN\t1\tb"));
+        assert_eq!(listed(&[b'\t'; LIMIT]), "!\t4");
+        assert_eq!(listed(&[b'\t'; LIMIT + 1]), "!\t1");
+        assert_eq!(listed(&[0xFF; LIMIT + 1]), "!\t1");
+        assert_eq!(listed(&[0xFF; LIMIT]), "!\t2");
+        assert!(listed(&[b'b'; LIMIT]).contains("b\tN\tN\t1\tb"));
     }
 }

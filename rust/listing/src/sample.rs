@@ -1,6 +1,6 @@
 //! The words of the list, the same ones in the same order for the same vocabulary.
 
-use crate::line::LIMIT;
+use fannavy::LIMIT;
 use shared::named::NAMED;
 
 // Words beside those of document 01 that tell plausible wrong programs apart.

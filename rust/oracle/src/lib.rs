@@ -15,7 +15,7 @@ pub use snowball::SnowballEnv;
 #[derive(Clone, Debug, PartialEq)]
 pub struct Stage<'a> {
     pub text: Cow<'a, str>,
-    pub answer: bool,
+    pub yes: bool,
     pub flag: bool,
 }
 
@@ -23,28 +23,28 @@ pub struct Stage<'a> {
 #[derive(Clone, Debug, PartialEq)]
 pub struct Postlude<'a> {
     pub text: Cow<'a, str>,
-    pub answer: bool,
+    pub yes: bool,
 }
 
-/// What the word pass leaves: the text, and the answers on the way.
+/// What the word pass leaves: the text, and what the stages said on the way.
 #[derive(Clone, Debug, PartialEq)]
 pub struct Pass<'a> {
     pub text: Cow<'a, str>,
     pub syllable: bool,
-    pub answer: bool,
+    pub yes: bool,
     pub flag: bool,
 }
 
-/// The suffix stage, entered at the word's end with nothing before it cut off.
+/// The suffix stage, entered at the word's end with nothing removed before it.
 pub fn stem_nominal_verb_suffixes(word: &str) -> Stage<'_> {
     let mut env = SnowballEnv::create(word);
     // What `backwards` does at the word's start.
     env.limit_backward = env.cursor;
     env.cursor = env.limit;
-    let (answer, flag) = turkish::enter_stem_nominal_verb_suffixes(&mut env);
+    let (yes, flag) = turkish::enter_stem_nominal_verb_suffixes(&mut env);
     Stage {
         text: env.get_current(),
-        answer,
+        yes,
         flag,
     }
 }
@@ -57,10 +57,10 @@ pub fn more_than_one_syllable_word(word: &str) -> bool {
 /// The postlude, entered at the word's start; it goes to the end by itself.
 pub fn postlude(word: &str) -> Postlude<'_> {
     let mut env = SnowballEnv::create(word);
-    let answer = turkish::enter_postlude(&mut env);
+    let yes = turkish::enter_postlude(&mut env);
     Postlude {
         text: env.get_current(),
-        answer,
+        yes,
     }
 }
 
@@ -71,14 +71,14 @@ pub fn pass(word: &str) -> Pass<'_> {
         return Pass {
             text: Cow::from(word),
             syllable: false,
-            answer: false,
+            yes: false,
             flag: true,
         };
     }
     let stage = stem_nominal_verb_suffixes(word);
     Pass {
         syllable: true,
-        answer: stage.answer,
+        yes: stage.yes,
         flag: stage.flag,
         text: after_stage(stage),
     }
@@ -108,15 +108,15 @@ mod tests {
 
     fn stage(word: &str) -> (String, bool, bool) {
         let s = stem_nominal_verb_suffixes(word);
-        (s.text.into_owned(), s.answer, s.flag)
+        (s.text.into_owned(), s.yes, s.flag)
     }
 
-    fn kept(text: &str, answer: bool, flag: bool) -> (String, bool, bool) {
-        (text.to_string(), answer, flag)
+    fn kept(text: &str, yes: bool, flag: bool) -> (String, bool, bool) {
+        (text.to_string(), yes, flag)
     }
 
     #[test]
-    fn stage_gives_text_answer_and_flag() {
+    fn stage_gives_text_yes_and_flag() {
         assert_eq!(stage(""), kept("", false, true));
         assert_eq!(stage("siniz"), kept("", true, true));
         assert_eq!(stage("sinizdir"), kept("siniz", true, true));
@@ -141,7 +141,7 @@ mod tests {
 
     #[test]
     fn postlude_mends_the_last_consonant() {
-        for &(word, text, answer) in &[
+        for &(word, text, yes) in &[
             ("", "", true),
             ("ad", "ad", false),
             ("soyad", "soyad", false),
@@ -152,13 +152,13 @@ mod tests {
             ("a\u{11f}ac", "a\u{11f}a\u{e7}", true),
         ] {
             let p = postlude(word);
-            assert_eq!((&*p.text, p.answer), (text, answer), "{}", word);
+            assert_eq!((&*p.text, p.yes), (text, yes), "{}", word);
         }
     }
 
     #[test]
     fn pass_composes_the_stages() {
-        for &(word, text, syllable, answer, flag) in &[
+        for &(word, text, syllable, yes, flag) in &[
             ("", "", false, false, true),
             ("lar", "lar", false, false, true),
             ("siniz", "", true, true, true),
@@ -175,8 +175,8 @@ mod tests {
             ),
         ] {
             let p = pass(word);
-            let answers = (p.syllable, p.answer, p.flag);
-            assert_eq!((&*p.text, answers), (text, (syllable, answer, flag)));
+            let told = (p.syllable, p.yes, p.flag);
+            assert_eq!((&*p.text, told), (text, (syllable, yes, flag)));
         }
     }
 

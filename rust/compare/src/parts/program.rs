@@ -7,15 +7,16 @@ use crate::report::{Difference, Report};
 use crate::words::damaged::EDGE_BYTES;
 use crate::words::random::Random;
 use crate::words::Words;
+use fannavy::LIMIT;
 use std::path::Path;
 use std::time::Duration;
 
 // A program that gives neither output nor its end for so long hangs.
-const LIMIT: Duration = Duration::from_secs(60);
+const PATIENCE: Duration = Duration::from_secs(60);
 // Lists are fed one after the other, each of about so many bytes.
 const LIST: usize = 4 << 20;
-// Writes of a size that cuts neither at characters nor at the reader's own blocks.
-const CUTS: [Feed; 6] = [
+// Writes of a size that ends neither with a character nor with one of the reader's own blocks.
+const WRITES: [Feed; 6] = [
     Feed::Packets(7),
     Feed::Pipe(7),
     Feed::Packets(4095),
@@ -26,7 +27,7 @@ const CUTS: [Feed; 6] = [
 // One line in so many is fed byte by byte.
 const FEWER: usize = 8;
 const WHOLE: Feed = Feed::Pipe(1 << 16);
-const LENGTHS: [usize; 7] = [0, 1, 2, 1023, 1024, 1025, 10_000_000];
+const LENGTHS: [usize; 7] = [0, 1, 2, LIMIT - 1, LIMIT, LIMIT + 1, 10_000_000];
 const RANDOM: usize = 4_000_000;
 const STREAM: usize = 300_000_000;
 // Some words of each source for the lists that are fed more than once.
@@ -36,7 +37,7 @@ pub fn run(words: &Words, program: &Path, report: &mut Report) -> Result<(), Dif
     let mut runs = Runs { program, report };
     runs.all_words(words)?;
     let mixed = mixed(words);
-    runs.cut(&mixed)?;
+    runs.in_writes(&mixed)?;
     runs.lengths()?;
     runs.random_bytes(words.random(8))?;
     runs.stream(words, mixed)
@@ -63,7 +64,7 @@ impl Runs<'_> {
         };
         let mut held = Held::new(list, times);
         let mut told = 0;
-        let outcome = child::run(self.program, input, LIMIT, |block| {
+        let outcome = child::run(self.program, input, PATIENCE, |block| {
             let go_on = held.take(block);
             self.report.lines(held.lines() - told);
             told = held.lines();
@@ -108,10 +109,10 @@ impl Runs<'_> {
 
     // The same list in writes of several sizes, its last line closed and unclosed, and part of it
     // byte by byte.
-    fn cut(&mut self, mixed: &[u8]) -> Result<(), Difference> {
+    fn in_writes(&mut self, mixed: &[u8]) -> Result<(), Difference> {
         for last in ["", "evler"] {
             let list = List::new([mixed, last.as_bytes()].concat());
-            for feed in CUTS {
+            for feed in WRITES {
                 self.hold(&format!("a list by {feed:?}"), &list, 1, feed)?;
             }
             let lines = mixed.split_inclusive(|&byte| byte == b'\n');

@@ -10,11 +10,20 @@ use crate::report::{Difference, Report};
 use crate::share::share_out;
 use crate::words::damaged::EDGE_BYTES;
 use crate::words::Words;
+use fannavy::LIMIT;
 
 type Outcome = Result<(), Difference>;
 
 // Lengths of words over the limit, and the longest that is not.
-const LENGTHS: [usize; 7] = [1024, 1025, 1026, 1027, 1280, 2048, 65_536];
+const LENGTHS: [usize; 7] = [
+    LIMIT,
+    LIMIT + 1,
+    LIMIT + 2,
+    LIMIT + 3,
+    LIMIT + 256,
+    LIMIT * 2,
+    65_536,
+];
 
 pub fn run(words: &Words, report: &mut Report) -> Outcome {
     let texts = |visit: &mut dyn FnMut(&str) -> _| words.for_stages(visit);
@@ -67,7 +76,7 @@ fn around_the_limit<E>(visit: &mut dyn FnMut(&[u8]) -> Result<(), E>) -> Result<
         for filler in [b'a', b'b', b'z'] {
             let mut word = vec![filler; length];
             visit(&word)?;
-            for place in [0, 1, length / 2, 1022, 1023, length - 1] {
+            for place in [0, 1, length / 2, LIMIT - 2, LIMIT - 1, length - 1] {
                 for byte in EDGE_BYTES {
                     word[place] = byte;
                     visit(&word)?;

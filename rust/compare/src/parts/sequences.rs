@@ -28,7 +28,8 @@ fn every(bytes: &[u8], length: usize, report: &mut Report) -> Result<(), Differe
     })
 }
 
-// Each edge sequence, whole or cut, after up to 80 characters of each width and before up to 80.
+// Each edge sequence, whole or short of its end, after up to 80 characters of each width and before
+// up to 80.
 fn at_every_place(report: &mut Report) -> Result<(), Difference> {
     let mut lent = Lent::new(b"");
     for filler in ["a", "ğ", "乡", "\u{20061}"] {

@@ -25,7 +25,7 @@ pub fn stage(words: &Words, report: &mut Report) -> Result<(), Difference> {
         let answer = FannavyStage {
             refusal: 0,
             length: rust.text.len(),
-            yes: rust.answer,
+            yes: rust.yes,
             flag: rust.flag,
         };
         (answer, rust.text)
@@ -46,7 +46,7 @@ pub fn postlude(words: &Words, report: &mut Report) -> Result<(), Difference> {
         let answer = FannavyPostlude {
             refusal: 0,
             length: rust.text.len(),
-            yes: rust.answer,
+            yes: rust.yes,
         };
         (answer, rust.text)
     })
@@ -59,7 +59,7 @@ pub fn pass(words: &Words, report: &mut Report) -> Result<(), Difference> {
             refusal: 0,
             length: rust.text.len(),
             syllable: rust.syllable,
-            yes: rust.answer,
+            yes: rust.yes,
             flag: rust.flag,
         };
         (answer, rust.text)

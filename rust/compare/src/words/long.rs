@@ -1,8 +1,10 @@
-//! Words around the longest that the stages take: 1,022 to 1,025 bytes, of several make-ups.
+//! Words around the longest that the stages take, from two bytes shorter to one longer, of several
+//! make-ups.
 
 use super::Visit;
+use fannavy::LIMIT;
 
-const LENGTHS: std::ops::RangeInclusive<usize> = 1022..=1025;
+const LENGTHS: std::ops::RangeInclusive<usize> = LIMIT - 2..=LIMIT + 1;
 // One width throughout, or a mixture; with vowels or without.
 const FILLERS: [&str; 9] = [
     "a",
