@@ -21,6 +21,18 @@ pub struct ProbeStep {
     pub limit_backward: usize,
 }
 
+// The record made of its three numbers.
+fn cursor_of(cursor: usize, limit: usize, backward: usize) -> Cursor
+    ensures { λ r. ⌜ r ≡ cursorOf cursor limit backward ⌝ }
+{
+    Cursor {
+        cursor,
+        limit,
+        limit_backward: backward,
+    }
+}
+
+// A step of one character, laid out flat.
 fn flat_step(s: step::Step) -> ProbeStep
     ensures { λ r. ⌜ r ≡ flatStep s ⌝ }
 {
@@ -34,6 +46,7 @@ fn flat_step(s: step::Step) -> ProbeStep
     }
 }
 
+// A step over a literal, laid out flat.
 fn flat_literal(s: literal::Literal) -> ProbeStep
     ensures { λ r. ⌜ r ≡ flatLiteral s ⌝ }
 {
@@ -56,14 +69,7 @@ pub extern "C" fn probe_previous_char(
 ) -> ProbeStep
     ensures { λ r. ⌜ r ≡ flatStep (previousChar (now (w .entry)) (cursorOf cursor limit backward)) ⌝ }
 {
-    flat_step(step::previous_char(
-        w,
-        Cursor {
-            cursor,
-            limit,
-            limit_backward: backward,
-        },
-    ))
+    flat_step(step::previous_char(w, cursor_of(cursor, limit, backward)))
 }
 
 #[no_mangle]
@@ -75,14 +81,7 @@ pub extern "C" fn probe_next_char(
 ) -> ProbeStep
     ensures { λ r. ⌜ r ≡ flatStep (nextChar (now (w .entry)) (cursorOf cursor limit backward)) ⌝ }
 {
-    flat_step(step::next_char(
-        w,
-        Cursor {
-            cursor,
-            limit,
-            limit_backward: backward,
-        },
-    ))
+    flat_step(step::next_char(w, cursor_of(cursor, limit, backward)))
 }
 
 #[no_mangle]
@@ -95,15 +94,7 @@ pub extern "C" fn probe_eq_s_b(
 ) -> ProbeStep
     ensures { λ r. ⌜ r ≡ flatLiteral (eqSB (now (w .entry)) (now (s .entry)) (cursorOf cursor limit backward)) ⌝ }
 {
-    flat_literal(literal::eq_s_b(
-        w,
-        s,
-        Cursor {
-            cursor,
-            limit,
-            limit_backward: backward,
-        },
-    ))
+    flat_literal(literal::eq_s_b(w, s, cursor_of(cursor, limit, backward)))
 }
 
 #[no_mangle]
@@ -116,15 +107,7 @@ pub extern "C" fn probe_eq_s(
 ) -> ProbeStep
     ensures { λ r. ⌜ r ≡ flatLiteral (eqS (now (w .entry)) (now (s .entry)) (cursorOf cursor limit backward)) ⌝ }
 {
-    flat_literal(literal::eq_s(
-        w,
-        s,
-        Cursor {
-            cursor,
-            limit,
-            limit_backward: backward,
-        },
-    ))
+    flat_literal(literal::eq_s(w, s, cursor_of(cursor, limit, backward)))
 }
 
 // Copies the part of the word that the suffix stage keeps, and gives its length; 0, and nothing written, where it does not fit.

@@ -182,3 +182,15 @@ pub fn pass<'a>(word: &[u8], out: &'a mut [u8]) -> Result<Pass<'a>, Refusal> {
         flag: answer.flag,
     })
 }
+
+#[cfg(test)]
+mod tests {
+    use super::LIMIT;
+
+    #[test]
+    fn the_header_has_the_same_limit() {
+        let header = include_str!("../../../include/fannavy.h");
+        let line = format!("#define FANNAVY_LIMIT {LIMIT}");
+        assert!(header.lines().any(|other| other == line), "no {line}");
+    }
+}

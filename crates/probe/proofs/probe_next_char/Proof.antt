@@ -1,9 +1,10 @@
--- `probe::probe_next_char` meets its contract: the step's own answer, laid out flat. Assumes nothing.
-use mathlib.Core.Path.{ap, _∙_}
+-- `probe::probe_next_char` meets its contract: the step's own answer from the record made of the numbers, laid out flat. Assumes nothing.
 use borrow.Author.Needs.{needs}
-use Rattle.probe.specs.Flat.{flatStep}
 use Rattle.probe.proofs.probe_next_char.Statement.{statement}
 use Rattle.probe.proofs.probe_next_char.Tie as tie
+
+cursor-of-requires : tie.Need-cursor-of-requires
+cursor-of-requires c κs = search needs
 
 next-char-requires : tie.Need-next-char-requires
 next-char-requires c κs = search needs
@@ -12,7 +13,8 @@ flat-step-requires : tie.Need-flat-step-requires
 flat-step-requires c κs = search needs
 
 returns : tie.Need-returns
-returns c = c .flat-step .ensures ∙ ap flatStep (c .before .next-char .ensures)
+returns c =
+    rw (c .flat-step .ensures, c .before .next-char .ensures, c .before .before .cursor-of .ensures)
 
 pub probe-next-char-spec : {M : Type 1} → statement M
-probe-next-char-spec = tie.close (tie.spec next-char-requires flat-step-requires returns)
+probe-next-char-spec = tie.close (tie.spec cursor-of-requires next-char-requires flat-step-requires returns)
