@@ -5,3 +5,4 @@ pub mod LineRefusals
 pub mod LineText
 pub mod Held
 pub mod Fed
+pub mod OneCall

@@ -1,16 +1,48 @@
--- What feeding a byte, and a block, does to the held line and the output. Assumes nothing.
-use Prim.Native.Nat.{ℕ, _+_, _-_, _≤_, _<_}
-use mathlib.Core.Path.{_≡_}
+-- What one call feeds of a block, and all that it leaves: how far it goes, the line's bytes and the output. Assumes nothing.
+use Prim.Native.Nat.{ℕ, _+_, _-_}
+use mathlib.Core.Bool.{cond}
 use mathlib.Core.List.{List, [], _∷_}
-use lib.ListN.{length, take, drop}
-use Rattle.listing.specs.Put.{put}
-use Rattle.listing.specs.Feed.{fedOut, fedLine}
+use lib.ListN.{length, take, drop, set}
+use lib.Dec.{eqb, ltb}
+use Rattle.listing.specs.Listing.{lf, listLine}
+use Rattle.listing.specs.Put.{put, lineRoom}
+use Rattle.listing.specs.Feed.{most}
 
--- the bytes `input` were fed, with the first `held` bytes of `line` held and `at` bytes of `out` written; the line's bytes past those
--- held are free
-pub record Fed (input line line′ out out′ : List ℕ) (held held′ at at′ : ℕ) : Type 0 where
-  pub line-length : length line′ ≡ length line
-  pub held-is : take held′ line′ ≡ fedLine (take held line) input
-  pub held-le : held′ ≤ length line
-  pub at-is : at′ ≡ at + length (fedOut (take held line) input)
-  pub out-is : out′ ≡ put at (fedOut (take held line) input) out
+-- `used` bytes of the block are taken, the first `held` bytes of `line` are held, and the first `written` bytes of `out` are written
+pub record Fed : Type 0 where
+  pub used : ℕ
+  pub held : ℕ
+  pub written : ℕ
+  pub line : List ℕ
+  pub out : List ℕ
+
+-- the same in the order of the calls' parameters
+abbrev pub standing : ℕ → List ℕ → ℕ → List ℕ → ℕ → Fed
+standing used line held out written = record { used = used; held = held; written = written; line = line; out = out }
+
+-- how many bytes of a line are held after one more, as far as they are
+unfoldable pub heldNext : ℕ → ℕ
+heldNext held = cond (ltb held most) (held + 1) held
+
+-- a line feed: the line held is written, and none is held
+unfoldable pub endLine : Fed → Fed
+endLine s =
+    standing (s .used + 1) (s .line) 0
+    (put (s .written) (listLine (take (s .held) (s .line))) (s .out))
+    (s .written + length (listLine (take (s .held) (s .line))))
+
+-- another byte: it is stored after those held, where the line has a place for it; all other bytes stay
+unfoldable pub holdByte : ℕ → Fed → Fed
+holdByte b s = standing (s .used + 1) (set (s .line) (s .held) b) (heldNext (s .held)) (s .out) (s .written)
+
+unfoldable pub feedByte : ℕ → Fed → Fed
+feedByte b s = cond (eqb b lf) (endLine s) (holdByte b s)
+
+-- bytes fed one after the other, as long as the output has room for a whole line
+unfoldable pub feedBytes : List ℕ → Fed → Fed
+feedBytes [] s = s
+feedBytes (b ∷ bs) s = cond (ltb (length (s .out) - s .written) lineRoom) s (feedBytes bs (feedByte b s))
+
+-- one call: the block from place `from` on, to the front of the output
+unfoldable pub feeding : List ℕ → ℕ → List ℕ → ℕ → List ℕ → Fed
+feeding block from line held out = feedBytes (drop from block) (standing from line held out 0)

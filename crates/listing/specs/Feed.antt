@@ -5,8 +5,9 @@ use mathlib.Core.Bool.{cond}
 use mathlib.Core.List.{List, [], _∷_, _++_}
 use lib.ListN.{take}
 use lib.Dec.{eqb}
-use Rattle.turkish.specs.Calls.{limit}
 use Rattle.listing.specs.Listing.{lf, listLine, unclosed, listAll}
+-- the longest word, in bytes
+unfoldable pub use Rattle.turkish.specs.Calls.{limit}
 
 -- the most bytes held of a line: a longer line is refused whatever follows
 unfoldable pub most : ℕ

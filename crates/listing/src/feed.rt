@@ -1,16 +1,16 @@
 // The step that takes a block of input: it holds the line read so far, writes the line of each word that ends in the block, and
 // stops where the output has no room for one more line.
 use crate::line;
+use words::refusal;
 ghost use mathlib.Core.Path.{_≡_};
-ghost use mathlib.Core.List.{[], _∷_};
-ghost use Prim.Native.Nat.{_+_, _-_, _≤_, _<_};
-ghost use lib.ListN.{length, take, drop};
-ghost use Rattle.listing.specs.Feed.{hold, lastOut};
-ghost use Rattle.listing.specs.Put.{put};
-ghost use Rattle.listing.specs.Fed.{Fed};
+ghost use Prim.Native.Nat.{_+_, _≤_};
+ghost use lib.ListN.{length, take, set};
+ghost use Rattle.listing.specs.Feed.{most, lastOut};
+ghost use Rattle.listing.specs.Put.{put, lineRoom};
+ghost use Rattle.listing.specs.Fed.{standing, heldNext, feedByte, feeding};
 
 // The bytes held of a line that is not ended: one more than the limit, since a longer line is refused whatever follows.
-pub const HELD: usize = 1025;
+pub const HELD: usize = refusal::LIMIT + 1;
 
 // How much of the block was taken, how many bytes of the line are held, and how many bytes of the output are written.
 pub struct Progress {
@@ -19,10 +19,12 @@ pub struct Progress {
     pub written: usize,
 }
 
-// One byte more of the line, where it is still held.
+// One byte more of the line, where it is still held; how many are held then.
 fn hold_byte(line: &mut [u8], held: usize, b: u8) -> usize
-    requires { ⌜ (length (now line) ≡ 1025) × (held ≤ 1025) ⌝ }
-    ensures { λ r. ⌜ (length (now (line .exit)) ≡ 1025) × (r ≤ 1025) × (take r (now (line .exit)) ≡ hold (take held (now (line .entry))) b) ⌝ }
+    requires { ⌜ length (now line) ≡ most ⌝ }
+    requires { ⌜ held ≤ most ⌝ }
+    ensures { λ r. ⌜ r ≡ heldNext held ⌝ }
+    ensures { λ r. ⌜ now (line .exit) ≡ set (now (line .entry)) held b ⌝ }
 {
     if held < HELD {
         line[held] = b;
@@ -31,10 +33,16 @@ fn hold_byte(line: &mut [u8], held: usize, b: u8) -> usize
     held
 }
 
-// One byte of the input.
+// One byte of the input: a line feed ends the line held, and any other byte is held.
 fn feed_byte(b: u8, line: &mut [u8], held: usize, out: &mut [u8], at: usize) -> Progress
-    requires { ⌜ (length (now line) ≡ 1025) × (held ≤ 1025) × (at + 3084 ≤ length (now out)) ⌝ }
-    ensures { λ r. ⌜ Fed (b ∷ []) (now (line .entry)) (now (line .exit)) (now (out .entry)) (now (out .exit)) held (r .held) at (r .written) ⌝ }
+    requires { ⌜ length (now line) ≡ most ⌝ }
+    requires { ⌜ held ≤ most ⌝ }
+    requires { ⌜ at + lineRoom ≤ length (now out) ⌝ }
+    ensures { λ r. ⌜ r .used ≡ 1 ⌝ }
+    ensures { λ r. ⌜ r .held ≡ feedByte b (standing 0 (now (line .entry)) held (now (out .entry)) at) .held ⌝ }
+    ensures { λ r. ⌜ r .written ≡ feedByte b (standing 0 (now (line .entry)) held (now (out .entry)) at) .written ⌝ }
+    ensures { λ r. ⌜ now (line .exit) ≡ feedByte b (standing 0 (now (line .entry)) held (now (out .entry)) at) .line ⌝ }
+    ensures { λ r. ⌜ now (out .exit) ≡ feedByte b (standing 0 (now (line .entry)) held (now (out .entry)) at) .out ⌝ }
 {
     if b == 0x0A {
         let end = line::put_line(out, at, &line[..held]);
@@ -51,11 +59,17 @@ fn feed_byte(b: u8, line: &mut [u8], held: usize, out: &mut [u8], at: usize) -> 
     }
 }
 
-// The block from place `from` on, to the front of the output, as far as there is room for a whole line. How far that is, `used`, is
-// free in the contract: past one byte at least where there is one, and what was fed up to there is given outright.
+// The block from place `from` on, to the front of the output, as long as there is room for a whole line: how far that is, what is held
+// of the line then and what is written.
 pub fn feed(block: &[u8], from: usize, line: &mut [u8], held: usize, out: &mut [u8]) -> Progress
-    requires { ⌜ (from ≤ length (now block)) × (length (now line) ≡ 1025) × (held ≤ 1025) × (3084 ≤ length (now out)) ⌝ }
-    ensures { λ r. ⌜ (r .used ≤ length (now (block .entry))) × (from < length (now (block .entry)) → from < r .used) × (r .written ≤ length (now (out .entry))) × (Fed (take (r .used - from) (drop from (now (block .entry)))) (now (line .entry)) (now (line .exit)) (now (out .entry)) (now (out .exit)) held (r .held) 0 (r .written)) ⌝ }
+    requires { ⌜ from ≤ length (now block) ⌝ }
+    requires { ⌜ length (now line) ≡ most ⌝ }
+    requires { ⌜ held ≤ most ⌝ }
+    ensures { λ r. ⌜ r .used ≡ feeding (now (block .entry)) from (now (line .entry)) held (now (out .entry)) .used ⌝ }
+    ensures { λ r. ⌜ r .held ≡ feeding (now (block .entry)) from (now (line .entry)) held (now (out .entry)) .held ⌝ }
+    ensures { λ r. ⌜ r .written ≡ feeding (now (block .entry)) from (now (line .entry)) held (now (out .entry)) .written ⌝ }
+    ensures { λ r. ⌜ now (line .exit) ≡ feeding (now (block .entry)) from (now (line .entry)) held (now (out .entry)) .line ⌝ }
+    ensures { λ r. ⌜ now (out .exit) ≡ feeding (now (block .entry)) from (now (line .entry)) held (now (out .entry)) .out ⌝ }
 {
     let mut i = from;
     let mut h = held;
@@ -82,8 +96,10 @@ pub fn feed(block: &[u8], from: usize, line: &mut [u8], held: usize, out: &mut [
 
 // The line that the input's end closes, if it is not empty, to the front of the output.
 pub fn finish(line: &[u8], held: usize, out: &mut [u8]) -> usize
-    requires { ⌜ (held ≤ length (now line)) × (3084 ≤ length (now out)) ⌝ }
-    ensures { λ r. ⌜ (r ≡ length (lastOut (take held (now (line .entry))))) × (now (out .exit) ≡ put 0 (lastOut (take held (now (line .entry)))) (now (out .entry))) ⌝ }
+    requires { ⌜ held ≤ length (now line) ⌝ }
+    requires { ⌜ lineRoom ≤ length (now out) ⌝ }
+    ensures { λ r. ⌜ r ≡ length (lastOut (take held (now (line .entry)))) ⌝ }
+    ensures { λ r. ⌜ now (out .exit) ≡ put 0 (lastOut (take held (now (line .entry)))) (now (out .entry)) ⌝ }
 {
     if held == 0 {
         return 0;

@@ -16,10 +16,10 @@ ghost use Rattle.turkish.specs.Calls.{chars, accepted, passText};
 ghost use Rattle.stages.specs.Reach.{stemOf};
 ghost use Rattle.stages.specs.Repairs.{repairText};
 ghost use Rattle.listing.specs.Listing.{tab, lineRefusal, yesNo, oneZero, answers, fields, refusedLine, listLine};
-ghost use Rattle.listing.specs.Put.{put, lineLength, lineOut};
+ghost use Rattle.listing.specs.Put.{put, lineRoom};
 
 // Room for any output line: three times the limit, and twelve bytes.
-pub const LINE: usize = 3084;
+pub const LINE: usize = 3 * refusal::LIMIT + 12;
 
 const TAB: u8 = 0x09;
 
@@ -74,7 +74,8 @@ fn one_zero(t: bool) -> u8
 // Writes syllable check, stage and flag, each between tabs.
 fn put_answers(out: &mut [u8], at: usize, syllable: bool, yes: bool, flag: bool) -> usize
     requires { ⌜ at + 7 ≤ length (now out) ⌝ }
-    ensures { λ r. ⌜ (r ≡ at + 7) × (now (out .exit) ≡ put at (answers syllable yes flag) (now (out .entry))) ⌝ }
+    ensures { λ r. ⌜ r ≡ at + 7 ⌝ }
+    ensures { λ r. ⌜ now (out .exit) ≡ put at (answers syllable yes flag) (now (out .entry)) ⌝ }
 {
     let a = put::put_byte(out, at, TAB);
     let b = put::put_byte(out, a, yes_no(syllable));
@@ -87,8 +88,11 @@ fn put_answers(out: &mut [u8], at: usize, syllable: bool, yes: bool, flag: bool)
 
 // Writes the text of a repair of w.
 fn put_repair(out: &mut [u8], at: usize, w: &[u8], r: Repair) -> usize
-    requires { ⌜ (r .keep ≤ length (now w)) × (r .more ≤ 2) × (at + (r .keep + r .more) ≤ length (now out)) ⌝ }
-    ensures { λ n. ⌜ (n ≡ at + length (repairText (now (w .entry)) r)) × (now (out .exit) ≡ put at (repairText (now (w .entry)) r) (now (out .entry))) ⌝ }
+    requires { ⌜ r .keep ≤ length (now w) ⌝ }
+    requires { ⌜ r .more ≤ 2 ⌝ }
+    requires { ⌜ at + (r .keep + r .more) ≤ length (now out) ⌝ }
+    ensures { λ n. ⌜ n ≡ at + length (repairText (now (w .entry)) r) ⌝ }
+    ensures { λ n. ⌜ now (out .exit) ≡ put at (repairText (now (w .entry)) r) (now (out .entry)) ⌝ }
 {
     let a = put::put_bytes(out, at, w, r.keep);
     let more = r.more;
@@ -104,8 +108,12 @@ fn put_repair(out: &mut [u8], at: usize, w: &[u8], r: Repair) -> usize
 
 // Writes the pass's text of an accepted word, whose syllable answer and stage are known.
 fn put_pass(out: &mut [u8], at: usize, w: &[u8], syllable: bool, s: Stem) -> usize
-    requires { ⌜ (accepted (now w) ≡ true) × (syllable ≡ moreThanOneSyllable (chars (now w))) × (s ≡ stemOf (now w)) × (at + (length (now w) + 2) ≤ length (now out)) ⌝ }
-    ensures { λ n. ⌜ (n ≡ at + length (passText (now (w .entry)))) × (now (out .exit) ≡ put at (passText (now (w .entry))) (now (out .entry))) ⌝ }
+    requires { ⌜ accepted (now w) ≡ true ⌝ }
+    requires { ⌜ syllable ≡ moreThanOneSyllable (chars (now w)) ⌝ }
+    requires { ⌜ s ≡ stemOf (now w) ⌝ }
+    requires { ⌜ at + (length (now w) + 2) ≤ length (now out) ⌝ }
+    ensures { λ n. ⌜ n ≡ at + length (passText (now (w .entry))) ⌝ }
+    ensures { λ n. ⌜ now (out .exit) ≡ put at (passText (now (w .entry))) (now (out .entry)) ⌝ }
 {
     if !syllable {
         return put::put_bytes(out, at, w, w.len());
@@ -119,8 +127,10 @@ fn put_pass(out: &mut [u8], at: usize, w: &[u8], syllable: bool, s: Stem) -> usi
 
 // Writes the line of an accepted word.
 fn put_fields(out: &mut [u8], at: usize, w: &[u8]) -> usize
-    requires { ⌜ (accepted (now w) ≡ true) × (at + 3084 ≤ length (now out)) ⌝ }
-    ensures { λ n. ⌜ (n ≡ at + length (fields (now (w .entry)))) × (now (out .exit) ≡ put at (fields (now (w .entry))) (now (out .entry))) ⌝ }
+    requires { ⌜ accepted (now w) ≡ true ⌝ }
+    requires { ⌜ at + lineRoom ≤ length (now out) ⌝ }
+    ensures { λ n. ⌜ n ≡ at + length (fields (now (w .entry))) ⌝ }
+    ensures { λ n. ⌜ now (out .exit) ≡ put at (fields (now (w .entry))) (now (out .entry)) ⌝ }
 {
     let syllable = syllable::more_than_one_syllable_word(w, w.len());
     let s = stem::stem_nominal_verb_suffixes(w);
@@ -134,8 +144,10 @@ fn put_fields(out: &mut [u8], at: usize, w: &[u8]) -> usize
 
 // Writes a refused line: `!`, one tab and the number, and nothing of the word.
 fn put_refused(out: &mut [u8], at: usize, n: u32) -> usize
-    requires { ⌜ (n < 10) × (at + 4 ≤ length (now out)) ⌝ }
-    ensures { λ r. ⌜ (r ≡ at + 4) × (now (out .exit) ≡ put at (refusedLine n) (now (out .entry))) ⌝ }
+    requires { ⌜ n < 10 ⌝ }
+    requires { ⌜ at + 4 ≤ length (now out) ⌝ }
+    ensures { λ r. ⌜ r ≡ at + 4 ⌝ }
+    ensures { λ r. ⌜ now (out .exit) ≡ put at (refusedLine n) (now (out .entry)) ⌝ }
 {
     let a = put::put_byte(out, at, 0x21);
     let b = put::put_byte(out, a, TAB);
@@ -145,22 +157,13 @@ fn put_refused(out: &mut [u8], at: usize, n: u32) -> usize
 
 // Writes the output line of one word at place `at`, refused or not, and gives the place after it.
 pub(crate) fn put_line(out: &mut [u8], at: usize, w: &[u8]) -> usize
-    requires { ⌜ at + 3084 ≤ length (now out) ⌝ }
-    ensures { λ r. ⌜ (r ≡ at + length (listLine (now (w .entry)))) × (now (out .exit) ≡ put at (listLine (now (w .entry))) (now (out .entry))) ⌝ }
+    requires { ⌜ at + lineRoom ≤ length (now out) ⌝ }
+    ensures { λ r. ⌜ r ≡ at + length (listLine (now (w .entry))) ⌝ }
+    ensures { λ r. ⌜ now (out .exit) ≡ put at (listLine (now (w .entry))) (now (out .entry)) ⌝ }
 {
     let n = line_refusal(w);
     if n != 0 {
         return put_refused(out, at, n);
     }
     put_fields(out, at, w)
-}
-
-// The output line of one word as one call: its length, or 0 and nothing written where the output is shorter than 3,084 bytes.
-pub fn list_word(w: &[u8], out: &mut [u8]) -> usize
-    ensures { λ r. ⌜ (r ≡ lineLength (now (w .entry)) (length (now (out .entry)))) × (now (out .exit) ≡ lineOut (now (w .entry)) (now (out .entry))) ⌝ }
-{
-    if out.len() < LINE {
-        return 0;
-    }
-    put_line(out, 0, w)
 }

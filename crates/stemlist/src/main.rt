@@ -5,8 +5,11 @@ use libc::STDIN_FILENO;
 use libc::STDOUT_FILENO;
 use listing::feed;
 ghost use mathlib.Core.Path.{_≡_};
+ghost use mathlib.Core.Bool.{true};
 ghost use Prim.Native.Nat.{_≤_};
-ghost use lib.ListN.{length};
+ghost use lib.ListN.{length, take};
+ghost use Rattle.listing.specs.Put.{lineRoom};
+ghost use Rattle.listing.specs.Feed.{most, fedLine};
 
 // Whether all was written, and how many bytes of the line are held.
 struct Drained {
@@ -14,10 +17,15 @@ struct Drained {
     held: usize,
 }
 
-// Writes the lines of the words that end in the block.
+// Writes the lines of the words that end in the block. Where all was written, the line held is the one after the whole block; what went
+// to the descriptor no contract can say, and where a write failed how far the block was fed is left open.
 fn drain(block: &[u8], line: &mut [u8], held: usize, out: &mut [u8]) -> Drained
-    requires { ⌜ (length (now line) ≡ 1025) × (held ≤ 1025) × (3084 ≤ length (now out)) ⌝ }
-    ensures { λ r. ⌜ r .held ≤ 1025 ⌝ }
+    requires { ⌜ length (now line) ≡ most ⌝ }
+    requires { ⌜ held ≤ most ⌝ }
+    requires { ⌜ lineRoom ≤ length (now out) ⌝ }
+    ensures { λ r. ⌜ r .held ≤ most ⌝ }
+    ensures { λ r. ⌜ (r .ok ≡ true → r .held ≡ length (fedLine (take held (now (line .entry))) (now (block .entry)))) ⌝ }
+    ensures { λ r. ⌜ (r .ok ≡ true → take (r .held) (now (line .exit)) ≡ fedLine (take held (now (line .entry))) (now (block .entry))) ⌝ }
 {
     let mut used = 0;
     let mut h = held;
@@ -47,7 +55,8 @@ fn output_failed() {
 
 // Writes the line that the input's end closes.
 fn close(line: &[u8], held: usize, out: &mut [u8])
-    requires { ⌜ (held ≤ length (now line)) × (3084 ≤ length (now out)) ⌝ }
+    requires { ⌜ held ≤ length (now line) ⌝ }
+    requires { ⌜ lineRoom ≤ length (now out) ⌝ }
 {
     let last = feed::finish(line, held, out);
     if !io::write_all(STDOUT_FILENO, &out[..last]) {
@@ -58,7 +67,7 @@ fn close(line: &[u8], held: usize, out: &mut [u8])
 fn main() {
     let mut block = io::large_buffer();
     let mut out = io::large_buffer();
-    let mut line = [0u8; 1025];
+    let mut line = [0u8; feed::HELD];
     let mut held: usize = 0;
     let mut turns = 0xFFFF_FFFF_FFFF_FFFFu64;
     while 0 < turns {

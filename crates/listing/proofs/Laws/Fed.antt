@@ -1,99 +1,188 @@
--- How a block is fed byte by byte: nothing, a line feed, another byte, and one part of an input after another.
--- Assumes nothing.
-use Prim.Native.Nat.{ℕ, suc, _+_, _-_, _≤_, _<_}
+-- Feeding byte by byte: the steps as the code takes them, and that what is fed leaves the line and the output from which the listing is
+-- made (`fedLine`, `fedOut`). Assumes nothing.
+use Prim.Native.Nat.{ℕ, _+_, _-_, _≤_, _<_}
 use mathlib.Core.Path.{_≡_, refl, sym, ap, _∙_}
+use mathlib.Core.Bool.{true, false, cond}
 use mathlib.Core.List.{List, [], _∷_, _++_, append-nil}
 use native.Mathlib.Omega.{arith}
-use lib.ListN.{length, take, drop, getD, length-append, length-take, length-drop}
-use lib.Seq.{take-suc, getD-drop}
-use borrow.Author.Tests.{eq-eqb, ne-eqb}
+use native.Mathlib.Numerals.{add-one}
+use lib.ListN.{length, take, drop, getD, set, length-append, length-take, length-drop, length-set, drop-of-length-le}
+use lib.Seq.{drop-cons}
+use lib.Dec.{eqb, ltb}
+use borrow.Author.Tests.{eq-eqb, ne-eqb, lt-ltb, le-ltb}
 use Rattle.listing.specs.Listing.{lf, listLine}
-use Rattle.listing.specs.Put.{put}
-use Rattle.listing.specs.Feed.{hold, fedOut, fedLine}
-use Rattle.listing.specs.Fed.{Fed}
+use Rattle.listing.specs.Put.{put, lineRoom}
+use Rattle.listing.specs.Feed.{most, hold, fedOut, fedLine}
+use Rattle.listing.specs.Fed.{Fed, standing, heldNext, endLine, holdByte, feedByte, feedBytes, feeding}
 use Rattle.listing.proofs.Blocks.{fedLine-append, fedOut-append}
-use Rattle.listing.proofs.Laws.Put.{put-nothing, put-put}
+use Rattle.listing.proofs.Laws.Held.{lf-or-other, lt-or-le, heldNext-le, take-heldNext}
+use Rattle.listing.proofs.Laws.Put.{put-nothing, put-put, length-put, put-end}
+use Rattle.listing.proofs.Laws.LineText.{listLine-size}
 
--- ---- one byte ----
+-- ---- the steps ----
 
--- a line feed: the line held is written, and none is held
-pub fed-lf : {line out out′ : List ℕ} {b held at at′ : ℕ} → b ≡ 0x0A → at′ ≡ at + length (listLine (take held line))
-    → out′ ≡ put at (listLine (take held line)) out
-    → Fed (b ∷ []) line line out out′ held 0 at at′
-unfolding lf fedOut fedLine
-fed-lf {line} {out} {out′} {b} {held} {at} e p q =
-    let s : fedOut (take held line) (b ∷ []) ≡ listLine (take held line) = rw (eq-eqb b lf e) (append-nil _) in
+module _ (b : ℕ) (s : Fed) where
+  -- a line feed ends the line
+  pub feedByte-lf : b ≡ 0x0A → feedByte b s ≡ endLine s
+  unfolding feedByte lf
+  feedByte-lf e = rw (eq-eqb b lf e)
+
+  -- another byte is held
+  pub feedByte-other : (b ≡ 0x0A → ⊥) → feedByte b s ≡ holdByte b s
+  unfolding feedByte lf
+  feedByte-other h = rw (ne-eqb b lf h)
+
+-- how much was taken before changes nothing else
+feedByte-standing : (b i : ℕ) (line : List ℕ) (h : ℕ) (out : List ℕ) (o : ℕ)
+    → let f = feedByte b (standing 0 line h out o) in standing (i + 1) (f .line) (f .held) (f .out) (f .written) ≡ feedByte b (standing i line h out o)
+unfolding feedByte endLine holdByte
+feedByte-standing b i line h out o = lf-or-other b (λ e. rw e) (λ e. rw e)
+
+module _ (block : List ℕ) (i : ℕ) (s : Fed) where
+  -- where a line has no room nothing more is fed
+  pub feedBytes-full : length (s .out) - s .written < lineRoom → feedBytes (drop i block) s ≡ s
+  unfolding feedBytes
+  feedBytes-full h = go (drop i block)
+    where
+      go : (bs : List ℕ) → feedBytes bs s ≡ s
+      go [] = refl
+      go (b ∷ bs) = rw (lt-ltb (length (s .out) - s .written) lineRoom h)
+
+  -- nor past the block's end
+  pub feedBytes-end : length block ≤ i → feedBytes (drop i block) s ≡ s
+  unfolding feedBytes
+  feedBytes-end h = rw (drop-of-length-le block h)
+
+  -- else the byte at the place is fed, and then those after it
+  feedBytes-next : i < length block → lineRoom ≤ length (s .out) - s .written
+      → feedBytes (drop i block) s ≡ feedBytes (drop (i + 1) block) (feedByte (getD block i 0) s)
+  unfolding feedBytes
+  feedBytes-next k h = rw (drop-cons block i 0 k, add-one, le-ltb (length (s .out) - s .written) lineRoom h)
+
+-- what is left, part by part
+abbrev pub Left : ℕ → ℕ → List ℕ → List ℕ → Fed → Type 0
+Left held written line out s = (held ≡ s .held) × ((written ≡ s .written) × ((line ≡ s .line) × (out ≡ s .out)))
+
+pub left-parts : {s t : Fed} → s ≡ t → (s .used ≡ t .used) × (Left (s .held) (s .written) (s .line) (s .out) t)
+left-parts e = rw e (refl, (refl, (refl, (refl, refl))))
+
+-- a turn of the loop: what is to be fed after it leaves what was to be fed before it
+pub feedBytes-turn : (block : List ℕ) (i : ℕ) (line : List ℕ) (h : ℕ) (out : List ℕ) (o : ℕ) {line′ out′ : List ℕ} {h′ o′ : ℕ} {all : Fed}
+    → i < length block → lineRoom ≤ length out - o
+    → Left h′ o′ line′ out′ (feedByte (getD block i 0) (standing 0 line h out o))
+    → feedBytes (drop i block) (standing i line h out o) ≡ all
+    → feedBytes (drop (i + 1) block) (standing (i + 1) line′ h′ out′ o′) ≡ all
+feedBytes-turn block i line h out o k r e t =
+    rw (e .0, e .1 .0, e .1 .1 .0, e .1 .1 .1, feedByte-standing (getD block i 0) i line h out o)
+    (sym (feedBytes-next block i (standing i line h out o) k r) ∙ t)
+
+-- ---- within the bytes lent ----
+
+-- what is held is within the line's bytes, and what is written within the output
+pub record Within (s : Fed) : Type 0 where
+  pub line-length : length (s .line) ≡ most
+  pub held-le : s .held ≤ most
+  pub written-le : s .written ≤ length (s .out)
+
+-- a byte more leaves it so
+pub feedByte-within : (b : ℕ) (s : Fed) → Within s → Within (feedByte b s)
+unfolding feedByte endLine holdByte
+feedByte-within b s h =
+    lf-or-other b
+    (λ e. rw e (record { line-length = h .line-length; held-le = omega arith; written-le = put-end (s .written) (listLine (take (s .held) (s .line))) (s .out) (h .written-le) }))
+    (λ e. rw e (record { line-length = length-set (s .line) (s .held) b ∙ h .line-length; held-le = heldNext-le (s .held) (h .held-le); written-le = h .written-le }))
+
+-- so does a turn of the loop
+pub within-turn : (b i : ℕ) (line : List ℕ) (h : ℕ) (out : List ℕ) (o : ℕ) {line′ out′ : List ℕ} {h′ o′ : ℕ}
+    → Left h′ o′ line′ out′ (feedByte b (standing 0 line h out o))
+    → Within (standing i line h out o) → Within (standing (i + 1) line′ h′ out′ o′)
+within-turn b i line h out o e k =
+    rw (e .0, e .1 .0, e .1 .1 .0, e .1 .1 .1, feedByte-standing b i line h out o) (feedByte-within b (standing i line h out o) k)
+
+-- ---- what was fed ----
+
+-- the bytes `input` were fed, which made s′ of s
+pub record Feeds (input : List ℕ) (s s′ : Fed) : Type 0 where
+  pub used-is : s′ .used ≡ s .used + length input
+  pub held-is : take (s′ .held) (s′ .line) ≡ fedLine (take (s .held) (s .line)) input
+  pub written-is : s′ .written ≡ s .written + length (fedOut (take (s .held) (s .line)) input)
+  pub out-is : s′ .out ≡ put (s .written) (fedOut (take (s .held) (s .line)) input) (s .out)
+  pub out-length : length (s′ .out) ≡ length (s .out)
+  pub within : Within s′
+
+-- nothing
+feeds-nothing : (s : Fed) → Within s → Feeds [] s s
+unfolding fedOut fedLine
+feeds-nothing s h =
+    record { used-is = omega arith; held-is = refl; written-is = omega arith; out-is = put-nothing (s .written) (s .out); out-length = refl; within = h }
+
+-- a line feed
+endLine-feeds : (b : ℕ) (s : Fed) → eqb b lf ≡ true → Within s → s .written + lineRoom ≤ length (s .out) → Feeds (b ∷ []) s (feedByte b s)
+unfolding fedOut fedLine feedByte endLine
+endLine-feeds b s e h r =
+    let line = listLine (take (s .held) (s .line)) in
+    let text : fedOut (take (s .held) (s .line)) (b ∷ []) ≡ line = rw e (append-nil _) in
     record {
-      line-length = refl;
-      held-is = rw (eq-eqb b lf e);
-      held-le = omega arith;
-      at-is = rw s p;
-      out-is = rw s q;
+      used-is = rw e;
+      held-is = rw e;
+      written-is = rw (text, e);
+      out-is = rw (text, e);
+      out-length = rw e (length-put (s .written) line (s .out) (omega (arith, listLine-size (take (s .held) (s .line)))));
+      within = feedByte-within b s h;
     }
 
--- another byte: it is held as far as there is room, and nothing is written
-pub fed-other : {line line′ out : List ℕ} {b held held′ at : ℕ} → (b ≡ 0x0A → ⊥) → length line′ ≡ length line → held′ ≤ length line
-    → take held′ line′ ≡ hold (take held line) b
-    → Fed (b ∷ []) line line′ out out held held′ at at
-unfolding lf fedOut fedLine
-fed-other {line} {line′} {out} {b} {held} {held′} {at} h l k q =
-    let s : fedOut (take held line) (b ∷ []) ≡ [] = rw (ne-eqb b lf h) in
+-- another byte
+holdByte-feeds : (b : ℕ) (s : Fed) → eqb b lf ≡ false → Within s → Feeds (b ∷ []) s (feedByte b s)
+unfolding fedOut fedLine feedByte holdByte
+holdByte-feeds b s e h =
     record {
-      line-length = l;
-      held-is = rw (ne-eqb b lf h) q;
-      held-le = k;
-      at-is = rw s (omega arith);
-      out-is = rw s (put-nothing at out);
+      used-is = rw e;
+      held-is = rw e (take-heldNext (s .line) (s .held) b (h .line-length) (h .held-le));
+      written-is = rw e (omega arith);
+      out-is = rw e (put-nothing (s .written) (s .out));
+      out-length = rw e;
+      within = feedByte-within b s h;
     }
 
--- ---- a block ----
-
--- one part after another
-fed-append : {a b line line′ line″ out out′ out″ : List ℕ} {held held′ held″ at at′ at″ : ℕ}
-    → Fed a line line′ out out′ held held′ at at′
-    → Fed b line′ line″ out′ out″ held′ held″ at′ at″
-    → at′ ≤ length out
-    → Fed (a ++ b) line line″ out out″ held held″ at at″
-fed-append {a} {b} {line} {line′} {out = out} {held = held} {held′} {at = at} f g h =
-    let s : fedOut (take held line) (a ++ b) ≡ fedOut (take held line) a ++ fedOut (take held′ line′) b = rw (f .held-is) (fedOut-append (take held line) a b) in
+-- one part of an input after another
+feeds-append : {a b : List ℕ} {s t u : Fed} → Feeds a s t → Feeds b t u → Feeds (a ++ b) s u
+feeds-append {a} {b} {s} {t} f g =
+    let line = take (s .held) (s .line) in
+    let text : fedOut line (a ++ b) ≡ fedOut line a ++ fedOut (take (t .held) (t .line)) b = rw (f .held-is) (fedOut-append line a b) in
     record {
-      line-length = g .line-length ∙ f .line-length;
-      held-is = g .held-is ∙ rw (f .held-is) (sym (fedLine-append (take held line) a b));
-      held-le = omega arith;
-      at-is = rw s (omega (arith, length-append (fedOut (take held line) a) (fedOut (take held′ line′) b)));
-      out-is = g .out-is ∙ rw (s, f .at-is, f .out-is) (put-put at (fedOut (take held line) a) (fedOut (take held′ line′) b) out (omega arith));
+      used-is = omega (arith, f .used-is, g .used-is, length-append a b);
+      held-is = g .held-is ∙ rw (f .held-is) (sym (fedLine-append line a b));
+      written-is = rw text (omega (arith, f .written-is, g .written-is, length-append (fedOut line a) (fedOut (take (t .held) (t .line)) b)));
+      out-is = g .out-is ∙ rw (text, f .written-is, f .out-is)
+          (put-put (s .written) (fedOut line a) (fedOut (take (t .held) (t .line)) b) (s .out) (omega (arith, f .written-is, f .within .written-le, f .out-length)));
+      out-length = g .out-length ∙ f .out-length;
+      within = g .within;
     }
 
--- the bytes of a block from one place to the one after a second are those to the second, and its byte
-take-next : (block : List ℕ) (from i : ℕ) → from ≤ i → i < length block
-    → take (i + 1 - from) (drop from block) ≡ take (i - from) (drop from block) ++ (getD block i 0 ∷ [])
-take-next block from i h k =
-    let e : i + 1 - from ≡ suc (i - from) = omega arith in
-    let d : from + (i - from) ≡ i = omega arith in
-    rw (e, take-suc (drop from block) (i - from) 0 (omega (arith, length-drop from block)), getD-drop from block (i - from) 0, d)
+-- what bytes fed to the output's end leave: those taken were fed, and one at least was where a line has room
+pub record Part (input : List ℕ) (s s′ : Fed) : Type 0 where
+  pub taken : List ℕ
+  pub left : List ℕ
+  pub parts : input ≡ taken ++ left
+  pub feeds : Feeds taken s s′
+  pub some : lineRoom ≤ length (s .out) - s .written → 0 < length input → 0 < length taken
 
-module _ (block : List ℕ) (from : ℕ) {line₀ out₀ : List ℕ} {held : ℕ} where
-  -- at the start nothing is fed
-  pub fed-start : held ≤ length line₀ → Fed (take (from - from) (drop from block)) line₀ line₀ out₀ out₀ held held 0 0
-  unfolding fedOut fedLine
-  fed-start h =
-      let e : from - from ≡ 0 = omega arith in
-      rw e (record { line-length = refl; held-is = refl; held-le = h; at-is = refl; out-is = put-nothing 0 out₀ })
-
-  -- after the bytes before place i, that at place i
-  pub fed-next : {line line′ out out′ : List ℕ} (i : ℕ) {h h′ o o′ : ℕ} → from ≤ i → i < length block → o ≤ length out₀
-      → Fed (take (i - from) (drop from block)) line₀ line out₀ out held h 0 o
-      → Fed (getD block i 0 ∷ []) line line′ out out′ h h′ o o′
-      → Fed (take (i + 1 - from) (drop from block)) line₀ line′ out₀ out′ held h′ 0 o′
-  fed-next i p q r f g = rw (take-next block from i p q) (fed-append f g r)
-
--- what is written in an output ends within what it is then
-pub put-end : (at : ℕ) (s out : List ℕ) → at ≤ length out → at + length s ≤ length (put at s out)
-unfolding put
-put-end at s out h = simp (length-append, length-take, length-drop) (omega arith)
-
--- what was written within an output that kept its length ends within it
-pub fed-within : {input line line′ out out′ : List ℕ} {held held′ at at′ : ℕ} → Fed input line line′ out out′ held held′ at at′
-    → at ≤ length out → length out′ ≡ length out → at′ ≤ length out
-fed-within {input} {line} {out = out} {held = held} {at = at} f h l =
-    omega (arith, put-end at (fedOut (take held line) input) out h, ap length (f .out-is))
+pub feedBytes-part : (input : List ℕ) (s : Fed) → Within s → Part input s (feedBytes input s)
+unfolding feedBytes
+feedBytes-part [] s h = record { taken = []; left = []; parts = refl; feeds = feeds-nothing s h; some = λ r k. k }
+feedBytes-part (b ∷ bs) s h =
+    lt-or-le (length (s .out) - s .written) lineRoom
+    (λ k. rw (lt-ltb (length (s .out) - s .written) lineRoom k)
+    (record { taken = []; left = b ∷ bs; parts = refl; feeds = feeds-nothing s h; some = λ r _. absurd (omega arith) }))
+    (λ k.
+    let one : Feeds (b ∷ []) s (feedByte b s) =
+    lf-or-other b (λ e. endLine-feeds b s e h (omega (arith, h .written-le))) (λ e. holdByte-feeds b s e h) in
+    let rest = feedBytes-part bs (feedByte b s) (one .within) in
+    rw (le-ltb (length (s .out) - s .written) lineRoom k)
+    (record {
+      taken = b ∷ rest .taken;
+      left = rest .left;
+      parts = ap {B = List ℕ} (λ r. b ∷ r) (rest .parts);
+      feeds = feeds-append one (rest .feeds);
+      some = λ r _. omega arith;
+    }))

@@ -7,13 +7,14 @@ use mathlib.Core.List.{List, [], _∷_, _++_, append-nil}
 use native.Mathlib.Omega.{arith}
 use native.Mathlib.Numerals.{add-one}
 use lib.ListN.{length, take, set, length-append, length-take}
-use lib.Seq.{take-all, take-append-le, take-suc-set}
+use lib.Seq.{take-all, take-append-le, take-suc-set, set-out}
 use lib.Dec.{eqb, ltb}
-use borrow.Author.Tests.{ltb-true, ltb-false}
+use borrow.Author.Tests.{ltb-true, ltb-false, lt-ltb, le-ltb}
 use Rattle.words.proofs.Laws.Refusals.{refusal-long}
 use Rattle.turkish.specs.Calls.{limit}
 use Rattle.listing.specs.Listing.{lf, lineRefusal, refusedLine, listLine, unclosed, listAll}
 use Rattle.listing.specs.Feed.{most, hold, lastOut}
+use Rattle.listing.specs.Fed.{heldNext}
 
 -- a byte is a line feed, or it is not
 pub lf-or-other : {P : Type 0} (b : ℕ) → (eqb b lf ≡ true → P) → (eqb b lf ≡ false → P) → P
@@ -22,6 +23,14 @@ lf-or-other {P} b = go (eqb b lf)
     go : (t : Bool) → (t ≡ true → P) → (t ≡ false → P) → P
     go true p q = p refl
     go false p q = q refl
+
+-- one number is below another, or it is not
+pub lt-or-le : {P : Type 0} (a b : ℕ) → (a < b → P) → (b ≤ a → P) → P
+lt-or-le {P} a b p q = go (ltb a b) refl
+  where
+    go : (t : Bool) → ltb a b ≡ t → P
+    go true e = p (ltb-true a b e)
+    go false e = q (ltb-false a b e)
 
 -- ---- the part held ----
 
@@ -43,14 +52,11 @@ listLine-long w h = rw (← refusal-long w h)
 
 -- so the part held of a line gives the line's output
 pub listLine-held : (line : List ℕ) → listLine (take most line) ≡ listLine line
-unfolding most limit
-listLine-held line = go (ltb 1025 (length line)) refl
-  where
-    go : (t : Bool) → ltb 1025 (length line) ≡ t → listLine (take 1025 line) ≡ listLine line
-    go true e =
-        let h : 1025 < length line = ltb-true 1025 (length line) e in
-        listLine-long (take 1025 line) (omega (arith, length-take 1025 line)) ∙ sym (listLine-long line (omega arith))
-    go false e = rw (take-all 1025 line (ltb-false 1025 (length line) e))
+unfolding most
+listLine-held line =
+    lt-or-le limit (length line)
+    (λ h. listLine-long (take most line) (omega (arith, length-take most line)) ∙ sym (listLine-long line h))
+    (λ h. rw (take-all most line (omega arith)))
 
 -- the end of the input writes the line held, if it is not empty
 pub lastOut-line : (line : List ℕ) → 0 < length line → lastOut line ≡ listLine line
@@ -77,15 +83,31 @@ lastOut-some line held h l = lastOut-line (take held line) (omega (arith, length
 
 -- ---- the bytes that hold a line ----
 
-module _ (line : List ℕ) (held b : ℕ) (l : length line ≡ 1025) where
-  -- a byte stored after those held is held with them
-  pub hold-next : held < 1025 → take (held + 1) (set line held b) ≡ hold (take held line) b
-  unfolding hold most limit
-  hold-next h =
-      rw (add-one held, take-suc-set line held b (omega arith))
-      (sym (take-all 1025 (take held line ++ (b ∷ [])) (omega (arith, length-append (take held line) (b ∷ []), length-take held line))))
+-- a byte is held after those held as long as there are fewer than the most
+pub heldNext-more : (held : ℕ) → held < most → held + 1 ≡ heldNext held
+unfolding heldNext
+heldNext-more held h = rw (lt-ltb held most h)
 
-  -- where all are held the byte is not
-  pub hold-full : 1025 ≤ held → take held line ≡ hold (take held line) b
-  unfolding hold most limit
-  hold-full h = rw (take-all held line (omega arith), take-append-le 1025 line (b ∷ []) (omega arith)) (sym (take-all 1025 line (omega arith)))
+-- and where all are held, no more
+pub heldNext-full : (held : ℕ) → most ≤ held → held ≡ heldNext held
+unfolding heldNext
+heldNext-full held h = rw (le-ltb held most h)
+
+-- so never more than the most
+pub heldNext-le : (held : ℕ) → held ≤ most → heldNext held ≤ most
+heldNext-le held h = lt-or-le held most (λ k. rw (← heldNext-more held k) (omega arith)) (λ k. rw (← heldNext-full held k) h)
+
+-- a byte stored after those held is held with them, where the line has a place for it
+pub take-heldNext : (line : List ℕ) (held b : ℕ) → length line ≡ most → held ≤ most → take (heldNext held) (set line held b) ≡ hold (take held line) b
+unfolding hold
+take-heldNext line held b l h = lt-or-le held most more full
+  where
+    more : held < most → take (heldNext held) (set line held b) ≡ take most (take held line ++ (b ∷ []))
+    more k =
+        rw (← heldNext-more held k, add-one held, take-suc-set line held b (omega arith))
+        (sym (take-all most (take held line ++ (b ∷ [])) (omega (arith, length-append (take held line) (b ∷ []), length-take held line))))
+
+    full : most ≤ held → take (heldNext held) (set line held b) ≡ take most (take held line ++ (b ∷ []))
+    full k =
+        rw (← heldNext-full held k, set-out line held b (omega arith), take-all held line (omega arith), take-append-le most line (b ∷ []) (omega arith))
+        (sym (take-all most line (omega arith)))

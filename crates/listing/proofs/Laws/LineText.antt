@@ -1,12 +1,11 @@
--- The texts of a line as the code writes them part by part, the sizes of the parts, and what the call of one word gives.
+-- The texts of a line as the code writes them part by part, the sizes of the parts.
 -- Assumes nothing.
-use Prim.Native.Nat.{ℕ, _+_, _≤_, _<_}
+use Prim.Native.Nat.{ℕ, zero, suc, _+_, _≤_}
 use mathlib.Core.Path.{_≡_, refl, sym, ap, _∙_}
 use mathlib.Core.Bool.{Bool, true, false}
 use mathlib.Core.List.{List, [], _∷_, _++_, append-assoc, append-nil}
 use native.Mathlib.Omega.{arith}
-use lib.ListN.{length, take}
-use borrow.Author.Tests.{lt-ltb, le-ltb}
+use lib.ListN.{length, take, length-append, length-take}
 use Rattle.turkish.specs.Harmony.{moreThanOneSyllable}
 use Rattle.turkish.specs.Calls.{chars, limit, accepted, passText}
 use Rattle.turkish.proofs.Laws.Accepted.{accepted-iff}
@@ -17,8 +16,9 @@ use Rattle.stages.specs.Reach.{stemOf}
 use Rattle.stages.specs.Repairs.{repairText, repairOf}
 use Rattle.words.proofs.Laws.WordCalls.{kept-le}
 use Rattle.words.proofs.Laws.RepairCalls.{pass-short, pass-kept, pass-repaired}
-use Rattle.listing.specs.Listing.{tab, lf, yesNo, oneZero, answers, fields, listLine}
-use Rattle.listing.specs.Put.{put, lineRoom, lineLength, lineOut}
+use Rattle.listing.specs.Listing.{tab, lf, yesNo, oneZero, answers, fields, lineRefusal, refusedLine, listLine}
+use Rattle.listing.specs.Put.{lineRoom}
+use Rattle.listing.proofs.Laws.LineRefusals.{lineRefusal-accepted, listLine-fields, listLine-refused}
 
 -- ---- the text of a repair ----
 
@@ -75,22 +75,30 @@ pub fields-parts : (w : List ℕ) (syllable : Bool) (s : Stem) → syllable ≡ 
 unfolding fields stemOf
 fields-parts w syllable s y q = rw (y, q) (simp append-assoc)
 
--- an accepted word, the text kept and the pass's text are short enough that the fields fit 3,084 bytes: three times 1,024 and twelve
+-- an accepted word, the text kept and the pass's text are short enough that the fields fit three times the limit and twelve bytes
 pub fields-sizes : (w : List ℕ) (s : Stem) → accepted w ≡ true → s ≡ stemOf w
-    → (length w ≤ 1024) × (s .kept ≤ length w) × (length (passText w) ≤ length w + 2)
+    → (length w ≤ limit) × (s .kept ≤ length w) × (length (passText w) ≤ length w + 2)
 unfolding limit
 fields-sizes w s ok q = (accepted-iff w .0 ok .0, kept-le w s q, passText-size w ok)
 
--- ---- the call ----
+-- ---- the whole line ----
 
-module _ (w out : List ℕ) where
-  -- an output that is too short stays
-  pub line-short : length out < 3084 → (0 ≡ lineLength w (length out)) × (out ≡ lineOut w out)
-  unfolding lineLength lineOut lineRoom
-  line-short h = rw (lt-ltb (length out) 3084 h) (refl, refl)
+-- the fields of an accepted word have room for a line
+fields-size : (w : List ℕ) → accepted w ≡ true → length (fields w) ≤ lineRoom
+unfolding fields lineRoom stemOf
+fields-size w ok =
+    let sizes = fields-sizes w (stemOf w) ok refl in
+    simp (length-append, length-answers, length-take) (omega arith)
 
-  -- any other has the line at its front
-  pub line-fits : 3084 ≤ length out → (n : ℕ) (o : List ℕ) → (n ≡ 0 + length (listLine w)) × (o ≡ put 0 (listLine w) out)
-      → (n ≡ lineLength w (length out)) × (o ≡ lineOut w out)
-  unfolding lineLength lineOut lineRoom
-  line-fits h n o e = rw (le-ltb (length out) 3084 h) (omega arith, e .1)
+-- so have the four bytes of a refused line
+refusedLine-size : (n : ℕ) → length (refusedLine n) ≤ lineRoom
+unfolding refusedLine lineRoom
+refusedLine-size n = omega arith
+
+-- and any line has
+pub listLine-size : (w : List ℕ) → length (listLine w) ≤ lineRoom
+listLine-size w = go (lineRefusal w) refl
+  where
+    go : (n : ℕ) → n ≡ lineRefusal w → length (listLine w) ≤ lineRoom
+    go zero e = rw (← listLine-fields w zero e refl) (fields-size w (lineRefusal-accepted w zero e refl))
+    go (suc n) e = rw (← listLine-refused w (suc n) e (λ z. omega arith)) (refusedLine-size (suc n))

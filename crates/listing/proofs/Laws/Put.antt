@@ -38,6 +38,11 @@ pub length-put : (at : ℕ) (s out : List ℕ) → at + length s ≤ length out 
 unfolding put
 length-put at s out h = simp (length-append, length-take, length-drop) (omega arith)
 
+-- what is written in an output ends within what it is then
+pub put-end : (at : ℕ) (s out : List ℕ) → at ≤ length out → at + length s ≤ length (put at s out)
+unfolding put
+put-end at s out h = simp (length-append, length-take, length-drop) (omega arith)
+
 -- a text written after another makes one text of the two
 pub put-put : (at : ℕ) (s t out : List ℕ) → at + length s ≤ length out → put (at + length s) t (put at s out) ≡ put at (s ++ t) out
 unfolding put

@@ -1,5 +1,5 @@
 -- `stemlist::close` meets its contract: what was written ends within the output, which kept its length. Assumes nothing.
-use Rattle.listing.proofs.Laws.Fed.{put-end}
+use Rattle.listing.proofs.Laws.Put.{put-end}
 use Rattle.listing.specs.Feed.{lastOut}
 use denote.Ref.{now}
 use native.Mathlib.Omega.{arith}
@@ -14,10 +14,17 @@ finish-requires : tie.Need-finish-requires
 finish-requires c κs = search needs
 
 slice-reshare-prefix-write-all : tie.Need-slice-reshare-prefix-write-all
-slice-reshare-prefix-write-all c = let a = c .before .before .before .before .before .before .args in omega (arith, put-end 0 (lastOut (take (a .held) (now (a .line)))) (now (a .out)) zero-le, ap length (c .before .before .finish .ensures .1))
+slice-reshare-prefix-write-all c =
+    let finish = c .before .before in
+    let a = finish .before .before .before .before .args in
+    omega (arith, put-end 0 (lastOut (take (a .held) (now (a .line)))) (now (a .out)) zero-le, ap length (finish .finish .ensures .1))
 
 slice-aggregate-write-all : tie.Need-slice-aggregate-write-all
-slice-aggregate-write-all c = let a = c .before .before .before .before .before .before .before .args in omega (arith, put-end 0 (lastOut (take (a .held) (now (a .line)))) (now (a .out)) zero-le, ap length (c .before .before .before .finish .ensures .1), length-take (c .before .before .before .finish .result) (c .before .before .before .finish .last .1 .1 .0))
+slice-aggregate-write-all c =
+    let finish = c .before .before .before in
+    let a = finish .before .before .before .before .args in
+    let written = put-end 0 (lastOut (take (a .held) (now (a .line)))) (now (a .out)) zero-le in
+    omega (arith, written, ap length (finish .finish .ensures .1), length-take (finish .finish .result) (finish .finish .last .1 .1 .0))
 
 write-all-requires : tie.Need-write-all-requires
 write-all-requires c κs = search needs

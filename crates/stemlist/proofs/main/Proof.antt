@@ -1,15 +1,16 @@
 -- `stemlist::main` meets its contract: the loop's invariant has the buffers' lengths and the bound of the line held; the measure
 -- is the turns left. Assumes nothing.
 use borrow.Author.Needs.{needs}
-use native.Mathlib.Omega.{arith}
-use lib.ListN.{length, length-take}
+use lib.ListN.{length}
 use mathlib.Core.Path.{_≡_}
 use Prim.Native.Nat.{_≤_}
+use Rattle.listing.specs.Feed.{limit, most}
+use Rattle.listing.specs.Put.{lineRoom}
 use Rattle.stemlist.proofs.main.Statement.{statement}
 use Rattle.stemlist.proofs.main.Tie as tie
 
 abbrev Inv-loop : tie.InvT-loop
-Inv-loop block₀ out₀ line₀ held₀ turns₀ block out line held turns = (65536 ≡ length block) × (65536 ≡ length out) × (1025 ≡ length line) × (held ≤ 1025)
+Inv-loop block₀ out₀ line₀ held₀ turns₀ block out line held turns = (65536 ≡ length block) × (65536 ≡ length out) × (length line ≡ most) × (held ≤ most)
 
 abbrev μ-loop : tie.MeasureT-loop
 μ-loop block₀ out₀ line₀ held₀ turns₀ block out line held turns = turns
@@ -21,6 +22,7 @@ large-buffer-requires-2 : tie.Need-large-buffer-requires-2 Inv-loop μ-loop
 large-buffer-requires-2 c κs = search needs
 
 loop-holds : tie.Need-loop-holds Inv-loop μ-loop
+unfolding most limit
 loop-holds c = search needs
 
 sub-turns : tie.Need-sub-turns Inv-loop μ-loop
@@ -39,12 +41,14 @@ returns : tie.Need-returns Inv-loop μ-loop
 returns c = search needs
 
 slice-aggregate-close : tie.Need-slice-aggregate-close Inv-loop μ-loop
+unfolding most limit
 slice-aggregate-close c = search needs
 
 slice-aggregate-close-2 : tie.Need-slice-aggregate-close-2 Inv-loop μ-loop
 slice-aggregate-close-2 c = search needs
 
 close-requires : tie.Need-close-requires Inv-loop μ-loop
+unfolding most lineRoom limit
 close-requires c κs = search needs
 
 returns-2 : tie.Need-returns-2 Inv-loop μ-loop
@@ -63,12 +67,14 @@ slice-aggregate-drain : tie.Need-slice-aggregate-drain Inv-loop μ-loop
 slice-aggregate-drain c = search needs
 
 slice-aggregate-drain-2 : tie.Need-slice-aggregate-drain-2 Inv-loop μ-loop
+unfolding most limit
 slice-aggregate-drain-2 c = search needs
 
 slice-aggregate-drain-3 : tie.Need-slice-aggregate-drain-3 Inv-loop μ-loop
 slice-aggregate-drain-3 c = search needs
 
 drain-requires : tie.Need-drain-requires Inv-loop μ-loop
+unfolding most lineRoom limit
 drain-requires c κs = search needs
 
 output-failed-requires : tie.Need-output-failed-requires Inv-loop μ-loop

@@ -1,10 +1,12 @@
 -- `listing::feed::feed_byte` meets its contract. A line feed writes the line held; another byte is held as far as there is room.
 -- Assumes nothing.
+use mathlib.Core.Path.{_≡_, refl}
 use denote.Ref.{now}
 use lib.ListN.{length-take}
 use native.Mathlib.Omega.{arith}
 use borrow.Author.Needs.{needs}
-use Rattle.listing.proofs.Laws.Fed.{fed-lf, fed-other}
+use Rattle.listing.specs.Fed.{standing, endLine, holdByte}
+use Rattle.listing.proofs.Laws.Fed.{feedByte-lf, feedByte-other}
 use Rattle.listing.proofs.feed.feed_byte.Statement.{statement}
 use Rattle.listing.proofs.feed.feed_byte.Tie as tie
 
@@ -24,7 +26,12 @@ same-length-2 : tie.Need-same-length-2
 same-length-2 c = search needs
 
 returns : tie.Need-returns
-returns c = fed-lf (omega arith) (c .before .before .put-line .ensures .0) (c .before .before .put-line .ensures .1)
+unfolding endLine
+returns c =
+    let a = c .before .before .before .before .before .before .before .before .args in
+    let e : a .b ≡ 0x0A = omega arith in
+    let put = c .before .before .put-line .ensures in
+    rw (feedByte-lf (a .b) (standing 0 (now (a .line)) (a .held) (now (a .out)) (a .at)) e) (refl, (refl, (put .0, (refl, put .1))))
 
 hold-byte-requires : tie.Need-hold-byte-requires
 hold-byte-requires c κs = search needs
@@ -33,7 +40,11 @@ same-length-3 : tie.Need-same-length-3
 same-length-3 c = search needs
 
 returns-2 : tie.Need-returns-2
-returns-2 c = fed-other (λ e. omega arith) (omega arith) (omega arith) (c .before .before .hold-byte .ensures .2)
+unfolding holdByte
+returns-2 c =
+    let a = c .before .before .before .before .before .before .before .args in
+    let hold = c .before .before .hold-byte .ensures in
+    rw (feedByte-other (a .b) (standing 0 (now (a .line)) (a .held) (now (a .out)) (a .at)) (λ e. omega arith)) (refl, (hold .0, (refl, (hold .1, refl))))
 
 pub feed-byte-spec : {M : Type 1} → statement M
 feed-byte-spec =

@@ -1,10 +1,10 @@
 -- `listing::line::put_line` meets its contract: the number says which of the two lines it is.
 -- Assumes nothing.
-use Prim.Native.Nat.{_≤_}
 use native.Mathlib.Omega.{arith}
 use borrow.Author.Needs.{needs}
 use denote.Ref.{now}
-use Rattle.listing.specs.Listing.{lineRefusal, refusedLine}
+use Rattle.listing.specs.Listing.{refusedLine}
+use Rattle.listing.specs.Put.{lineRoom}
 use Rattle.listing.proofs.Laws.Put.{put-equal}
 use Rattle.listing.proofs.Laws.LineRefusals.{lineRefusal-most, lineRefusal-accepted, listLine-fields, listLine-refused}
 use Rattle.listing.proofs.line.put_line.Statement.{statement}
@@ -14,14 +14,19 @@ line-refusal-requires : tie.Need-line-refusal-requires
 line-refusal-requires c κs = search needs
 
 put-refused-requires : tie.Need-put-refused-requires
-put-refused-requires c κs = (omega (arith, lineRefusal-most (now (c .before .before .before .before .before .args .w)), c .before .before .line-refusal .ensures), omega arith)
+unfolding lineRoom
+put-refused-requires c κs =
+    let refusal = c .before .before in
+    (omega (arith, lineRefusal-most (now (refusal .before .before .before .args .w)), refusal .line-refusal .ensures), omega arith)
 
 same-length : tie.Need-same-length
 same-length c = search needs
 
 returns : tie.Need-returns
 unfolding refusedLine
-returns c = put-equal _ _ (listLine-refused _ _ (c .before .before .before .before .before .line-refusal .ensures) (c .before .before .before .before .if1 .taken)) (c .before .before .put-refused .ensures)
+returns c =
+    let test = c .before .before .before .before in
+    put-equal _ _ (listLine-refused _ _ (test .before .line-refusal .ensures) (test .if1 .taken)) (c .before .before .put-refused .ensures)
 
 put-fields-requires : tie.Need-put-fields-requires
 put-fields-requires c κs = (lineRefusal-accepted _ _ (c .before .before .line-refusal .ensures) (c .before .if1 .left), omega arith)
@@ -30,7 +35,9 @@ same-length-2 : tie.Need-same-length-2
 same-length-2 c = search needs
 
 returns-2 : tie.Need-returns-2
-returns-2 c = put-equal _ _ (listLine-fields _ _ (c .before .before .before .before .before .line-refusal .ensures) (c .before .before .before .before .if1 .left)) (c .before .before .put-fields .ensures)
+returns-2 c =
+    let test = c .before .before .before .before in
+    put-equal _ _ (listLine-fields _ _ (test .before .line-refusal .ensures) (test .if1 .left)) (c .before .before .put-fields .ensures)
 
 pub put-line-spec : {M : Type 1} → statement M
 put-line-spec =
