@@ -1,3 +1,8 @@
--- `Blocks` says that feeding the input in any blocks gives the listing of the whole; `Laws` has what the functions' proofs rest on.
+-- `Theorems` is the file to open first; the others prove it, each named for what it proves, and `Laws` has what the functions' proofs
+-- rest on.
+pub mod Theorems
+pub mod Lines
+pub mod Example
 pub mod Blocks
+pub mod Calls
 pub mod Laws

@@ -1,10 +1,32 @@
--- The listing of an input that comes in blocks, as the calls make it: each block's output with the line held from those before it,
--- and at the end the output of the line left. Assumes nothing.
-use Prim.Native.Nat.{ℕ}
+-- The listing of an input that comes in blocks: as the parts of it make it, one after the other, and as calls of `feed` and `finish` do.
+-- Assumes nothing.
+use Prim.Native.Nat.{ℕ, _-_}
 use mathlib.Core.List.{List, [], _∷_, _++_}
+use lib.ListN.{take, drop}
 use Rattle.listing.specs.Feed.{fedOut, fedLine, lastOut}
+use Rattle.listing.specs.Fed.{feeding}
 
--- the outputs of the blocks, one after the other, with `line` held before them
+-- the outputs of the blocks, one after the other, with `line` held before them, and at the end that of the line left
 unfoldable pub fedAll : List ℕ → List (List ℕ) → List ℕ
 fedAll line [] = lastOut line
 fedAll line (block ∷ blocks) = fedOut line block ++ fedAll (fedLine line block) blocks
+
+-- a call of `feed`: the block, the place in it from which it is fed, and the output lent
+pub record Call : Type 0 where
+  pub block : List ℕ
+  pub from : ℕ
+  pub out : List ℕ
+
+-- the parts of their blocks that calls take, with the first `held` bytes of `line` held before them
+unfoldable pub takenBy : List Call → List ℕ → ℕ → List (List ℕ)
+takenBy [] line held = []
+takenBy (c ∷ cs) line held =
+    let s = feeding (c .block) (c .from) line held (c .out) in
+    take (s .used - c .from) (drop (c .from) (c .block)) ∷ takenBy cs (s .line) (s .held)
+
+-- the bytes that the calls write, one after the other, and at the end those of `finish`
+unfoldable pub writtenBy : List Call → List ℕ → ℕ → List ℕ
+writtenBy [] line held = lastOut (take held line)
+writtenBy (c ∷ cs) line held =
+    let s = feeding (c .block) (c .from) line held (c .out) in
+    take (s .written) (s .out) ++ writtenBy cs (s .line) (s .held)

@@ -87,7 +87,7 @@ returns-2 c =
     let l = c .before .loop in
     let block = now (c .before .before .before .before .before .args .block) in
     let t = sym (fedLine-end (take (l .h) (l .line)) block (l .used) (omega arith)) ∙ l .inv .4 in
-    (l .inv .3, (λ _. omega (arith, length-take (l .h) (l .line), ap length t), λ _. t))
+    (omega arith, (λ _. omega (arith, length-take (l .h) (l .line), ap length t), λ _. t))
 
 pub drain-spec : {M : Type 1} → statement M
 drain-spec =

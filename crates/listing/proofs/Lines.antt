@@ -1,0 +1,72 @@
+-- The lines of an input and what each gives, case by case as document 01 has it. Assumes nothing.
+use Prim.Native.Nat.{ℕ, _≤_, _<_}
+use mathlib.Core.Path.{_≡_, refl, sym}
+use mathlib.Core.Bool.{Bool, true, false, _||_, false≢true}
+use mathlib.Core.List.{List, [], _∷_, _++_, append-assoc, append-nil}
+use lib.ListN.{length}
+use lib.Dec.{eqb}
+use borrow.Author.Tests.{eqb-true, eqb-false, eq-eqb, ne-eqb, lt-ltb, le-ltb}
+use Rattle.utf8.specs.Validity.{isText}
+use Rattle.turkish.specs.Letters.{text, any, has}
+use Rattle.turkish.specs.Calls.{limit, refusal, accepted}
+use Rattle.listing.specs.Listing.{tab, lf, lineRefusal, fields, refusedLine, listLine, unclosed, linesFrom, listAll, listing}
+
+-- ---- one line ----
+
+module _ (w : List ℕ) where
+  -- an accepted word without a tab has its fields
+  pub listLine-accepted : accepted w ≡ true → has w tab ≡ false → listLine w ≡ fields w
+  unfolding listLine lineRefusal accepted
+  listLine-accepted a t = rw (eqb-true (refusal w) 0 a, t)
+
+  -- one with a tab is refused under 4
+  pub listLine-tab : accepted w ≡ true → has w tab ≡ true → listLine w ≡ text "!\t4\n"
+  unfolding listLine lineRefusal accepted refusedLine text tab lf
+  listLine-tab a t = rw (eqb-true (refusal w) 0 a, t)
+
+  -- a word over the limit under 1
+  pub listLine-over : limit < length w → listLine w ≡ text "!\t1\n"
+  unfolding listLine lineRefusal refusal refusedLine text tab lf
+  listLine-over h = rw (lt-ltb limit (length w) h)
+
+  -- one within it that is not UTF-8 under 2
+  pub listLine-not-text : length w ≤ limit → isText w ≡ false → listLine w ≡ text "!\t2\n"
+  unfolding listLine lineRefusal refusal refusedLine text tab lf
+  listLine-not-text h t = rw (le-ltb limit (length w) h, t)
+
+-- ---- the lines of an input ----
+
+-- neither of two is yes where not one of them is
+neither : (s t : Bool) → (s || t) ≡ false → (s ≡ false) × (t ≡ false)
+neither true t e = absurd (false≢true (sym e))
+neither false t e = (refl, e)
+
+-- what ends in a line feed and has no other is one line
+linesFrom-line : (line w rest : List ℕ) → has w lf ≡ false → linesFrom line (w ++ (lf ∷ rest)) ≡ (line ++ w) ∷ linesFrom [] rest
+unfolding linesFrom has any
+linesFrom-line line [] rest n = rw (eq-eqb lf lf refl, append-nil line)
+linesFrom-line line (b ∷ w) rest n =
+    let d = neither (eqb lf b) (any (eqb lf) w) n in
+    rw (ne-eqb b lf (λ e. eqb-false lf b (d .0) (sym e)), linesFrom-line (line ++ (b ∷ [])) w rest (d .1), append-assoc)
+
+-- what has none is a last line that is not closed
+linesFrom-last : (line w : List ℕ) → has w lf ≡ false → linesFrom line w ≡ unclosed (line ++ w)
+unfolding linesFrom has any
+linesFrom-last line [] n = rw (append-nil line)
+linesFrom-last line (b ∷ w) n =
+    let d = neither (eqb lf b) (any (eqb lf) w) n in
+    rw (ne-eqb b lf (λ e. eqb-false lf b (d .0) (sym e)), linesFrom-last (line ++ (b ∷ [])) w (d .1), append-assoc)
+
+-- so a word ended by a line feed gives its line, and then comes the listing of what follows
+pub listing-line : (w rest : List ℕ) → has w lf ≡ false → listing (w ++ (lf ∷ rest)) ≡ listLine w ++ listing rest
+unfolding listing listAll
+listing-line w rest n = rw (linesFrom-line [] w rest n)
+
+-- and a last one that is not closed gives its line if it is not empty
+pub listing-last : (b : ℕ) (w : List ℕ) → has (b ∷ w) lf ≡ false → listing (b ∷ w) ≡ listLine (b ∷ w)
+unfolding listing listAll unclosed
+listing-last b w n = rw (linesFrom-last [] (b ∷ w) n, append-nil)
+
+pub listing-nothing : listing [] ≡ []
+unfolding listing listAll linesFrom unclosed
+listing-nothing = refl

@@ -1,0 +1,70 @@
+-- The file to open first: what the listing promises, in the words of document 01's section "stemlist". Each theorem is proved in a line
+-- from the files named for what they prove. That the code gives these definitions' answers is the contracts' part. Assumes nothing.
+use Prim.Native.Nat.{ℕ, _≤_, _<_}
+use mathlib.Core.Path.{_≡_}
+use mathlib.Core.Bool.{true, false}
+use mathlib.Core.List.{List, [], _∷_, _++_, flatten}
+use lib.ListN.{length}
+use Rattle.utf8.specs.Validity.{isText}
+use Rattle.turkish.specs.Letters.{text, has}
+use Rattle.turkish.specs.Calls.{limit, accepted}
+use Rattle.listing.specs.Listing.{tab, lf, fields, listLine, listing}
+use Rattle.listing.specs.Put.{lineRoom}
+use Rattle.listing.specs.Feed.{most}
+use Rattle.listing.specs.Fed.{feeding}
+use Rattle.listing.specs.Blocks.{fedAll, Call, takenBy, writtenBy}
+use Rattle.listing.proofs.Lines as Lines
+use Rattle.listing.proofs.Example.{example-lines}
+use Rattle.listing.proofs.Blocks.{blocks-listing}
+use Rattle.listing.proofs.Calls.{writtenBy-listing}
+use Rattle.listing.proofs.Laws.LineText.{listLine-size}
+use Rattle.listing.proofs.Laws.OneCall.{feeding-call}
+
+-- ---- words ended by LF ----
+
+-- a word ended by LF gives one line, and then comes the listing of what follows it
+pub one-line-a-word : (w rest : List ℕ) → has w lf ≡ false → listing (w ++ (lf ∷ rest)) ≡ listLine w ++ listing rest
+one-line-a-word = Lines.listing-line
+
+-- a last line without LF counts if it is not empty
+pub last-line-counts : (b : ℕ) (w : List ℕ) → has (b ∷ w) lf ≡ false → listing (b ∷ w) ≡ listLine (b ∷ w)
+last-line-counts = Lines.listing-last
+
+pub empty-input-empty : listing [] ≡ []
+empty-input-empty = Lines.listing-nothing
+
+-- ---- the line of a word ----
+
+-- word, syllable check, stage, flag, kept text and pass result, where the word is accepted and has no tab
+pub accepted-line : (w : List ℕ) → accepted w ≡ true → has w tab ≡ false → listLine w ≡ fields w
+accepted-line = Lines.listLine-accepted
+
+-- a refused line is `!`, one tab and the number, and nothing of the word: over the limit, not UTF-8, a tab
+pub refused-lines : (w : List ℕ)
+    → (limit < length w → listLine w ≡ text "!\t1\n")
+    × (length w ≤ limit → isText w ≡ false → listLine w ≡ text "!\t2\n")
+    × (accepted w ≡ true → has w tab ≡ true → listLine w ≡ text "!\t4\n")
+refused-lines w = (Lines.listLine-over w, Lines.listLine-not-text w, Lines.listLine-tab w)
+
+-- the input lines `evler` and `siniz` give document 01's two lines
+pub evler-siniz : listing (text "evler\nsiniz\n") ≡ text "evler\tY\tY\t0\tev\tev\nsiniz\tY\tY\t1\t\t\n"
+evler-siniz = example-lines
+
+-- any line fits the room for one
+pub lines-fit : (w : List ℕ) → length (listLine w) ≤ lineRoom
+lines-fit = listLine-size
+
+-- ---- a stream in blocks ----
+
+-- a stream cut into any blocks gives the listing of the whole
+pub any-blocks : (blocks : List (List ℕ)) → fedAll [] blocks ≡ listing (flatten blocks)
+any-blocks = blocks-listing
+
+-- whatever calls of `feed` are made, with whatever outputs, they write the listing of what they take, `finish` closing it
+pub any-calls : (calls : List Call) (line : List ℕ) → length line ≡ most → writtenBy calls line 0 ≡ listing (flatten (takenBy calls line 0))
+any-calls = writtenBy-listing
+
+-- where a line has room in the output a call takes something of what is left of its block
+pub calls-go-on : (block : List ℕ) (from : ℕ) (line : List ℕ) (held : ℕ) (out : List ℕ) → length line ≡ most → held ≤ most → lineRoom ≤ length out
+    → from < length block → from < feeding block from line held out .used
+calls-go-on block from line held out l h r k = feeding-call block from line held out l h .used-more k r
