@@ -1,4 +1,4 @@
 // The listing of a stream of words: one word's whole output line, and the step that takes a block of input.
 pub mod feed;
-pub mod line;
+mod line;
 mod put;

@@ -7,7 +7,7 @@ use stages::stem::Stem;
 use stages::syllable;
 use words::refusal;
 ghost use mathlib.Core.Path.{_≡_};
-ghost use mathlib.Core.Bool.{true};
+ghost use mathlib.Core.Bool.{true, cond};
 ghost use Prim.Native.Nat.{_+_, _≤_, _<_};
 ghost use lib.ListN.{length};
 ghost use Rattle.turkish.specs.Letters.{has};
@@ -15,15 +15,23 @@ ghost use Rattle.turkish.specs.Harmony.{moreThanOneSyllable};
 ghost use Rattle.turkish.specs.Calls.{chars, accepted, passText};
 ghost use Rattle.stages.specs.Reach.{stemOf};
 ghost use Rattle.stages.specs.Repairs.{repairText};
-ghost use Rattle.listing.specs.Listing.{tab, lineRefusal, yesNo, oneZero, answers, fields, refusedLine, listLine};
+ghost use Rattle.listing.specs.Listing.{tab, lineRefusal, answers, fields, refusedLine, listLine};
 ghost use Rattle.listing.specs.Put.{put, lineRoom};
 
 // Room for any output line: three times the limit, and twelve bytes.
-pub const LINE: usize = 3 * refusal::LIMIT + 12;
+pub(crate) const LINE: usize = 3 * refusal::LIMIT + 12;
 
 const TAB: u8 = 0x09;
 
 const LF: u8 = 0x0A;
+
+const YES: u8 = 0x59;
+
+const NO: u8 = 0x4E;
+
+const ONE: u8 = 0x31;
+
+const ZERO: u8 = 0x30;
 
 // Whether a tab stands in the line.
 fn has_tab(w: &[u8]) -> bool
@@ -40,7 +48,7 @@ fn has_tab(w: &[u8]) -> bool
 }
 
 // Why a line is refused: 1, 2, or 4 for a tab; 0 where it is not.
-pub fn line_refusal(w: &[u8]) -> u32
+fn line_refusal(w: &[u8]) -> u32
     ensures { λ r. ⌜ r ≡ lineRefusal (now (w .entry)) ⌝ }
 {
     let n = refusal::refusal_of(w);
@@ -53,22 +61,14 @@ pub fn line_refusal(w: &[u8]) -> u32
     0
 }
 
-fn yes_no(t: bool) -> u8
-    ensures { λ r. ⌜ r ≡ yesNo t ⌝ }
+// One of two bytes, by an answer.
+fn either(t: bool, yes: u8, no: u8) -> u8
+    ensures { λ r. ⌜ r ≡ cond t yes no ⌝ }
 {
     if t {
-        return 0x59;
+        return yes;
     }
-    0x4E
-}
-
-fn one_zero(t: bool) -> u8
-    ensures { λ r. ⌜ r ≡ oneZero t ⌝ }
-{
-    if t {
-        return 0x31;
-    }
-    0x30
+    no
 }
 
 // Writes syllable check, stage and flag, each between tabs.
@@ -78,11 +78,11 @@ fn put_answers(out: &mut [u8], at: usize, syllable: bool, yes: bool, flag: bool)
     ensures { λ r. ⌜ now (out .exit) ≡ put at (answers syllable yes flag) (now (out .entry)) ⌝ }
 {
     let a = put::put_byte(out, at, TAB);
-    let b = put::put_byte(out, a, yes_no(syllable));
+    let b = put::put_byte(out, a, either(syllable, YES, NO));
     let c = put::put_byte(out, b, TAB);
-    let d = put::put_byte(out, c, yes_no(yes));
+    let d = put::put_byte(out, c, either(yes, YES, NO));
     let e = put::put_byte(out, d, TAB);
-    let f = put::put_byte(out, e, one_zero(flag));
+    let f = put::put_byte(out, e, either(flag, ONE, ZERO));
     put::put_byte(out, f, TAB)
 }
 

@@ -2,18 +2,18 @@
 -- made (`fedLine`, `fedOut`). Assumes nothing.
 use Prim.Native.Nat.{ℕ, _+_, _-_, _≤_, _<_}
 use mathlib.Core.Path.{_≡_, refl, sym, ap, _∙_}
-use mathlib.Core.Bool.{true, false, cond}
+use mathlib.Core.Bool.{true, false}
 use mathlib.Core.List.{List, [], _∷_, _++_, append-nil}
 use native.Mathlib.Omega.{arith}
 use native.Mathlib.Numerals.{add-one}
-use lib.ListN.{length, take, drop, getD, set, length-append, length-take, length-drop, length-set, drop-of-length-le}
+use lib.ListN.{length, take, drop, getD, set, length-append, length-set, drop-of-length-le}
 use lib.Seq.{drop-cons}
 use lib.Dec.{eqb, ltb}
 use borrow.Author.Tests.{eq-eqb, ne-eqb, lt-ltb, le-ltb}
 use Rattle.listing.specs.Listing.{lf, listLine}
 use Rattle.listing.specs.Put.{put, lineRoom}
 use Rattle.listing.specs.Feed.{most, hold, fedOut, fedLine}
-use Rattle.listing.specs.Fed.{Fed, standing, heldNext, endLine, holdByte, feedByte, feedBytes, feeding}
+use Rattle.listing.specs.Fed.{Fed, standing, heldNext, endLine, holdByte, feedByte, feedBytes}
 use Rattle.listing.proofs.Blocks.{fedLine-append, fedOut-append}
 use Rattle.listing.proofs.Laws.Held.{lf-or-other, lt-or-le, heldNext-le, take-heldNext}
 use Rattle.listing.proofs.Laws.Put.{put-nothing, put-put, length-put, put-end}

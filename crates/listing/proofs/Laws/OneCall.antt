@@ -1,7 +1,7 @@
 -- What one call of `feed` leaves, in the words of the listing: the part that it takes of the block has gone into the line held and the
 -- output, and the rest is left for the next call. Assumes nothing.
 use Prim.Native.Nat.{ℕ, _+_, _-_, _≤_, _<_}
-use mathlib.Core.Path.{_≡_, refl, sym, ap, _∙_}
+use mathlib.Core.Path.{_≡_, sym, ap, _∙_}
 use mathlib.Core.List.{List, _++_}
 use native.Mathlib.Omega.{arith}
 use native.Mathlib.Nat.{zero-add}
@@ -11,7 +11,7 @@ use Rattle.listing.specs.Put.{put, lineRoom}
 use Rattle.listing.specs.Feed.{most, fedOut, fedLine}
 use Rattle.listing.specs.Fed.{Fed, standing, feeding}
 use Rattle.listing.proofs.Blocks.{fedLine-append}
-use Rattle.listing.proofs.Laws.Fed.{Within, Part, feedBytes-part}
+use Rattle.listing.proofs.Laws.Fed.{Within, feedBytes-part}
 
 -- s is left of the block from place `from` on, with the first `held` bytes of `line` held and the whole of `out` free
 pub record OneCall (block : List ℕ) (from : ℕ) (line : List ℕ) (held : ℕ) (out : List ℕ) (s : Fed) : Type 0 where

@@ -1,6 +1,6 @@
 -- `listing::feed::feed` meets its contract. The loop's invariant: what is left to feed leaves what all of it leaves, and what is held and
 -- written is within the bytes lent. The measure is what is left of the block. Assumes nothing.
-use Prim.Native.Nat.{_-_, _≤_, _<_}
+use Prim.Native.Nat.{_-_, _≤_}
 use mathlib.Core.Path.{_≡_, refl, sym, _∙_}
 use native.Mathlib.Omega.{arith}
 use denote.Ref.{now}

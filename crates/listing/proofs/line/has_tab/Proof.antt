@@ -1,7 +1,7 @@
 -- `listing::line::has_tab` meets its contract. The loop's invariant: what is left to search has a tab where all of it has one.
 -- The measure is what is left of the word. Assumes nothing.
 use Prim.Native.Nat.{_-_, _≤_}
-use mathlib.Core.Path.{_≡_, refl, sym, _∙_}
+use mathlib.Core.Path.{_≡_, refl, _∙_}
 use native.Mathlib.Omega.{arith}
 use lib.ListN.{length, drop}
 use borrow.Author.Needs.{needs}

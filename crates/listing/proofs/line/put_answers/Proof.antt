@@ -1,7 +1,7 @@
 -- `listing::line::put_answers` meets its contract: seven bytes written one after the other are the answers.
 -- Assumes nothing.
 use borrow.Author.Needs.{needs}
-use Rattle.listing.specs.Listing.{tab, answers}
+use Rattle.listing.specs.Listing.{tab, yesNo, oneZero, answers}
 use Rattle.listing.proofs.Laws.Put.{wrote-nothing, wrote-byte, wrote-all}
 use Rattle.listing.proofs.Laws.LineText.{answers-bytes}
 use Rattle.listing.proofs.line.put_answers.Statement.{statement}
@@ -10,8 +10,8 @@ use Rattle.listing.proofs.line.put_answers.Tie as tie
 put-byte-requires : tie.Need-put-byte-requires
 put-byte-requires c κs = search needs
 
-yes-no-requires : tie.Need-yes-no-requires
-yes-no-requires c κs = search needs
+either-requires : tie.Need-either-requires
+either-requires c κs = search needs
 
 put-byte-requires-2 : tie.Need-put-byte-requires-2
 put-byte-requires-2 c κs = search needs
@@ -19,8 +19,8 @@ put-byte-requires-2 c κs = search needs
 put-byte-requires-3 : tie.Need-put-byte-requires-3
 put-byte-requires-3 c κs = search needs
 
-yes-no-requires-2 : tie.Need-yes-no-requires-2
-yes-no-requires-2 c κs = search needs
+either-requires-2 : tie.Need-either-requires-2
+either-requires-2 c κs = search needs
 
 put-byte-requires-4 : tie.Need-put-byte-requires-4
 put-byte-requires-4 c κs = search needs
@@ -28,8 +28,8 @@ put-byte-requires-4 c κs = search needs
 put-byte-requires-5 : tie.Need-put-byte-requires-5
 put-byte-requires-5 c κs = search needs
 
-one-zero-requires : tie.Need-one-zero-requires
-one-zero-requires c κs = search needs
+either-requires-3 : tie.Need-either-requires-3
+either-requires-3 c κs = search needs
 
 put-byte-requires-6 : tie.Need-put-byte-requires-6
 put-byte-requires-6 c κs = search needs
@@ -41,7 +41,7 @@ same-length : tie.Need-same-length
 same-length c = search needs
 
 returns : tie.Need-returns
-unfolding answers tab
+unfolding answers tab yesNo oneZero
 returns c =
     let f = c .before .before in
     let e = f .before .before .before .before in
@@ -50,13 +50,16 @@ returns c =
     let b = third .before .before .before .before .before in
     let a = b .before .before .before .before in
     let first = a .before .before .before .before .before in
-    wrote-all (answers-bytes _ _ _ (a .before .yes-no .ensures) (third .before .yes-no2 .ensures) (e .before .one-zero .ensures))
+    let start = first .before .before .before in
+    let syllable = a .before .either .ensures in
+    let yes = third .before .either2 .ensures in
+    wrote-all (answers-bytes (start .args .syllable) (start .args .yes) (start .args .flag) syllable yes (e .before .either3 .ensures))
     (wrote-byte _
     (wrote-byte _
     (wrote-byte _
     (wrote-byte _
     (wrote-byte _
-    (wrote-byte _ (wrote-byte _ (wrote-nothing (first .before .before .before .pre)) (first .put-byte .ensures)) (a .put-byte2 .ensures))
+    (wrote-byte _ (wrote-byte _ (wrote-nothing (start .pre)) (first .put-byte .ensures)) (a .put-byte2 .ensures))
     (b .put-byte3 .ensures))
     (third .put-byte4 .ensures))
     (d .put-byte5 .ensures))
@@ -68,13 +71,13 @@ put-answers-spec =
     tie.close
     (tie.spec
     put-byte-requires
-    yes-no-requires
+    either-requires
     put-byte-requires-2
     put-byte-requires-3
-    yes-no-requires-2
+    either-requires-2
     put-byte-requires-4
     put-byte-requires-5
-    one-zero-requires
+    either-requires-3
     put-byte-requires-6
     put-byte-requires-7
     same-length

@@ -31,12 +31,14 @@ same-length c = search needs
 returns : tie.Need-returns
 unfolding tab lf refusedLine
 returns c =
+    let d = c .before .before in
+    let third = d .before .before .before .before in
+    let b = third .before .before .before .before in
+    let a = b .before .before .before .before in
     wrote-all refl
     (wrote-byte _
-    (wrote-byte _
-    (wrote-byte _ (wrote-byte _ (wrote-nothing (c .before .before .before .before .before .before .before .before .before .before .before .before .before .before .before .before .before .pre .1)) (c .before .before .before .before .before .before .before .before .before .before .before .before .before .before .put-byte .ensures)) (c .before .before .before .before .before .before .before .before .before .before .put-byte2 .ensures))
-    (c .before .before .before .before .before .before .put-byte3 .ensures))
-    (c .before .before .put-byte4 .ensures))
+    (wrote-byte _ (wrote-byte _ (wrote-byte _ (wrote-nothing (a .before .before .before .pre .1)) (a .put-byte .ensures)) (b .put-byte2 .ensures)) (third .put-byte3 .ensures))
+    (d .put-byte4 .ensures))
 
 pub put-refused-spec : {M : Type 1} → statement M
 put-refused-spec =

@@ -15,7 +15,8 @@ same-length c = search needs
 
 returns : tie.Need-returns
 returns c =
-    wrote-all (repair-none _ _ (c .if1 .taken)) (wrote-bytes _ _ (c .before .before .before .before .before .before .before .pre .0) (wrote-nothing (omega arith)) (c .before .before .before .put-bytes .ensures))
+    let kept = c .before .before .before in
+    wrote-all (repair-none _ _ (c .if1 .taken)) (wrote-bytes _ _ (kept .before .before .before .before .pre .0) (wrote-nothing (omega arith)) (kept .put-bytes .ensures))
 
 put-byte-requires : tie.Need-put-byte-requires
 put-byte-requires c κs = search needs
@@ -25,8 +26,10 @@ same-length-2 c = search needs
 
 returns-2 : tie.Need-returns-2
 returns-2 c =
+    let one = c .before .before .before in
+    let kept = one .before .before .before .before .before in
     wrote-all (repair-one _ _ (c .if2 .taken))
-    (wrote-byte _ (wrote-bytes _ _ (c .before .before .before .before .before .before .before .before .before .before .before .before .pre .0) (wrote-nothing (omega arith)) (c .before .before .before .before .before .before .before .before .put-bytes .ensures)) (c .before .before .before .put-byte .ensures))
+    (wrote-byte _ (wrote-bytes _ _ (kept .before .before .before .before .pre .0) (wrote-nothing (omega arith)) (kept .put-bytes .ensures)) (one .put-byte .ensures))
 
 put-byte-requires-2 : tie.Need-put-byte-requires-2
 put-byte-requires-2 c κs = search needs
@@ -36,10 +39,13 @@ same-length-3 c = search needs
 
 returns-3 : tie.Need-returns-3
 returns-3 c =
+    let two = c .before .before in
+    let one = two .before .before .before .before .before in
+    let kept = one .before .before .before .before .before in
     wrote-all (repair-two _ _ (omega arith))
     (wrote-byte _
-    (wrote-byte _ (wrote-bytes _ _ (c .before .before .before .before .before .before .before .before .before .before .before .before .before .before .before .before .pre .0) (wrote-nothing (omega arith)) (c .before .before .before .before .before .before .before .before .before .before .before .before .put-bytes .ensures)) (c .before .before .before .before .before .before .before .put-byte .ensures))
-    (c .before .before .put-byte2 .ensures))
+    (wrote-byte _ (wrote-bytes _ _ (kept .before .before .before .before .pre .0) (wrote-nothing (omega arith)) (kept .put-bytes .ensures)) (one .put-byte .ensures))
+    (two .put-byte2 .ensures))
 
 pub put-repair-spec : {M : Type 1} → statement M
 put-repair-spec =
