@@ -8,8 +8,8 @@ ghost use mathlib.Core.Path.{_≡_};
 ghost use mathlib.Core.Bool.{true};
 ghost use Prim.Native.Nat.{_≤_};
 ghost use lib.ListN.{length, take};
-ghost use Rattle.listing.specs.Put.{lineRoom};
-ghost use Rattle.listing.specs.Feed.{most, fedLine};
+ghost use Rattle.listing.specs.Put.{put, lineRoom};
+ghost use Rattle.listing.specs.Feed.{most, fedLine, lastOut};
 
 // Whether all was written, and how many bytes of the line are held.
 struct Drained {
@@ -17,8 +17,9 @@ struct Drained {
     held: usize,
 }
 
-// Writes the lines of the words that end in the block. Where all was written, the line held is the one after the whole block; what went
-// to the descriptor no contract can say, and where a write failed how far the block was fed is left open.
+// Writes the lines of the words that end in the block. Where all was written, the line held is the one after the whole block. No
+// contract can say what went to the descriptor; the bytes past those held, those of the output, and how far the block was fed where a
+// write failed are left open.
 fn drain(block: &[u8], line: &mut [u8], held: usize, out: &mut [u8]) -> Drained
     requires { ⌜ length (now line) ≡ most ⌝ }
     requires { ⌜ held ≤ most ⌝ }
@@ -53,10 +54,11 @@ fn output_failed() {
     );
 }
 
-// Writes the line that the input's end closes.
+// Writes the line that the input's end closes: it stands at the front of the output.
 fn close(line: &[u8], held: usize, out: &mut [u8])
     requires { ⌜ held ≤ length (now line) ⌝ }
     requires { ⌜ lineRoom ≤ length (now out) ⌝ }
+    ensures { λ r. ⌜ now (out .exit) ≡ put 0 (lastOut (take held (now (line .entry)))) (now (out .entry)) ⌝ }
 {
     let last = feed::finish(line, held, out);
     if !io::write_all(STDOUT_FILENO, &out[..last]) {
