@@ -5,11 +5,12 @@ use mathlib.Core.Bool.{Bool, true, false, _||_, false≢true}
 use mathlib.Core.List.{List, [], _∷_, _++_, append-assoc, append-nil}
 use lib.ListN.{length}
 use lib.Dec.{eqb}
-use borrow.Author.Tests.{eqb-true, eqb-false, eq-eqb, ne-eqb, lt-ltb, le-ltb}
+use borrow.Author.Tests.{eqb-true, eqb-false, eq-eqb, ne-eqb, le-ltb}
 use Rattle.utf8.specs.Validity.{isText}
 use Rattle.turkish.specs.Letters.{text, any, has}
 use Rattle.turkish.specs.Calls.{limit, refusal, accepted}
 use Rattle.listing.specs.Listing.{tab, lf, lineRefusal, fields, refusedLine, listLine, unclosed, linesFrom, listAll, listing}
+use Rattle.listing.proofs.Laws.Held.{listLine-long}
 
 -- ---- one line ----
 
@@ -26,8 +27,8 @@ module _ (w : List ℕ) where
 
   -- a word over the limit under 1
   pub listLine-over : limit < length w → listLine w ≡ text "!\t1\n"
-  unfolding listLine lineRefusal refusal refusedLine text tab lf
-  listLine-over h = rw (lt-ltb limit (length w) h)
+  unfolding refusedLine text tab lf
+  listLine-over h = listLine-long w h
 
   -- one within it that is not UTF-8 under 2
   pub listLine-not-text : length w ≤ limit → isText w ≡ false → listLine w ≡ text "!\t2\n"
@@ -62,11 +63,12 @@ pub listing-line : (w rest : List ℕ) → has w lf ≡ false → listing (w ++ 
 unfolding listing listAll
 listing-line w rest n = rw (linesFrom-line [] w rest n)
 
--- and a last one that is not closed gives its line if it is not empty
+-- a last one that is not closed gives its line, if it is not empty
 pub listing-last : (b : ℕ) (w : List ℕ) → has (b ∷ w) lf ≡ false → listing (b ∷ w) ≡ listLine (b ∷ w)
 unfolding listing listAll unclosed
 listing-last b w n = rw (linesFrom-last [] (b ∷ w) n, append-nil)
 
+-- and an empty input gives nothing
 pub listing-nothing : listing [] ≡ []
 unfolding listing listAll linesFrom unclosed
 listing-nothing = refl

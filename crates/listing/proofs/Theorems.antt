@@ -1,10 +1,10 @@
 -- The file to open first: what the listing promises, in the words of document 01's section "stemlist". Each theorem is proved in a line
 -- from the files named for what they prove. That the code gives these definitions' answers is the contracts' part. Assumes nothing.
-use Prim.Native.Nat.{ℕ, _≤_, _<_}
+use Prim.Native.Nat.{ℕ, _-_, _≤_, _<_}
 use mathlib.Core.Path.{_≡_}
 use mathlib.Core.Bool.{true, false}
 use mathlib.Core.List.{List, [], _∷_, _++_, flatten}
-use lib.ListN.{length}
+use lib.ListN.{length, take, drop}
 use Rattle.utf8.specs.Validity.{isText}
 use Rattle.turkish.specs.Letters.{text, has}
 use Rattle.turkish.specs.Calls.{limit, accepted}
@@ -30,6 +30,7 @@ one-line-a-word = Lines.listing-line
 pub last-line-counts : (b : ℕ) (w : List ℕ) → has (b ∷ w) lf ≡ false → listing (b ∷ w) ≡ listLine (b ∷ w)
 last-line-counts = Lines.listing-last
 
+-- an empty input gives nothing
 pub empty-input-empty : listing [] ≡ []
 empty-input-empty = Lines.listing-nothing
 
@@ -64,7 +65,11 @@ any-blocks = blocks-listing
 pub any-calls : (calls : List Call) (line : List ℕ) → length line ≡ most → writtenBy calls line 0 ≡ listing (flatten (takenBy calls line 0))
 any-calls = writtenBy-listing
 
--- where a line has room in the output a call takes something of what is left of its block
-pub calls-go-on : (block : List ℕ) (from : ℕ) (line : List ℕ) (held : ℕ) (out : List ℕ) → length line ≡ most → held ≤ most → lineRoom ≤ length out
-    → from < length block → from < feeding block from line held out .used
-calls-go-on block from line held out l h r k = feeding-call block from line held out l h .used-more k r
+module _ (block : List ℕ) (from : ℕ) (line : List ℕ) (held : ℕ) (out : List ℕ) (l : length line ≡ most) (h : held ≤ most) where
+  -- where a line has room in the output a call takes something of what is left of its block
+  pub calls-go-on : lineRoom ≤ length out → from < length block → from < feeding block from line held out .used
+  calls-go-on r k = feeding-call block from line held out l h .used-more k r
+
+  -- and it skips nothing: what it takes and what it leaves for the next call make up the block
+  pub calls-skip-nothing : let s = feeding block from line held out in drop from block ≡ take (s .used - from) (drop from block) ++ drop (s .used) block
+  calls-skip-nothing = feeding-call block from line held out l h .parts

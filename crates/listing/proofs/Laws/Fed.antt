@@ -6,14 +6,14 @@ use mathlib.Core.Bool.{true, false}
 use mathlib.Core.List.{List, [], _∷_, _++_, append-nil}
 use native.Mathlib.Omega.{arith}
 use native.Mathlib.Numerals.{add-one}
-use lib.ListN.{length, take, drop, getD, set, length-append, length-set, drop-of-length-le}
+use lib.ListN.{length, take, drop, getD, length-append, length-set, drop-of-length-le}
 use lib.Seq.{drop-cons}
-use lib.Dec.{eqb, ltb}
+use lib.Dec.{eqb}
 use borrow.Author.Tests.{eq-eqb, ne-eqb, lt-ltb, le-ltb}
 use Rattle.listing.specs.Listing.{lf, listLine}
 use Rattle.listing.specs.Put.{put, lineRoom}
-use Rattle.listing.specs.Feed.{most, hold, fedOut, fedLine}
-use Rattle.listing.specs.Fed.{Fed, standing, heldNext, endLine, holdByte, feedByte, feedBytes}
+use Rattle.listing.specs.Feed.{most, fedOut, fedLine}
+use Rattle.listing.specs.Fed.{Fed, standing, endLine, holdByte, feedByte, feedBytes}
 use Rattle.listing.proofs.Blocks.{fedLine-append, fedOut-append}
 use Rattle.listing.proofs.Laws.Held.{lf-or-other, lt-or-le, heldNext-le, take-heldNext}
 use Rattle.listing.proofs.Laws.Put.{put-nothing, put-put, length-put, put-end}
@@ -59,10 +59,11 @@ module _ (block : List ℕ) (i : ℕ) (s : Fed) where
   unfolding feedBytes
   feedBytes-next k h = rw (drop-cons block i 0 k, add-one, le-ltb (length (s .out) - s .written) lineRoom h)
 
--- what is left, part by part
+-- what a step leaves, part by part, as the contracts give it
 abbrev pub Left : ℕ → ℕ → List ℕ → List ℕ → Fed → Type 0
 Left held written line out s = (held ≡ s .held) × ((written ≡ s .written) × ((line ≡ s .line) × (out ≡ s .out)))
 
+-- equals have equal parts
 pub left-parts : {s t : Fed} → s ≡ t → (s .used ≡ t .used) × (Left (s .held) (s .written) (s .line) (s .out) t)
 left-parts e = rw e (refl, (refl, (refl, (refl, refl))))
 
@@ -110,13 +111,13 @@ pub record Feeds (input : List ℕ) (s s′ : Fed) : Type 0 where
   pub out-length : length (s′ .out) ≡ length (s .out)
   pub within : Within s′
 
--- nothing
+-- where no byte is fed all stays
 feeds-nothing : (s : Fed) → Within s → Feeds [] s s
 unfolding fedOut fedLine
 feeds-nothing s h =
     record { used-is = omega arith; held-is = refl; written-is = omega arith; out-is = put-nothing (s .written) (s .out); out-length = refl; within = h }
 
--- a line feed
+-- a line feed fed writes the line held
 endLine-feeds : (b : ℕ) (s : Fed) → eqb b lf ≡ true → Within s → s .written + lineRoom ≤ length (s .out) → Feeds (b ∷ []) s (feedByte b s)
 unfolding fedOut fedLine feedByte endLine
 endLine-feeds b s e h r =
@@ -131,7 +132,7 @@ endLine-feeds b s e h r =
       within = feedByte-within b s h;
     }
 
--- another byte
+-- another byte fed is held
 holdByte-feeds : (b : ℕ) (s : Fed) → eqb b lf ≡ false → Within s → Feeds (b ∷ []) s (feedByte b s)
 unfolding fedOut fedLine feedByte holdByte
 holdByte-feeds b s e h =
@@ -144,7 +145,7 @@ holdByte-feeds b s e h =
       within = feedByte-within b s h;
     }
 
--- one part of an input after another
+-- one part of an input fed after another is both fed
 feeds-append : {a b : List ℕ} {s t u : Fed} → Feeds a s t → Feeds b t u → Feeds (a ++ b) s u
 feeds-append {a} {b} {s} {t} f g =
     let line = take (s .held) (s .line) in
@@ -159,7 +160,7 @@ feeds-append {a} {b} {s} {t} f g =
       within = g .within;
     }
 
--- what bytes fed to the output's end leave: those taken were fed, and one at least was where a line has room
+-- of an input a first part was fed, which made s′ of s, and one byte at least where a line has room
 pub record Part (input : List ℕ) (s s′ : Fed) : Type 0 where
   pub taken : List ℕ
   pub left : List ℕ
@@ -167,6 +168,7 @@ pub record Part (input : List ℕ) (s s′ : Fed) : Type 0 where
   pub feeds : Feeds taken s s′
   pub some : lineRoom ≤ length (s .out) - s .written → 0 < length input → 0 < length taken
 
+-- bytes fed as long as a line has room leave such a part
 pub feedBytes-part : (input : List ℕ) (s : Fed) → Within s → Part input s (feedBytes input s)
 unfolding feedBytes
 feedBytes-part [] s h = record { taken = []; left = []; parts = refl; feeds = feeds-nothing s h; some = λ r k. k }

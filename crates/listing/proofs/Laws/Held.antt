@@ -10,8 +10,7 @@ use lib.ListN.{length, take, set, length-append, length-take}
 use lib.Seq.{take-all, take-append-le, take-suc-set, set-out}
 use lib.Dec.{eqb, ltb}
 use borrow.Author.Tests.{ltb-true, ltb-false, lt-ltb, le-ltb}
-use Rattle.words.proofs.Laws.Refusals.{refusal-long}
-use Rattle.turkish.specs.Calls.{limit}
+use Rattle.turkish.specs.Calls.{limit, refusal}
 use Rattle.listing.specs.Listing.{lf, lineRefusal, refusedLine, listLine, unclosed, listAll}
 use Rattle.listing.specs.Feed.{most, hold, lastOut}
 use Rattle.listing.specs.Fed.{heldNext}
@@ -46,9 +45,9 @@ unfolding hold
 hold-held line b = take-take-append most line (b ∷ [])
 
 -- a line over the limit is refused whatever it is
-listLine-long : (w : List ℕ) → limit < length w → listLine w ≡ refusedLine 1
-unfolding listLine lineRefusal limit
-listLine-long w h = rw (← refusal-long w h)
+pub listLine-long : (w : List ℕ) → limit < length w → listLine w ≡ refusedLine 1
+unfolding listLine lineRefusal refusal
+listLine-long w h = rw (lt-ltb limit (length w) h)
 
 -- so the part held of a line gives the line's output
 pub listLine-held : (line : List ℕ) → listLine (take most line) ≡ listLine line
@@ -83,7 +82,7 @@ lastOut-some line held h l = lastOut-line (take held line) (omega (arith, length
 
 -- ---- the bytes that hold a line ----
 
--- a byte is held after those held as long as there are fewer than the most
+-- a byte is held after those held as long as they are fewer than the most that are
 pub heldNext-more : (held : ℕ) → held < most → held + 1 ≡ heldNext held
 unfolding heldNext
 heldNext-more held h = rw (lt-ltb held most h)
@@ -93,7 +92,7 @@ pub heldNext-full : (held : ℕ) → most ≤ held → held ≡ heldNext held
 unfolding heldNext
 heldNext-full held h = rw (le-ltb held most h)
 
--- so never more than the most
+-- so no more than the most are held
 pub heldNext-le : (held : ℕ) → held ≤ most → heldNext held ≤ most
 heldNext-le held h = lt-or-le held most (λ k. rw (← heldNext-more held k) (omega arith)) (λ k. rw (← heldNext-full held k) h)
 
