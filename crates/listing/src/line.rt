@@ -2,8 +2,8 @@
 use crate::put;
 use stages::postlude;
 use stages::postlude::Repair;
-use stages::stem;
-use stages::stem::Stem;
+use stages::stage;
+use stages::stage::Outcome;
 use stages::syllable;
 use words::refusal;
 ghost use mathlib.Core.Path.{_≡_};
@@ -13,7 +13,7 @@ ghost use lib.ListN.{length};
 ghost use Rattle.turkish.specs.Letters.{has};
 ghost use Rattle.turkish.specs.Harmony.{moreThanOneSyllable};
 ghost use Rattle.turkish.specs.Calls.{chars, accepted, passText};
-ghost use Rattle.stages.specs.Reach.{stemOf};
+ghost use Rattle.stages.specs.Reach.{outcomeOf};
 ghost use Rattle.stages.specs.Repairs.{repairText};
 ghost use Rattle.listing.specs.Listing.{tab, lineRefusal, answers, fields, refusedLine, listLine};
 ghost use Rattle.listing.specs.Put.{put, lineRoom};
@@ -107,10 +107,10 @@ fn put_repair(out: &mut [u8], at: usize, w: &[u8], r: Repair) -> usize
 }
 
 // Writes the pass's text of an accepted word, whose syllable answer and stage are known.
-fn put_pass(out: &mut [u8], at: usize, w: &[u8], syllable: bool, s: Stem) -> usize
+fn put_pass(out: &mut [u8], at: usize, w: &[u8], syllable: bool, s: Outcome) -> usize
     requires { ⌜ accepted (now w) ≡ true ⌝ }
     requires { ⌜ syllable ≡ moreThanOneSyllable (chars (now w)) ⌝ }
-    requires { ⌜ s ≡ stemOf (now w) ⌝ }
+    requires { ⌜ s ≡ outcomeOf (now w) ⌝ }
     requires { ⌜ at + (length (now w) + 2) ≤ length (now out) ⌝ }
     ensures { λ n. ⌜ n ≡ at + length (passText (now (w .entry))) ⌝ }
     ensures { λ n. ⌜ now (out .exit) ≡ put at (passText (now (w .entry))) (now (out .entry)) ⌝ }
@@ -133,7 +133,7 @@ fn put_fields(out: &mut [u8], at: usize, w: &[u8]) -> usize
     ensures { λ n. ⌜ now (out .exit) ≡ put at (fields (now (w .entry))) (now (out .entry)) ⌝ }
 {
     let syllable = syllable::more_than_one_syllable_word(w, w.len());
-    let s = stem::stem_nominal_verb_suffixes(w);
+    let s = stage::stem_nominal_verb_suffixes(w);
     let a = put::put_bytes(out, at, w, w.len());
     let b = put_answers(out, a, syllable, s.yes, s.flag);
     let c = put::put_bytes(out, b, w, s.kept);

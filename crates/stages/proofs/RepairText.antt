@@ -3,26 +3,27 @@
 use Prim.Native.Nat.{ℕ, zero, suc, _+_, _-_, _/_, _%_, _≤_, _<_}
 use mathlib.Core.Path.{_≡_, refl, sym, ap, _∙_}
 use mathlib.Core.Bool.{Bool, true, false, cond, not, _&&_}
-use mathlib.Core.List.{List, [], _∷_, _++_, append-nil, reverse-cons}
+use mathlib.Core.List.{List, [], _∷_, _++_, append-nil}
 use native.Mathlib.Omega.{arith}
 use lib.ListN.{length, take, drop, take-append-drop, length-append, length-drop, List·getD-append}
 use lib.Seq.{take-append-le, drop-append-le, take-take, length-take-le}
 use lib.Dec.{ltb, eqb}
-use borrow.Author.Tests.{ltb-true, ltb-false, lt-ltb, eqb-true, eqb-false, eq-eqb, ne-eqb}
+use borrow.Author.Tests.{ltb-true, ltb-false, lt-ltb, eqb-true, eqb-false}
 use Rattle.utf8.proofs.Laws.Booleans.{cond-both}
-use Rattle.utf8.specs.Encoding.{encode, encodeAll}
+use Rattle.utf8.specs.Encoding.{encode}
 use Rattle.utf8.specs.Text.{TextOf}
 use Rattle.utf8.specs.Characters.{goesOn, lastWidth, charAt, lastChar, beforeWithin, before, back}
-use Rattle.utf8.proofs.Laws.Characters.{lastWidth-le, before-step}
-use Rattle.utf8.proofs.TextCharacters.{encodeAll-append, encode-before, take-back}
+use Rattle.utf8.proofs.Laws.Characters.{lastWidth-le, before-zero, before-step}
+use Rattle.utf8.proofs.TextCharacters.{encode-before, take-back}
 use Rattle.turkish.specs.Letters.{text, has}
 use Rattle.turkish.specs.Harmony.{lastVowel}
 use Rattle.turkish.specs.Postlude.{reserved, gained, appends, appendU, hard, harden, postlude, postludeYes}
 use Rattle.turkish.specs.Calls.{bytes}
-use Rattle.turkish.proofs.PostludeRules.{hard-gained}
+use Rattle.turkish.proofs.Laws.Words.{bytes-cons}
+use Rattle.turkish.proofs.PostludeRules.{postlude-one}
 use Rattle.stages.specs.declared.postlude.Repair.{Repair}
-use Rattle.stages.specs.Repairs.{repairText, unchanged, shortRepair, appended, hardened, repairOf}
-use Rattle.stages.proofs.Laws.Repairs.{before-empty, hard-short, appended-short}
+use Rattle.stages.specs.Repairs.{repairText, unchanged, followed, appended, hardened, repairOf}
+use Rattle.stages.proofs.Laws.Repairs.{hard-short, appended-short}
 
 -- ---- the bytes before a place ----
 
@@ -71,54 +72,50 @@ module _ (w : List ℕ) (c n : ℕ) (h : c ≤ n) (l : n ≤ length w) where
 
 -- ---- the text of a repair ----
 
--- of characters told nearest first, the first one's bytes come last
-bytes-cons : (c : ℕ) (cs : List ℕ) → bytes (c ∷ cs) ≡ bytes cs ++ encode c
-unfolding bytes encodeAll
-bytes-cons c cs = rw (reverse-cons, encodeAll-append, append-nil)
-
 -- where nothing follows, it is the bytes kept
 unchanged-text : (w : List ℕ) (n : ℕ) (answer : Bool) → repairText w (unchanged n answer) ≡ take n w
 unfolding repairText unchanged
 unchanged-text w n answer = append-nil (take n w)
 
 -- where a character follows, its bytes stand after those
-shortRepair-text : (w : List ℕ) (keep v : ℕ) → v < 0x800 → repairText w (shortRepair keep v) ≡ take keep w ++ encode v
-unfolding repairText shortRepair encode
-shortRepair-text w keep v h = rw (lt-ltb v 0x800 h) (go (ltb v 0x80))
+followed-text : (w : List ℕ) (keep v : ℕ) → v < 0x800 → repairText w (followed keep v) ≡ take keep w ++ encode v
+unfolding repairText followed encode
+followed-text w keep v h = rw (lt-ltb v 0x800 h) (go (ltb v 0x80))
   where
-    go : (t : Bool)
-        → repairText w (cond t (record { keep = keep; more = 1; a = v; b = 0; yes = true }) (record { keep = keep; more = 2; a = 0xC0 + v / 0x40; b = 0x80 + v % 0x40; yes = true }))
+    one : Repair
+    one = record { keep = keep; more = 1; a = v; b = 0; yes = true }
+
+    two : Repair
+    two = record { keep = keep; more = 2; a = 0xC0 + v / 0x40; b = 0x80 + v % 0x40; yes = true }
+
+    go : (t : Bool) → repairText w (cond t one two)
         ≡ take keep w ++ cond t (v ∷ []) ((0xC0 + v / 0x40) ∷ (0x80 + v % 0x40) ∷ [])
     go true = refl
     go false = refl
 
 -- ---- the postlude of characters ----
 
--- characters that gain a vowel end in it
-harden-appendU : (cs : List ℕ) → (appended cs ≡ 0 → ⊥) → harden (appendU cs) ≡ appended cs ∷ cs
-unfolding appended appends appendU harden
-harden-appendU [] d = absurd (d refl)
-harden-appendU (c ∷ cs) d = go (has (text "dg") c) d
-  where
-    g : ℕ
-    g = gained (lastVowel cs)
-
-    go : (t : Bool) → (cond t g 0 ≡ 0 → ⊥) → harden (cond (t && not (eqb g 0)) (g ∷ c ∷ cs) (c ∷ cs)) ≡ cond t g 0 ∷ c ∷ cs
-    go true d = rw (ne-eqb g 0 d, hard-gained (lastVowel cs))
-    go false d = absurd (d refl)
-
--- others stay
-appendU-none : (cs : List ℕ) → appended cs ≡ 0 → appendU cs ≡ cs
+-- characters gain their vowel where it is not 0
+appendU-appended : (cs : List ℕ) → cond (appends cs) (appendU cs) (harden cs) ≡ cond (eqb (appended cs) 0) (harden cs) (appended cs ∷ cs)
 unfolding appended appends appendU
-appendU-none [] e = refl
-appendU-none (c ∷ cs) e = go (has (text "dg") c) e
+appendU-appended [] = refl
+appendU-appended (c ∷ cs) = go (has (text "dg") c)
   where
     g : ℕ
     g = gained (lastVowel cs)
 
-    go : (t : Bool) → cond t g 0 ≡ 0 → cond (t && not (eqb g 0)) (g ∷ c ∷ cs) (c ∷ cs) ≡ c ∷ cs
-    go true e = rw (eq-eqb g 0 e)
-    go false e = refl
+    gains : (u : Bool) (x y z : List ℕ) → cond (not u) (cond (not u) x y) z ≡ cond u z x
+    gains true x y z = refl
+    gains false x y z = refl
+
+    go : (t : Bool) → cond (t && not (eqb g 0)) (cond (t && not (eqb g 0)) (g ∷ c ∷ cs) (c ∷ cs)) (harden (c ∷ cs))
+        ≡ cond (eqb (cond t g 0) 0) (harden (c ∷ cs)) (cond t g 0 ∷ c ∷ cs)
+    go true = gains (eqb g 0) (g ∷ c ∷ cs) (c ∷ cs) (harden (c ∷ cs))
+    go false = refl
+
+-- so the postlude leaves a reserved word, and of any other hardens or appends
+postlude-appended : (cs : List ℕ) → postlude cs ≡ cond (reserved cs) cs (cond (eqb (appended cs) 0) (harden cs) (appended cs ∷ cs))
+postlude-appended cs = postlude-one cs ∙ ap (cond (reserved cs) cs) (appendU-appended cs)
 
 -- ---- the repair is the postlude ----
 
@@ -141,10 +138,8 @@ module _ (w : List ℕ) (n : ℕ) (t : TextOf (take n w)) (l : n ≤ length w) w
       ) at (take-back (take n w) t 1)
 
   -- a vowel gained follows them
-  gained-text : (appended (before w n) ≡ 0 → ⊥) → repairText w (shortRepair n (appended (before w n))) ≡ bytes (harden (appendU (before w n)))
-  gained-text d =
-      shortRepair-text w n (appended (before w n)) (appended-short (before w n))
-      ∙ rw (harden-appendU (before w n) d, bytes-cons, bytes-before)
+  gained-text : repairText w (followed n (appended (before w n))) ≡ bytes (appended (before w n) ∷ before w n)
+  gained-text = followed-text w n (appended (before w n)) (appended-short (before w n)) ∙ rw (bytes-cons, bytes-before)
 
   -- a consonant hardened takes the last one's place
   hardened-last : 0 < n → repairText w (hardened w n (before w n)) ≡ bytes (harden (before w n))
@@ -157,9 +152,9 @@ module _ (w : List ℕ) (n : ℕ) (t : TextOf (take n w)) (l : n ≤ length w) w
       k : ℕ
       k = n - lastWidth w n
 
-      go : (u : Bool) → eqb (hard c) c ≡ u → repairText w (cond u (unchanged n true) (shortRepair k (hard c))) ≡ bytes (hard c ∷ before w k)
+      go : (u : Bool) → eqb (hard c) c ≡ u → repairText w (cond u (unchanged n true) (followed k (hard c))) ≡ bytes (hard c ∷ before w k)
       go true e = unchanged-text w n true ∙ bytes-before ∙ rw (before-step w n h, eqb-true (hard c) c e)
-      go false e = shortRepair-text w k (hard c) (hard-short c (eqb-false (hard c) c e)) ∙ rw (bytes-cons, bytes-before-last h)
+      go false e = followed-text w k (hard c) (hard-short c (eqb-false (hard c) c e)) ∙ rw (bytes-cons, bytes-before-last h)
 
   -- and where there is none, nothing changes
   hardened-text : repairText w (hardened w n (before w n)) ≡ bytes (harden (before w n))
@@ -169,13 +164,14 @@ module _ (w : List ℕ) (n : ℕ) (t : TextOf (take n w)) (l : n ≤ length w) w
       go : (u : Bool) → ltb 0 n ≡ u → repairText w (hardened w n (before w n)) ≡ bytes (harden (before w n))
       go true e = hardened-last (ltb-true 0 n e)
       go false e =
-          let z : before w n ≡ [] = before-empty w n (omega (arith, ltb-false 0 n e)) in
+          let k : n ≡ 0 = omega (arith, ltb-false 0 n e) in
+          let z : before w n ≡ [] = ap (before w) k ∙ before-zero w in
           rw z (unchanged-text w n true ∙ bytes-before ∙ ap bytes z)
 
   -- the repair's text is the postlude's
   pub repair-text : repairText w (repairOf w n) ≡ bytes (postlude (before w n))
-  unfolding repairOf postlude
-  repair-text = go (reserved cs)
+  unfolding repairOf
+  repair-text = go (reserved cs) ∙ ap bytes (sym (postlude-appended cs))
     where
       cs : List ℕ
       cs = before w n
@@ -183,20 +179,20 @@ module _ (w : List ℕ) (n : ℕ) (t : TextOf (take n w)) (l : n ≤ length w) w
       a : ℕ
       a = appended cs
 
-      rest : (u : Bool) → eqb a 0 ≡ u → repairText w (cond u (hardened w n cs) (shortRepair n a)) ≡ bytes (harden (appendU cs))
-      rest true e = hardened-text ∙ rw (appendU-none cs (eqb-true a 0 e))
-      rest false e = gained-text (eqb-false a 0 e)
+      rest : (u : Bool) → repairText w (cond u (hardened w n cs) (followed n a)) ≡ bytes (cond u (harden cs) (a ∷ cs))
+      rest true = hardened-text
+      rest false = gained-text
 
-      go : (u : Bool)
-          → repairText w (cond u (unchanged n false) (cond (eqb a 0) (hardened w n cs) (shortRepair n a))) ≡ bytes (cond u cs (harden (appendU cs)))
+      go : (u : Bool) → repairText w (cond u (unchanged n false) (cond (eqb a 0) (hardened w n cs) (followed n a)))
+          ≡ bytes (cond u cs (cond (eqb a 0) (harden cs) (a ∷ cs)))
       go true = unchanged-text w n false ∙ bytes-before
-      go false = rest (eqb a 0) refl
+      go false = rest (eqb a 0)
 
 -- ---- its answer and its size ----
 
 -- what holds where nothing follows the bytes, and where a character follows no more than them, holds of the change made
-change-elim : (w : List ℕ) (n : ℕ) (P : Repair → Type 0) → P (unchanged n true) → ((k v : ℕ) → k ≤ n → P (shortRepair k v))
-    → P (cond (eqb (appended (before w n)) 0) (hardened w n (before w n)) (shortRepair n (appended (before w n))))
+change-elim : (w : List ℕ) (n : ℕ) (P : Repair → Type 0) → P (unchanged n true) → ((k v : ℕ) → k ≤ n → P (followed k v))
+    → P (cond (eqb (appended (before w n)) 0) (hardened w n (before w n)) (followed n (appended (before w n))))
 unfolding hardened
 change-elim w n P p q =
     cond-both P (eqb (appended (before w n)) 0) (hardened w n (before w n)) _ (last (before w n)) (q n (appended (before w n)) (omega arith))
@@ -207,11 +203,11 @@ change-elim w n P p q =
 
 -- the repair's answer is the postlude's
 pub repair-answer : (w : List ℕ) (n : ℕ) → repairOf w n .yes ≡ postludeYes (before w n)
-unfolding repairOf postludeYes unchanged shortRepair
+unfolding repairOf postludeYes unchanged followed
 repair-answer w n = go (reserved (before w n))
   where
     r : Repair
-    r = cond (eqb (appended (before w n)) 0) (hardened w n (before w n)) (shortRepair n (appended (before w n)))
+    r = cond (eqb (appended (before w n)) 0) (hardened w n (before w n)) (followed n (appended (before w n)))
 
     go : (u : Bool) → cond u (unchanged n false) r .yes ≡ not u
     go true = refl
@@ -234,7 +230,7 @@ sized-kept w n r l h =
 
 -- it is so of the repair
 pub repair-size : (w : List ℕ) (n : ℕ) → n ≤ length w → Sized w n (repairOf w n)
-unfolding repairOf unchanged shortRepair
+unfolding repairOf unchanged followed
 repair-size w n l =
     let P : Repair → Type 0 = λ r. (r .keep ≤ n) × (r .more ≤ 2) in
     sized-kept w n (repairOf w n) l

@@ -2,6 +2,11 @@
 pub mod Sounds
 pub mod LastVowel
 pub mod Keys
-pub mod Tail
+pub mod Seen
+pub mod Told
+pub mod Passed
+pub mod Search
+pub mod Ends
+pub mod Numbered
 pub mod Reach
 pub mod Repairs

@@ -1,24 +1,30 @@
--- A command's answer as the code gives it: how far back from the word's end it reaches, in characters. Assumes nothing.
-use Prim.Native.Nat.{ℕ, _+_}
+-- A command's answer as the code gives it: the record moved back over all that it takes, or that it fails. Assumes nothing.
+use Prim.Native.Nat.{ℕ}
 use mathlib.Core.Bool.{Bool, true, false}
 use mathlib.Core.List.{List}
+use Rattle.utf8.specs.declared.cursor.Cursor.{Cursor}
+use Rattle.utf8.specs.Behind.{backBy, deleted}
 use Rattle.turkish.specs.Grammar.{Out, fail, took}
 use Rattle.turkish.specs.Stage.{stage}
 use Rattle.turkish.specs.Calls.{chars, keptLength}
-use Rattle.stages.specs.declared.stem.Stem.{Stem}
-use Rattle.stages.specs.declared.mark.Marked.{Marked}
-use Rattle.stages.specs.declared.mark.Marked.the-variants.{To, Fails}
+use Rattle.stages.specs.declared.stage.Outcome.{Outcome}
+use Rattle.stages.specs.declared.marked.Marked.{Marked}
+use Rattle.stages.specs.declared.marked.Marked.the-variants.{To, Fails}
 
--- from `at` characters back
-unfoldable pub reach : ℕ → Out → Marked
-reach at fail = Fails
-reach at (took k f) = To (at + k)
+unfoldable pub reach : List ℕ → Cursor → Out → Marked
+reach w c fail = Fails
+reach w c (took k f) = To (backBy w c k)
 
--- behind a harmony test
-unfoldable pub inHarmony : Bool → Marked → Marked
-inHarmony true m = m
-inHarmony false m = Fails
+-- the same with all from there on deleted
+unfoldable pub cutTo : List ℕ → Cursor → Out → Marked
+cutTo w c fail = Fails
+cutTo w c (took k f) = To (deleted (backBy w c k))
+
+-- the record moved back where the command fits, and the record itself where it fails
+unfoldable pub triedTo : List ℕ → Cursor → Out → Cursor
+triedTo w c fail = c
+triedTo w c (took k f) = backBy w c k
 
 -- the whole stage's answer
-unfoldable pub stemOf : List ℕ → Stem
-stemOf w = record { kept = keptLength w; yes = stage (chars w) .yes; flag = stage (chars w) .flag }
+unfoldable pub outcomeOf : List ℕ → Outcome
+outcomeOf w = record { kept = keptLength w; yes = stage (chars w) .yes; flag = stage (chars w) .flag }

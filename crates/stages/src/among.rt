@@ -1,61 +1,98 @@
 // The key search (snowball_env.rs, `find_among_b`) over a table of keys: one flat array, each key from its end and filled up with 0
 // to the table's width.
+use crate::passed::Passed;
+use crate::seen::Seen;
+use utf8::characters;
+use utf8::cursor::Cursor;
 ghost use mathlib.Core.Path.{_≡_};
-ghost use Prim.Native.Nat.{_+_, _≤_, _<_};
+ghost use Prim.Native.Nat.{_+_, _-_, _≤_, _<_};
 ghost use lib.ListN.{length, drop};
-ghost use Rattle.turkish.specs.Letters.{starts};
-ghost use Rattle.stages.specs.Keys.{row, rows, found};
+ghost use Rattle.utf8.specs.Behind.{Open};
+ghost use Rattle.stages.specs.Keys.{row, rows};
+ghost use Rattle.stages.specs.Seen.{Sees};
+ghost use Rattle.stages.specs.Search.{over, found};
 
-// The place of the key that ends the text, from 0 in the table's order, and its length; or that none does.
+// The place of the key that ends the text, from 0 in the table's order, and the record before it; or that none does.
 pub enum Among {
-    Key(usize, usize),
+    Key(usize, Cursor),
     Nothing,
 }
 
-// The length of the key at `base`.
-fn key_length(keys: &[u32], base: usize, width: usize) -> usize
-    requires { ⌜ base + width ≤ length (now keys) ⌝ }
-    ensures { λ r. ⌜ r ≡ length (row width (drop base (now (keys .entry)))) ⌝ }
+// Back over the letters of a key from place `from` to `upto` of the table.
+fn key_rest(w: &[u8], c: Cursor, keys: &[u32], from: usize, upto: usize) -> Passed
+    requires { ⌜ Open (now w) c ⌝ }
+    requires { ⌜ from ≤ upto ⌝ }
+    requires { ⌜ upto ≤ length (now keys) ⌝ }
+    ensures { λ r. ⌜ r ≡ over (now (w .entry)) c (row (upto - from) (drop from (now (keys .entry)))) ⌝ }
 {
-    let mut j = 0;
-    while j < width {
-        if keys[base + j] == 0 {
-            return j;
-        }
-        j += 1;
-    }
-    width
-}
-
-// Whether the characters from place `at` of t begin with the key at `base`.
-fn key_fits(t: &[u32], at: usize, keys: &[u32], base: usize, width: usize) -> bool
-    requires { ⌜ (at + width ≤ length (now t)) × (base + width ≤ length (now keys)) ⌝ }
-    ensures { λ r. ⌜ r ≡ starts (row width (drop base (now (keys .entry)))) (drop at (now (t .entry))) ⌝ }
-{
-    let mut j = 0;
-    while j < width {
-        let k = keys[base + j];
+    let low = c.limit_backward;
+    let part = &w[low..];
+    let mut at = c.cursor - low;
+    let mut j = from;
+    while j < upto {
+        let k = keys[j];
         if k == 0 {
-            return true;
+            return Passed::to(low + at);
         }
-        if t[at + j] != k {
-            return false;
+        let p = characters::read_back(part, at);
+        if p.ch != k {
+            return Passed::NOT;
         }
+        at = p.at;
         j += 1;
     }
-    true
+    Passed::to(low + at)
 }
 
-// The first key of the table with which the characters from place `at` of t begin.
-pub fn find_among_b(t: &[u32], at: usize, keys: &[u32], width: usize) -> Among
-    requires { ⌜ (0 < width) × (at + width ≤ length (now t)) ⌝ }
-    ensures { λ r. ⌜ r ≡ found (rows width (now (keys .entry))) (drop at (now (t .entry))) ⌝ }
+// Back over the key at `base`: its last three letters are held to the three characters seen.
+fn key_before(w: &[u8], s: Seen, keys: &[u32], base: usize, width: usize) -> Passed
+    requires { ⌜ Sees (now w) s ⌝ }
+    requires { ⌜ 0 < width ⌝ }
+    requires { ⌜ base + width ≤ length (now keys) ⌝ }
+    ensures { λ r. ⌜ r ≡ over (now (w .entry)) (s .c) (row width (drop base (now (keys .entry)))) ⌝ }
+{
+    let a = keys[base];
+    if a == 0 {
+        return Passed::to(s.c.cursor);
+    }
+    if a != s.last {
+        return Passed::NOT;
+    }
+    if width < 2 {
+        return Passed::to(s.one);
+    }
+    let b = keys[base + 1];
+    if b == 0 {
+        return Passed::to(s.one);
+    }
+    if b != s.second {
+        return Passed::NOT;
+    }
+    if width < 3 {
+        return Passed::to(s.two);
+    }
+    let d = keys[base + 2];
+    if d == 0 {
+        return Passed::to(s.two);
+    }
+    if d != s.third {
+        return Passed::NOT;
+    }
+    key_rest(w, s.c.moved_to(s.three), keys, base + 3, base + width)
+}
+
+// The first key of the table that ends the text before the cursor.
+pub(crate) fn find_among_b(w: &[u8], s: Seen, keys: &[u32], width: usize) -> Among
+    requires { ⌜ Sees (now w) s ⌝ }
+    requires { ⌜ 0 < width ⌝ }
+    ensures { λ r. ⌜ r ≡ found (rows width (now (keys .entry))) (now (w .entry)) (s .c) ⌝ }
 {
     let mut base = 0;
     let mut i = 0;
     while width <= keys.len() - base {
-        if key_fits(t, at, keys, base, width) {
-            return Among::Key(i, key_length(keys, base, width));
+        let p = key_before(w, s, keys, base, width);
+        if p.moved {
+            return Among::Key(i, s.c.moved_to(p.at));
         }
         base += width;
         i += 1;

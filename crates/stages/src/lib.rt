@@ -1,12 +1,15 @@
 // The port of the three stages, routine by routine under the Rust's names. Nothing here refuses: the calls with their refusals
 // stand above, in words.
-pub mod among;
-pub mod harmony;
-pub mod mark;
+mod among;
+mod ends;
+mod harmony;
+mod mark;
+mod marked;
+mod passed;
 pub mod postlude;
-pub mod stem;
+mod seen;
+pub mod stage;
 pub mod syllable;
-pub mod tables;
-pub mod tail;
-pub mod vowel;
-pub mod walk;
+mod tables;
+mod vowel;
+mod walk;

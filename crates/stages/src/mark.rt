@@ -1,197 +1,194 @@
-// The marks of the suffix stage (turkish.rs, `r_mark_yUm` to `r_mark_yken`). Each looks at the word from `at` characters back and
-// answers how far back it reaches. The key is searched first and harmony tested only where a key fits: both must hold, so the
-// answer is the same as in the Rust, which tests harmony first.
+// The marks of the suffix stage (turkish.rs, `r_mark_yUm` to `r_mark_yken`), numbered 1 to 12 in the order of document 01's mark tables
+// with yken last. Each takes the word and a record and answers the record moved back. The key and the optional y are tested first and
+// harmony only where they fit: all must hold, so the answer is the same as in the Rust, which tests harmony first.
 use crate::among::Among;
 use crate::among::find_among_b;
-use crate::harmony::check_vowel_harmony;
+use crate::ends;
+use crate::harmony;
+use crate::harmony::Told;
+use crate::marked::Marked;
+use crate::passed::Passed;
+use crate::seen::Seen;
 use crate::tables;
 use crate::vowel::is_vowel;
+use utf8::characters;
 use utf8::cursor::Cursor;
+use utf8::step;
 ghost use mathlib.Core.Path.{_≡_};
-ghost use mathlib.Core.Bool.{true};
-ghost use Prim.Native.Nat.{_+_, _≤_};
-ghost use lib.ListN.{length, drop};
-ghost use Rattle.turkish.specs.Harmony.{harmony};
-ghost use Rattle.turkish.specs.Grammar.{took, optionalY, markOf};
-ghost use Rattle.turkish.specs.Marks.{yUm, sUn, yUz, sUnUz, lAr, nUz, DUr, cAsInA, yDU, ysA, ymUs, yken};
-ghost use Rattle.turkish.specs.Calls.{chars};
-ghost use Rattle.stages.specs.Tail.{Tail};
-ghost use Rattle.stages.specs.Reach.{reach, inHarmony};
+ghost use mathlib.Core.Bool.{false};
+ghost use Prim.Native.Nat.{_<_};
+ghost use Rattle.utf8.specs.Behind.{behind, Open};
+ghost use Rattle.turkish.specs.Grammar.{optionalY, markOf};
+ghost use Rattle.turkish.specs.Marks.{yken};
+ghost use Rattle.stages.specs.Keys.{rows};
+ghost use Rattle.stages.specs.Seen.{Sees};
+ghost use Rattle.stages.specs.Told.{Hears};
+ghost use Rattle.stages.specs.Passed.{passes};
+ghost use Rattle.stages.specs.Reach.{reach};
+ghost use Rattle.stages.specs.Numbered.{numbered, unharmonic, keyedBy, firstOf};
 
-// How far back from the word's end a mark reaches, in characters; or that it does not fit.
-pub enum Marked {
-    To(usize),
-    Fails,
-}
+// The marks' numbers.
+pub const YUM: u32 = 1;
 
-// An optional y after the key, `at` characters back (turkish.rs, `r_mark_suffix_with_optional_y_consonant`).
-pub fn mark_suffix_with_optional_y_consonant(w: &[u8], t: &[u32], p: &[usize], at: usize) -> Marked
-    requires { ⌜ (Tail (now w) (now t) (now p)) × (at + 2 ≤ 16) ⌝ }
-    ensures { λ r. ⌜ r ≡ reach at (optionalY 0x79 (drop at (chars (now (w .entry))))) ⌝ }
+pub const SUN: u32 = 2;
+
+pub const YUZ: u32 = 3;
+
+pub const SUNUZ: u32 = 4;
+
+pub const LAR: u32 = 5;
+
+pub const NUZ: u32 = 6;
+
+pub const DUR: u32 = 7;
+
+pub const CASINA: u32 = 8;
+
+pub const YDU: u32 = 9;
+
+pub const YSA: u32 = 10;
+
+pub const YMUS: u32 = 11;
+
+pub const YKEN: u32 = 12;
+
+// An optional y before the cursor (turkish.rs, `r_mark_suffix_with_optional_y_consonant`).
+fn mark_suffix_with_optional_y_consonant(w: &[u8], c: Cursor) -> Passed
+    requires { ⌜ Open (now w) c ⌝ }
+    ensures { λ r. ⌜ r ≡ passes (now (w .entry)) c (optionalY 0x79 (behind (now (w .entry)) c)) ⌝ }
 {
-    if !is_vowel(t[at + 1]) {
-        return Marked::Fails;
+    let low = c.limit_backward;
+    let part = &w[low..];
+    let a = characters::read_back(part, c.cursor - low);
+    let b = characters::read_back(part, a.at);
+    if !is_vowel(b.ch) {
+        return Passed::NOT;
     }
-    if t[at] == 0x79 {
-        return Marked::To(at + 1);
+    if a.ch == 0x79 {
+        return Passed::to(low + a.at);
     }
-    Marked::To(at)
+    Passed::to(c.cursor)
 }
 
-// The rest of a mark that tests harmony `at` characters back, where a key of n characters fits.
-fn harmonic(w: &[u8], t: &[u32], p: &[usize], at: usize, n: usize) -> Marked
-    requires { ⌜ (Tail (now w) (now t) (now p)) × (at + n ≤ 16) ⌝ }
-    ensures { λ r. ⌜ r ≡ inHarmony (harmony (drop at (chars (now (w .entry))))) (reach at (took n true)) ⌝ }
+// A key of the table, and an optional y before it where the mark joins by one.
+fn keyed(w: &[u8], s: Seen, keys: &[u32], width: usize, joins: bool) -> Passed
+    requires { ⌜ Sees (now w) s ⌝ }
+    requires { ⌜ 0 < width ⌝ }
+    ensures { λ r. ⌜ r ≡ passes (now (w .entry)) (s .c) (markOf (keyedBy (rows width (now (keys .entry))) joins) (behind (now (w .entry)) (s .c))) ⌝ }
 {
-    if !check_vowel_harmony(w, p[at]) {
-        return Marked::Fails;
+    let Among::Key(_, d) = find_among_b(w, s, keys, width) else {
+        return Passed::NOT;
+    };
+    if joins {
+        return mark_suffix_with_optional_y_consonant(w, d);
     }
-    Marked::To(at + n)
+    Passed::to(d.cursor)
 }
 
-// The same for a mark with an optional y.
-fn harmonic_joining(w: &[u8], t: &[u32], p: &[usize], at: usize, n: usize) -> Marked
-    requires { ⌜ (Tail (now w) (now t) (now p)) × (at + n + 2 ≤ 16) ⌝ }
-    ensures { λ r. ⌜ r ≡ inHarmony (harmony (drop at (chars (now (w .entry))))) (reach (at + n) (optionalY 0x79 (drop (at + n) (chars (now (w .entry)))))) ⌝ }
-{
-    if !check_vowel_harmony(w, p[at]) {
-        return Marked::Fails;
-    }
-    mark_suffix_with_optional_y_consonant(w, t, p, at + n)
-}
-
-pub fn mark_yUm(w: &[u8], t: &[u32], p: &[usize], at: usize) -> Marked
-    requires { ⌜ (Tail (now w) (now t) (now p)) × (at + 4 ≤ 16) ⌝ }
-    ensures { λ r. ⌜ r ≡ reach at (markOf yUm (drop at (chars (now (w .entry))))) ⌝ }
-{
-    let Among::Key(_, n) = find_among_b(t, at, &tables::A_12, 2) else {
-        return Marked::Fails;
-    };
-    harmonic_joining(w, t, p, at, n)
-}
-
-pub fn mark_sUn(w: &[u8], t: &[u32], p: &[usize], at: usize) -> Marked
-    requires { ⌜ (Tail (now w) (now t) (now p)) × (at + 3 ≤ 16) ⌝ }
-    ensures { λ r. ⌜ r ≡ reach at (markOf sUn (drop at (chars (now (w .entry))))) ⌝ }
-{
-    let Among::Key(_, n) = find_among_b(t, at, &tables::A_13, 3) else {
-        return Marked::Fails;
-    };
-    harmonic(w, t, p, at, n)
-}
-
-pub fn mark_yUz(w: &[u8], t: &[u32], p: &[usize], at: usize) -> Marked
-    requires { ⌜ (Tail (now w) (now t) (now p)) × (at + 4 ≤ 16) ⌝ }
-    ensures { λ r. ⌜ r ≡ reach at (markOf yUz (drop at (chars (now (w .entry))))) ⌝ }
-{
-    let Among::Key(_, n) = find_among_b(t, at, &tables::A_14, 2) else {
-        return Marked::Fails;
-    };
-    harmonic_joining(w, t, p, at, n)
-}
-
-pub fn mark_sUnUz(w: &[u8], t: &[u32], p: &[usize], at: usize) -> Marked
-    requires { ⌜ (Tail (now w) (now t) (now p)) × (at + 5 ≤ 16) ⌝ }
-    ensures { λ r. ⌜ r ≡ reach at (markOf sUnUz (drop at (chars (now (w .entry))))) ⌝ }
-{
-    let Among::Key(_, n) = find_among_b(t, at, &tables::A_15, 5) else {
-        return Marked::Fails;
-    };
-    Marked::To(at + n)
-}
-
-pub fn mark_lAr(w: &[u8], t: &[u32], p: &[usize], at: usize) -> Marked
-    requires { ⌜ (Tail (now w) (now t) (now p)) × (at + 3 ≤ 16) ⌝ }
-    ensures { λ r. ⌜ r ≡ reach at (markOf lAr (drop at (chars (now (w .entry))))) ⌝ }
-{
-    let Among::Key(_, n) = find_among_b(t, at, &tables::A_16, 3) else {
-        return Marked::Fails;
-    };
-    harmonic(w, t, p, at, n)
-}
-
-pub fn mark_nUz(w: &[u8], t: &[u32], p: &[usize], at: usize) -> Marked
-    requires { ⌜ (Tail (now w) (now t) (now p)) × (at + 3 ≤ 16) ⌝ }
-    ensures { λ r. ⌜ r ≡ reach at (markOf nUz (drop at (chars (now (w .entry))))) ⌝ }
-{
-    let Among::Key(_, n) = find_among_b(t, at, &tables::A_17, 3) else {
-        return Marked::Fails;
-    };
-    harmonic(w, t, p, at, n)
-}
-
-pub fn mark_DUr(w: &[u8], t: &[u32], p: &[usize], at: usize) -> Marked
-    requires { ⌜ (Tail (now w) (now t) (now p)) × (at + 3 ≤ 16) ⌝ }
-    ensures { λ r. ⌜ r ≡ reach at (markOf DUr (drop at (chars (now (w .entry))))) ⌝ }
-{
-    let Among::Key(_, n) = find_among_b(t, at, &tables::A_18, 3) else {
-        return Marked::Fails;
-    };
-    harmonic(w, t, p, at, n)
-}
-
-pub fn mark_cAsInA(w: &[u8], t: &[u32], p: &[usize], at: usize) -> Marked
-    requires { ⌜ (Tail (now w) (now t) (now p)) × (at + 6 ≤ 16) ⌝ }
-    ensures { λ r. ⌜ r ≡ reach at (markOf cAsInA (drop at (chars (now (w .entry))))) ⌝ }
-{
-    let Among::Key(_, n) = find_among_b(t, at, &tables::A_19, 6) else {
-        return Marked::Fails;
-    };
-    Marked::To(at + n)
-}
-
-pub fn mark_yDU(w: &[u8], t: &[u32], p: &[usize], at: usize) -> Marked
-    requires { ⌜ (Tail (now w) (now t) (now p)) × (at + 5 ≤ 16) ⌝ }
-    ensures { λ r. ⌜ r ≡ reach at (markOf yDU (drop at (chars (now (w .entry))))) ⌝ }
-{
-    let Among::Key(_, n) = find_among_b(t, at, &tables::A_20, 3) else {
-        return Marked::Fails;
-    };
-    harmonic_joining(w, t, p, at, n)
-}
-
-pub fn mark_ysA(w: &[u8], t: &[u32], p: &[usize], at: usize) -> Marked
-    requires { ⌜ (Tail (now w) (now t) (now p)) × (at + 5 ≤ 16) ⌝ }
-    ensures { λ r. ⌜ r ≡ reach at (markOf ysA (drop at (chars (now (w .entry))))) ⌝ }
-{
-    let Among::Key(_, n) = find_among_b(t, at, &tables::A_21, 3) else {
-        return Marked::Fails;
-    };
-    mark_suffix_with_optional_y_consonant(w, t, p, at + n)
-}
-
-pub fn mark_ymUs_(w: &[u8], t: &[u32], p: &[usize], at: usize) -> Marked
-    requires { ⌜ (Tail (now w) (now t) (now p)) × (at + 5 ≤ 16) ⌝ }
-    ensures { λ r. ⌜ r ≡ reach at (markOf ymUs (drop at (chars (now (w .entry))))) ⌝ }
-{
-    let Among::Key(_, n) = find_among_b(t, at, &tables::A_22, 3) else {
-        return Marked::Fails;
-    };
-    harmonic_joining(w, t, p, at, n)
-}
-
-// The literal that yken ends in.
+// The literals that yken is made of.
 const KEN: [u8; 3] = *b"ken";
 
-pub fn mark_yken(w: &[u8], t: &[u32], p: &[usize], at: usize) -> Marked
-    requires { ⌜ (Tail (now w) (now t) (now p)) × (at + 5 ≤ 16) ⌝ }
-    ensures { λ r. ⌜ r ≡ reach at (markOf yken (drop at (chars (now (w .entry))))) ⌝ }
+const Y: [u8; 1] = *b"y";
+
+// yken: `ken`, a y if one stands before it, and one character more, on one lent record. The second character before `ken` must be a
+// vowel: after a y it is the one just passed, else the next one.
+fn mark_yken(w: &[u8], c: Cursor) -> Passed
+    requires { ⌜ Open (now w) c ⌝ }
+    ensures { λ r. ⌜ r ≡ passes (now (w .entry)) c (markOf yken (behind (now (w .entry)) c)) ⌝ }
 {
-    let c = p[at];
-    let ken = lent::back_over(
-        w,
-        &KEN,
-        Cursor {
-            cursor: c,
-            limit: c,
-            limit_backward: 0,
-        },
-    );
-    if !ken.literal {
+    let k = lent::back_over(w, &KEN, &Y, c);
+    if !k.literal {
+        return Passed::NOT;
+    }
+    if !k.character {
+        return Passed::NOT;
+    }
+    let here = k.here;
+    let next = k.next;
+    if k.joined {
+        let v = characters::char_at(w, next.cursor, here.cursor - next.cursor);
+        if !is_vowel(v) {
+            return Passed::NOT;
+        }
+        return Passed::to(here.cursor);
+    }
+    let p = step::previous_char(w, next);
+    if !is_vowel(p.ch) {
+        return Passed::NOT;
+    }
+    Passed::to(here.cursor)
+}
+
+// The mark with this number, but for its harmony test.
+fn mark(w: &[u8], s: Seen, kind: u32) -> Passed
+    requires { ⌜ Sees (now w) s ⌝ }
+    ensures { λ r. ⌜ r ≡ passes (now (w .entry)) (s .c) (markOf (unharmonic (numbered kind)) (behind (now (w .entry)) (s .c))) ⌝ }
+{
+    match kind {
+        1 => keyed(w, s, &tables::A_12, 2, true),
+        2 => keyed(w, s, &tables::A_13, 3, false),
+        3 => keyed(w, s, &tables::A_14, 2, true),
+        4 => keyed(w, s, &tables::A_15, 5, false),
+        5 => keyed(w, s, &tables::A_16, 3, false),
+        6 => keyed(w, s, &tables::A_17, 3, false),
+        7 => keyed(w, s, &tables::A_18, 3, false),
+        8 => keyed(w, s, &tables::A_19, 6, false),
+        9 => keyed(w, s, &tables::A_20, 3, true),
+        10 => keyed(w, s, &tables::A_21, 3, true),
+        11 => keyed(w, s, &tables::A_22, 3, true),
+        12 => mark_yken(w, s.c),
+        _ => Passed::NOT,
+    }
+}
+
+// Whether the mark with this number tests harmony.
+fn is_harmonic(kind: u32) -> bool
+    ensures { λ r. ⌜ r ≡ numbered kind .harmonic ⌝ }
+{
+    match kind {
+        4 | 8 | 10 | 12 => false,
+        _ => true,
+    }
+}
+
+// The first mark of a group that fits before the cursor. Harmony is walked for at most once.
+pub(crate) fn first_of(w: &[u8], s: Seen, told: Told, group: &[u32]) -> Marked
+    requires { ⌜ Sees (now w) s ⌝ }
+    requires { ⌜ Hears (now w) (s .c) told ⌝ }
+    ensures { λ r. ⌜ r ≡ reach (now (w .entry)) (s .c) (firstOf (now (group .entry)) (behind (now (w .entry)) (s .c))) ⌝ }
+{
+    let mut t = told;
+    let mut i = 0;
+    while i < group.len() {
+        let k = group[i];
+        i += 1;
+        if !ends::may_end(k, s.last, s.second, s.third) {
+            continue;
+        }
+        let p = mark(w, s, k);
+        if !p.moved {
+            continue;
+        }
+        if !is_harmonic(k) {
+            return Marked::To(s.c.moved_to(p.at));
+        }
+        t = harmony::hear(w, s.c, t);
+        if t.holds {
+            return Marked::To(s.c.moved_to(p.at));
+        }
+    }
+    Marked::Fails
+}
+
+// One mark.
+pub(crate) fn one_of(w: &[u8], s: Seen, told: Told, kind: u32) -> Marked
+    requires { ⌜ Sees (now w) s ⌝ }
+    requires { ⌜ Hears (now w) (s .c) told ⌝ }
+    ensures { λ r. ⌜ r ≡ reach (now (w .entry)) (s .c) (markOf (numbered kind) (behind (now (w .entry)) (s .c))) ⌝ }
+{
+    if !ends::may_end(kind, s.last, s.second, s.third) {
         return Marked::Fails;
     }
-    if !ken.character {
-        return Marked::Fails;
-    }
-    mark_suffix_with_optional_y_consonant(w, t, p, at + 3)
+    let group = [kind];
+    first_of(w, s, told, &group)
 }

@@ -2,16 +2,19 @@
 // bytes stay and what follows them.
 use crate::among::Among;
 use crate::among::find_among_b;
+use crate::seen;
+use crate::seen::Seen;
 use crate::tables;
 use crate::walk;
-use utf8::characters;
+use utf8::cursor::Cursor;
 use utf8::literal;
 ghost use mathlib.Core.Path.{_≡_};
 ghost use Prim.Native.Nat.{_≤_, _<_};
 ghost use lib.ListN.{length};
 ghost use Rattle.utf8.specs.Characters.{before};
-ghost use Rattle.turkish.specs.Postlude.{reserved, gained, hard};
-ghost use Rattle.stages.specs.Repairs.{appended, shortRepair, repairOf};
+ghost use Rattle.turkish.specs.Postlude.{reserved, gained};
+ghost use Rattle.stages.specs.Seen.{seenAt};
+ghost use Rattle.stages.specs.Repairs.{ending, unchanged, followed, appended, hardened, repairOf};
 
 // A text as the first `keep` bytes of a word and `more` bytes after them, none, `a`, or `a` and `b`; and the postlude's answer.
 pub struct Repair {
@@ -22,13 +25,51 @@ pub struct Repair {
     pub yes: bool,
 }
 
+impl Repair {
+    // The first n bytes as they are.
+    fn unchanged(n: usize, yes: bool) -> Repair
+        ensures { λ r. ⌜ r ≡ unchanged n yes ⌝ }
+    {
+        Repair {
+            keep: n,
+            more: 0,
+            a: 0,
+            b: 0,
+            yes,
+        }
+    }
+
+    // The first `keep` bytes and the character v, of one byte or two.
+    fn followed(keep: usize, v: u32) -> Repair
+        requires { ⌜ v < 0x800 ⌝ }
+        ensures { λ r. ⌜ r ≡ followed keep v ⌝ }
+    {
+        if v < 0x80 {
+            return Repair {
+                keep,
+                more: 1,
+                a: v as u8,
+                b: 0,
+                yes: true,
+            };
+        }
+        Repair {
+            keep,
+            more: 2,
+            a: (0xC0 + v / 0x40) as u8,
+            b: (0x80 + v % 0x40) as u8,
+            yes: true,
+        }
+    }
+}
+
 // The two reserved words.
 const AD: [u8; 2] = *b"ad";
 
 const SOYAD: [u8; 5] = *b"soyad";
 
 // Whether the first n bytes are exactly a reserved word.
-pub fn is_reserved_word(w: &[u8], n: usize) -> bool
+fn is_reserved_word(w: &[u8], n: usize) -> bool
     requires { ⌜ n ≤ length (now w) ⌝ }
     ensures { λ r. ⌜ r ≡ reserved (before (now (w .entry)) n) ⌝ }
 {
@@ -54,64 +95,33 @@ fn gained_after(v: u32) -> u32
     }
 }
 
-// The vowel that the first n bytes gain, 0 where they gain none.
-pub fn append_U_to_stems_ending_with_d_or_g(w: &[u8], n: usize) -> u32
+// The vowel that the first n bytes gain, 0 where they gain none; s is seen from place n.
+fn append_U_to_stems_ending_with_d_or_g(w: &[u8], s: Seen, n: usize) -> u32
     requires { ⌜ n ≤ length (now w) ⌝ }
+    requires { ⌜ s ≡ seenAt (now w) (ending n) ⌝ }
     ensures { λ r. ⌜ r ≡ appended (before (now (w .entry)) n) ⌝ }
 {
-    if n == 0 {
-        return 0;
-    }
-    let k = characters::last_width(w, n);
-    let start = n - k;
-    let ch = characters::char_at(w, start, k);
-    if ch == 0x64 {
-        let last = walk::last_vowel(w, start);
-        return gained_after(last.ch);
-    }
-    if ch == 0x67 {
-        let last = walk::last_vowel(w, start);
+    if (s.last == 0x64) | (s.last == 0x67) {
+        let last = walk::last_vowel(w, s.one);
         return gained_after(last.ch);
     }
     0
 }
 
-// A final consonant hardened: A_23's b, c, d, ğ become p, ç, t, k.
-pub fn post_process_last_consonants(ch: u32) -> u32
-    ensures { λ r. ⌜ r ≡ hard ch ⌝ }
+// The first n bytes with a final consonant hardened: A_23's b, c, d, ğ become p, ç, t, k.
+fn post_process_last_consonants(w: &[u8], s: Seen, n: usize) -> Repair
+    requires { ⌜ n ≤ length (now w) ⌝ }
+    requires { ⌜ s ≡ seenAt (now w) (ending n) ⌝ }
+    ensures { λ r. ⌜ r ≡ hardened (now (w .entry)) n (before (now (w .entry)) n) ⌝ }
 {
-    let last = [ch];
-    let Among::Key(i, _) = find_among_b(&last, 0, &tables::A_23, 1) else {
-        return ch;
+    let Among::Key(i, c) = find_among_b(w, s, &tables::A_23, 1) else {
+        return Repair::unchanged(n, true);
     };
     match i {
-        0 => 0x70,
-        1 => 0xE7,
-        2 => 0x74,
-        _ => 0x6B,
-    }
-}
-
-// The repair that keeps so many bytes and adds the character v, of one byte or two.
-fn adding(keep: usize, v: u32) -> Repair
-    requires { ⌜ v < 0x800 ⌝ }
-    ensures { λ r. ⌜ r ≡ shortRepair keep v ⌝ }
-{
-    if v < 0x80 {
-        return Repair {
-            keep,
-            more: 1,
-            a: v as u8,
-            b: 0,
-            yes: true,
-        };
-    }
-    Repair {
-        keep,
-        more: 2,
-        a: (0xC0 + v / 0x40) as u8,
-        b: (0x80 + v % 0x40) as u8,
-        yes: true,
+        0 => Repair::followed(c.cursor, 0x70),
+        1 => Repair::followed(c.cursor, 0xE7),
+        2 => Repair::followed(c.cursor, 0x74),
+        _ => Repair::followed(c.cursor, 0x6B),
     }
 }
 
@@ -121,39 +131,19 @@ pub fn postlude(w: &[u8], n: usize) -> Repair
     ensures { λ r. ⌜ r ≡ repairOf (now (w .entry)) n ⌝ }
 {
     if is_reserved_word(w, n) {
-        return Repair {
-            keep: n,
-            more: 0,
-            a: 0,
-            b: 0,
-            yes: false,
-        };
+        return Repair::unchanged(n, false);
     }
-    let v = append_U_to_stems_ending_with_d_or_g(w, n);
+    let s = seen::look_back(
+        w,
+        Cursor {
+            cursor: n,
+            limit: n,
+            limit_backward: 0,
+        },
+    );
+    let v = append_U_to_stems_ending_with_d_or_g(w, s, n);
     if v != 0 {
-        return adding(n, v);
+        return Repair::followed(n, v);
     }
-    if n == 0 {
-        return Repair {
-            keep: n,
-            more: 0,
-            a: 0,
-            b: 0,
-            yes: true,
-        };
-    }
-    let k = characters::last_width(w, n);
-    let start = n - k;
-    let ch = characters::char_at(w, start, k);
-    let h = post_process_last_consonants(ch);
-    if h == ch {
-        return Repair {
-            keep: n,
-            more: 0,
-            a: 0,
-            b: 0,
-            yes: true,
-        };
-    }
-    adding(start, h)
+    post_process_last_consonants(w, s, n)
 }

@@ -1,10 +1,11 @@
 // The eight vowels and their partners (turkish.rs, `G_vowel` and `G_vowel1` to `G_vowel6`): what may stand earlier in harmony.
 ghost use mathlib.Core.Path.{_≡_};
-ghost use Rattle.turkish.specs.Harmony.{vowel, partner};
+ghost use Rattle.turkish.specs.Harmony.{vowel};
 ghost use Rattle.stages.specs.Sounds.{soundOf, partners};
 
-// A vowel by its partners, up to four code points; where there are fewer, the last is named again.
+// A vowel: its own code point, and its partners, up to four code points; where there are fewer, the last is named again.
 pub struct Vowel {
+    pub ch: u32,
     pub first: u32,
     pub second: u32,
     pub third: u32,
@@ -13,13 +14,14 @@ pub struct Vowel {
 
 // What a character is to harmony.
 pub enum Sound {
-    Is(Vowel),
-    Other,
+    AVowel(Vowel),
+    NoVowel,
 }
 
 impl Vowel {
     // a: a ı o u
     pub const A: Vowel = Vowel {
+        ch: 0x61,
         first: 0x61,
         second: 0x131,
         third: 0x6F,
@@ -27,6 +29,7 @@ impl Vowel {
     };
     // e: e i ö ü
     pub const E: Vowel = Vowel {
+        ch: 0x65,
         first: 0x65,
         second: 0x69,
         third: 0xF6,
@@ -34,6 +37,7 @@ impl Vowel {
     };
     // ı: a ı
     pub const DOTLESS_I: Vowel = Vowel {
+        ch: 0x131,
         first: 0x61,
         second: 0x131,
         third: 0x131,
@@ -41,6 +45,7 @@ impl Vowel {
     };
     // i: e i
     pub const I: Vowel = Vowel {
+        ch: 0x69,
         first: 0x65,
         second: 0x69,
         third: 0x69,
@@ -48,6 +53,7 @@ impl Vowel {
     };
     // o and u: o u
     pub const O: Vowel = Vowel {
+        ch: 0x6F,
         first: 0x6F,
         second: 0x75,
         third: 0x75,
@@ -55,6 +61,7 @@ impl Vowel {
     };
 
     pub const U: Vowel = Vowel {
+        ch: 0x75,
         first: 0x6F,
         second: 0x75,
         third: 0x75,
@@ -62,6 +69,7 @@ impl Vowel {
     };
     // ö and ü: ö ü
     pub const O_UMLAUT: Vowel = Vowel {
+        ch: 0xF6,
         first: 0xF6,
         second: 0xFC,
         third: 0xFC,
@@ -69,6 +77,7 @@ impl Vowel {
     };
 
     pub const U_UMLAUT: Vowel = Vowel {
+        ch: 0xFC,
         first: 0xF6,
         second: 0xFC,
         third: 0xFC,
@@ -80,15 +89,15 @@ impl Vowel {
         ensures { λ r. ⌜ r ≡ soundOf ch ⌝ }
     {
         match ch {
-            0x61 => Sound::Is(Vowel::A),
-            0x65 => Sound::Is(Vowel::E),
-            0x69 => Sound::Is(Vowel::I),
-            0x6F => Sound::Is(Vowel::O),
-            0x75 => Sound::Is(Vowel::U),
-            0xF6 => Sound::Is(Vowel::O_UMLAUT),
-            0xFC => Sound::Is(Vowel::U_UMLAUT),
-            0x131 => Sound::Is(Vowel::DOTLESS_I),
-            _ => Sound::Other,
+            0x61 => Sound::AVowel(Vowel::A),
+            0x65 => Sound::AVowel(Vowel::E),
+            0x69 => Sound::AVowel(Vowel::I),
+            0x6F => Sound::AVowel(Vowel::O),
+            0x75 => Sound::AVowel(Vowel::U),
+            0xF6 => Sound::AVowel(Vowel::O_UMLAUT),
+            0xFC => Sound::AVowel(Vowel::U_UMLAUT),
+            0x131 => Sound::AVowel(Vowel::DOTLESS_I),
+            _ => Sound::NoVowel,
         }
     }
 
@@ -113,7 +122,7 @@ impl Vowel {
 pub fn is_vowel(ch: u32) -> bool
     ensures { λ r. ⌜ r ≡ vowel ch ⌝ }
 {
-    let Sound::Is(_) = Vowel::of(ch) else {
+    let Sound::AVowel(_) = Vowel::of(ch) else {
         return false;
     };
     true

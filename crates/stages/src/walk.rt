@@ -13,19 +13,21 @@ pub struct LastVowel {
 }
 
 // The last vowel before place c.
-pub fn last_vowel(w: &[u8], c: usize) -> LastVowel
+pub(crate) fn last_vowel(w: &[u8], c: usize) -> LastVowel
     requires { ⌜ c ≤ length (now w) ⌝ }
     ensures { λ r. ⌜ r ≡ lastVowelOf (now (w .entry)) c ⌝ }
 {
     let mut at = c;
-    'gopast: while 0 < at {
+    let ch = 'gopast: loop {
+        if at == 0 {
+            break 'gopast 0;
+        }
         let n = characters::last_width(w, at);
         at -= n;
         let ch = characters::char_at(w, at, n);
-        if !vowel::is_vowel(ch) {
-            continue 'gopast;
+        if vowel::is_vowel(ch) {
+            break 'gopast ch;
         }
-        return LastVowel { ch, at };
-    }
-    LastVowel { ch: 0, at: 0 }
+    };
+    LastVowel { ch, at }
 }

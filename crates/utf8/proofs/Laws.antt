@@ -13,3 +13,5 @@ pub mod CharAt
 pub mod Characters
 pub mod Steps
 pub mod Behind
+pub mod ReadBack
+pub mod BehindSteps

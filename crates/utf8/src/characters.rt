@@ -4,6 +4,7 @@ ghost use mathlib.Core.List.{[], _∷_};
 ghost use Prim.Native.Nat.{_+_, _%_, _≤_, _<_, max};
 ghost use lib.ListN.{length, getD};
 ghost use Rattle.utf8.specs.Encoding.{decode};
+ghost use Rattle.utf8.specs.Behind.{readBack};
 ghost use Rattle.utf8.specs.Characters.{continuation, goesOn, lastWidth, firstWidth, charAt};
 
 // Whether a byte goes on with a character and begins none.
@@ -126,4 +127,42 @@ pub fn char_at(w: &[u8], i: usize, n: usize) -> u32
         return decode_three(w[i], w[i + 1], w[i + 2]);
     }
     decode_four(w[i], w[i + 1], w[i + 2], w[i + 3])
+}
+
+// A character and the place where it begins.
+pub struct Read {
+    pub ch: u32,
+    pub at: usize,
+}
+
+// The character that ends at place c, 0 where none does, and where it begins. One byte or two are read at once.
+pub fn read_back(w: &[u8], c: usize) -> Read
+    requires { ⌜ c ≤ length (now w) ⌝ }
+    ensures { λ r. ⌜ r ≡ readBack (now (w .entry)) c ⌝ }
+{
+    if c == 0 {
+        return Read { ch: 0, at: 0 };
+    }
+    let b = w[c - 1];
+    if b < 0x80 {
+        return Read {
+            ch: b as u32,
+            at: c - 1,
+        };
+    }
+    if 2 <= c {
+        let a = w[c - 2];
+        if is_continuation(b) & !is_continuation(a) {
+            return Read {
+                ch: decode_two(a, b),
+                at: c - 2,
+            };
+        }
+    }
+    let n = last_width(w, c);
+    let at = c - n;
+    Read {
+        ch: char_at(w, at, n),
+        at,
+    }
 }

@@ -2,7 +2,7 @@
 use crate::refusal;
 use crate::repair;
 use stages::postlude;
-use stages::stem;
+use stages::stage;
 use stages::syllable;
 use turkish::answer::PassAnswer;
 ghost use mathlib.Core.Path.{_≡_};
@@ -33,7 +33,7 @@ pub fn pass_word(w: &[u8], out: &mut [u8]) -> PassAnswer
             flag: true,
         };
     }
-    let s = stem::stem_nominal_verb_suffixes(w);
+    let s = stage::stem_nominal_verb_suffixes(w);
     let kept = s.kept;
     if !s.flag {
         let length = bytes::copy(&w[..kept], out);

@@ -1,6 +1,6 @@
 // The suffix stage of a word of bytes: the text kept, as a part of the caller's own bytes, and its numbers by a second call.
 use crate::refusal;
-use stages::stem;
+use stages::stage;
 use turkish::answer::StageAnswer;
 ghost use mathlib.Core.Path.{_≡_};
 ghost use Rattle.turkish.specs.Calls.{stagePart, stageCall};
@@ -12,7 +12,7 @@ pub fn stage_part(w: &[u8]) -> &[u8]
     if refusal::refusal_of(w) != 0 {
         return &w[..0];
     }
-    let s = stem::stem_nominal_verb_suffixes(w);
+    let s = stage::stem_nominal_verb_suffixes(w);
     let kept = s.kept;
     &w[..kept]
 }
@@ -30,7 +30,7 @@ pub fn stage_numbers(w: &[u8]) -> StageAnswer
             flag: false,
         };
     }
-    let s = stem::stem_nominal_verb_suffixes(w);
+    let s = stage::stem_nominal_verb_suffixes(w);
     StageAnswer {
         refusal: 0,
         length: s.kept,

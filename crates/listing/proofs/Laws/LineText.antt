@@ -10,9 +10,9 @@ use Rattle.turkish.specs.Harmony.{moreThanOneSyllable}
 use Rattle.turkish.specs.Calls.{chars, limit, accepted, passText}
 use Rattle.turkish.proofs.Laws.Accepted.{accepted-iff}
 use Rattle.turkish.proofs.Sizes.{passText-size}
-use Rattle.stages.specs.declared.stem.Stem.{Stem}
+use Rattle.stages.specs.declared.stage.Outcome.{Outcome}
 use Rattle.stages.specs.declared.postlude.Repair.{Repair}
-use Rattle.stages.specs.Reach.{stemOf}
+use Rattle.stages.specs.Reach.{outcomeOf}
 use Rattle.stages.specs.Repairs.{repairText, repairOf}
 use Rattle.words.proofs.Laws.WordCalls.{kept-le}
 use Rattle.words.proofs.Laws.RepairCalls.{pass-short, pass-kept, pass-repaired}
@@ -45,16 +45,16 @@ module _ (w : List ℕ) (ok : accepted w ≡ true) (syllable : Bool) (y : syllab
   pub passText-short : syllable ≡ false → w ≡ passText w
   passText-short n = sym (pass-short w ok (sym y ∙ n))
 
-  module _ (s : Stem) (q : s ≡ stemOf w) (yes : syllable ≡ true) where
+  module _ (s : Outcome) (q : s ≡ outcomeOf w) (yes : syllable ≡ true) where
     -- of one whose flag is false the text kept
     pub passText-cut : s .flag ≡ false → take (s .kept) w ≡ passText w
-    unfolding stemOf
-    passText-cut f = rw q (sym (pass-kept w ok (sym y ∙ yes) (sym (ap (λ (x : Stem). x .flag) q) ∙ f)))
+    unfolding outcomeOf
+    passText-cut f = rw q (sym (pass-kept w ok (sym y ∙ yes) (sym (ap (λ (x : Outcome). x .flag) q) ∙ f)))
 
     -- of any other the repair of that
     pub passText-repaired : s .flag ≡ true → (r : Repair) → r ≡ repairOf w (s .kept) → repairText w r ≡ passText w
-    unfolding stemOf
-    passText-repaired f r p = rw (p, q) (sym (pass-repaired w ok (sym y ∙ yes) (sym (ap (λ (x : Stem). x .flag) q) ∙ f)))
+    unfolding outcomeOf
+    passText-repaired f r p = rw (p, q) (sym (pass-repaired w ok (sym y ∙ yes) (sym (ap (λ (x : Outcome). x .flag) q) ∙ f)))
 
 -- ---- the fields ----
 
@@ -70,13 +70,13 @@ unfolding answers
 answers-bytes syllable stages flag p q r = rw (p, q, r)
 
 -- the parts one after the other are the fields
-pub fields-parts : (w : List ℕ) (syllable : Bool) (s : Stem) → syllable ≡ moreThanOneSyllable (chars w) → s ≡ stemOf w
+pub fields-parts : (w : List ℕ) (syllable : Bool) (s : Outcome) → syllable ≡ moreThanOneSyllable (chars w) → s ≡ outcomeOf w
     → ((((w ++ answers syllable (s .yes) (s .flag)) ++ take (s .kept) w) ++ (tab ∷ [])) ++ passText w) ++ (lf ∷ []) ≡ fields w
-unfolding fields stemOf
+unfolding fields outcomeOf
 fields-parts w syllable s y q = rw (y, q) (simp append-assoc)
 
 -- an accepted word, the text kept and the pass's text are short enough that the fields fit three times the limit and twelve bytes
-pub fields-sizes : (w : List ℕ) (s : Stem) → accepted w ≡ true → s ≡ stemOf w
+pub fields-sizes : (w : List ℕ) (s : Outcome) → accepted w ≡ true → s ≡ outcomeOf w
     → (length w ≤ limit) × (s .kept ≤ length w) × (length (passText w) ≤ length w + 2)
 unfolding limit
 fields-sizes w s ok q = (accepted-iff w .0 ok .0, kept-le w s q, passText-size w ok)
@@ -85,9 +85,9 @@ fields-sizes w s ok q = (accepted-iff w .0 ok .0, kept-le w s q, passText-size w
 
 -- the fields of an accepted word have room for a line
 fields-size : (w : List ℕ) → accepted w ≡ true → length (fields w) ≤ lineRoom
-unfolding fields lineRoom stemOf
+unfolding fields lineRoom outcomeOf
 fields-size w ok =
-    let sizes = fields-sizes w (stemOf w) ok refl in
+    let sizes = fields-sizes w (outcomeOf w) ok refl in
     simp (length-append, length-answers, length-take) (omega arith)
 
 -- so have the four bytes of a refused line

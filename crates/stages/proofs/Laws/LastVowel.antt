@@ -3,7 +3,6 @@ use Prim.Native.Nat.{ℕ, suc, _-_, _≤_}
 use mathlib.Core.Path.{_≡_, refl, sym, ap, ap₂, _∙_}
 use mathlib.Core.Bool.{Bool, true, false, cond, not, _||_, false≢true}
 use mathlib.Core.List.{List, [], _∷_}
-use native.Mathlib.Omega.{arith}
 use lib.ListN.{drop}
 use lib.Dec.{eqb}
 use borrow.Author.Tests.{ne-eqb}
@@ -45,9 +44,9 @@ lastVowelOf-stops w at n ch e step d = ap₂ found (lastVowel-stops step d) plac
     place = unfold back in rw (one, e)
 
 -- there is none at the word's start
-pub lastVowelOf-none : (w : List ℕ) (at : ℕ) → at ≤ 0 → found 0 0 ≡ lastVowelOf w at
+pub lastVowelOf-none : (w : List ℕ) (at : ℕ) → at ≡ 0 → found 0 at ≡ lastVowelOf w at
 unfolding lastVowelOf lastVowel toVowel back
-lastVowelOf-none w at h = let e : at ≡ 0 = omega arith in rw (e, before-zero w)
+lastVowelOf-none w at e = rw (e, before-zero w)
 
 -- ---- what it gives ----
 
@@ -86,6 +85,8 @@ any-lastVowel (c ∷ cs) = go (vowel c) refl (any-lastVowel cs)
     go false e h = h
 
 -- two vowels: a walk from the last one's place finds another
-pub moreThanOneSyllable-last : (w : List ℕ) (c : ℕ) (l o : LastVowel) → l ≡ lastVowelOf w c → o ≡ lastVowelOf w (l .at) → not (eqb (o .ch) 0) ≡ moreThanOneSyllable (before w c)
+pub moreThanOneSyllable-last : (w : List ℕ) (c : ℕ) (l o : LastVowel) → l ≡ lastVowelOf w c → o ≡ lastVowelOf w (l .at)
+    → not (eqb (o .ch) 0) ≡ moreThanOneSyllable (before w c)
 unfolding moreThanOneSyllable
-moreThanOneSyllable-last w c l o e f = rw (last-ch w (l .at) o f) (any-lastVowel (before w (l .at))) ∙ ap (any vowel) (last-beforeLastVowel w c l e)
+moreThanOneSyllable-last w c l o e f =
+    rw (last-ch w (l .at) o f) (any-lastVowel (before w (l .at))) ∙ ap (any vowel) (last-beforeLastVowel w c l e)

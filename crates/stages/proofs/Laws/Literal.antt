@@ -1,18 +1,16 @@
 -- An ASCII literal stands before a place in bytes exactly where the characters before that place begin with it, from its end: a byte
 -- below 0x80 is a character by itself, and no character of several bytes is below 0x80. Assumes nothing.
-use Prim.Native.Nat.{ℕ, zero, suc, _+_, _-_, _≤_, _<_}
+use Prim.Native.Nat.{ℕ, zero, suc, _-_, _≤_, _<_}
 use mathlib.Core.Path.{_≡_, refl, sym, ap, _∙_}
-use mathlib.Core.Bool.{Bool, true, false, cond, _&&_, and-true}
+use mathlib.Core.Bool.{Bool, true, false, _&&_, and-true}
 use mathlib.Core.List.{List, [], _∷_, reverseAux, reverse, reverse-reverse}
 use native.Mathlib.Omega.{arith}
-use native.Mathlib.Nat.{zero-add}
 use lib.ListN.{length, take, drop, getD, length-take, length-drop, length-reverse}
 use lib.Dec.{leb, ltb, eqb, leb·zero, leb·suc-zero, leb·suc-suc}
-use borrow.Author.Tests.{ltb-true, ltb-false, le-leb, lt-leb, eqb-true, eqb-false, eq-eqb, ne-eqb}
-use Rattle.utf8.specs.declared.literal.Literal.{Literal}
+use borrow.Author.Tests.{ltb-true, ltb-false, lt-leb, eqb-true, eqb-false, eq-eqb, ne-eqb}
 use Rattle.utf8.specs.Encoding.{decode}
 use Rattle.utf8.specs.Characters.{continuation, goesOn, lastWidth, lastChar, charAt, before}
-use Rattle.utf8.specs.Steps.{stands, same, standsAt, eqSB}
+use Rattle.utf8.specs.Steps.{same, standsAt}
 use Rattle.utf8.proofs.Laws.Booleans.{and-left, and-right, and-false}
 use Rattle.utf8.proofs.Laws.Widths.{width-one}
 use Rattle.utf8.proofs.Laws.CharAt.{charAt-one}
@@ -122,16 +120,3 @@ pub literal-chars : (w s : List ℕ) (c : ℕ) → ascii s ≡ true → c ≤ le
 unfolding ascii standsAt same
 literal-chars w s c a l =
     cc (length-reverse s, reverse-reverse s, literal-around w (reverse s) [] c (ascii-reverseAux s [] a refl) l, and-true (starts (reverse s) (before w c)))
-
--- a step that moves where a test passes and stays where it fails tells the test
-moved-test : (b : Bool) (x y : Literal) → x .moved ≡ true → y .moved ≡ false → cond b x y .moved ≡ b
-moved-test true x y e f = e
-moved-test false x y e f = f
-
--- the step back past an ASCII literal from place c, with nothing to stop it, moves exactly there
-pub eqSB-chars : (w s : List ℕ) (c : ℕ) → ascii s ≡ true → c ≤ length w
-    → eqSB w s (record { cursor = c; limit = c; «limit_backward» = 0 }) .moved ≡ starts (reverse s) (before w c)
-unfolding eqSB stands
-eqSB-chars w s c a l =
-    rw (leb·zero c, le-leb c c (omega arith), le-leb c (length w) l, zero-add (length s))
-    (moved-test (leb (length s) c && standsAt w (c - length s) s) _ _ refl refl ∙ literal-chars w s c a l)

@@ -1,120 +1,180 @@
--- A mark's answer by its key, for any mark, and the key by what the code does to find it: a search of the word's last 16 characters in
--- a table of the mark's keys, or a step back past an ASCII literal. Assumes nothing.
-use Prim.Native.Nat.{ℕ, _+_, _≤_}
+-- A mark by its parts: a key searched and an optional y before it, then harmony; and the marks of a group one after the other.
+-- Assumes nothing.
+use Prim.Native.Nat.{ℕ, suc, _+_, _≤_, _<_}
 use mathlib.Core.Path.{_≡_, refl, sym, ap, _∙_}
-use mathlib.Core.Bool.{Bool, true, false, cond, not, _||_}
-use mathlib.Core.List.{List, [], _∷_, reverse}
+use mathlib.Core.Bool.{Bool, true, false, cond, not, _||_, false≢true}
+use mathlib.Core.List.{List, [], _∷_}
+use native.Mathlib.Nat.{add-zero}
 use native.Mathlib.Omega.{arith}
-use native.Mathlib.Nat.{add-assoc, add-zero}
-use lib.ListN.{length, drop, getD}
-use lib.Seq.{drop-drop}
-use lib.Dec.{leb}
-use borrow.Author.Tests.{leb-true}
-use Rattle.utf8.specs.declared.literal.Literal.{Literal}
-use Rattle.utf8.specs.Steps.{eqSB}
-use Rattle.utf8.proofs.Laws.Booleans.{and-each}
+use lib.ListN.{length, drop, getD, drop-of-length-le}
+use lib.Seq.{drop-cons}
+use Rattle.utf8.specs.declared.cursor.Cursor.{Cursor}
+use Rattle.utf8.specs.Steps.{moveTo}
+use Rattle.utf8.specs.Behind.{behind, backBy, Open}
+use Rattle.utf8.proofs.Laws.Behind.{behind-backBy, backBy-add, open-backBy}
 use Rattle.turkish.specs.Letters.{starts}
 use Rattle.turkish.specs.Harmony.{harmony}
-use Rattle.turkish.specs.Grammar.{Out, fail, took, more, after, asking, among, optionalY, Mark, markOf}
-use Rattle.turkish.specs.Calls.{chars}
+use Rattle.turkish.specs.Grammar.{Out, fail, took, more, after, first, asking, among, optionalY, Mark, markOf}
 use Rattle.stages.specs.declared.among.Among.{Among}
 use Rattle.stages.specs.declared.among.Among.the-variants.{Key, Nothing}
-use Rattle.stages.specs.declared.mark.Marked.{Marked}
-use Rattle.stages.specs.declared.mark.Marked.the-variants.{To, Fails}
-use Rattle.stages.specs.Keys.{foundFrom, found, keyOut}
-use Rattle.stages.specs.Tail.{Tail}
-use Rattle.stages.specs.Reach.{reach, inHarmony}
-use Rattle.stages.proofs.Laws.Keys.{among-found}
-use Rattle.stages.proofs.Laws.TailOf.{letters, whole, found-tail}
-use Rattle.stages.proofs.Laws.OnTail.{place-le, before-place}
-use Rattle.stages.proofs.Laws.Literal.{ascii, eqSB-chars}
+use Rattle.stages.specs.declared.marked.Marked.{Marked}
+use Rattle.stages.specs.declared.marked.Marked.the-variants.{To, Fails}
+use Rattle.stages.specs.declared.passed.Passed.{Passed}
+use Rattle.stages.specs.declared.seen.Seen.{Seen}
+use Rattle.stages.specs.Passed.{passedTo, notPassed, passes}
+use Rattle.stages.specs.Reach.{reach}
+use Rattle.stages.specs.Numbered.{never, numbered, unharmonic, keyedBy, firstOf}
+use Rattle.stages.specs.Search.{foundFrom, found}
+use Rattle.stages.specs.Seen.{seenAt, Sees}
+use Rattle.stages.specs.Ends.{mayEnd}
+use Rattle.stages.proofs.Laws.Search.{move-backBy}
+use Rattle.stages.proofs.Laws.Ends.{markOf-unharmonic}
 
--- ---- the length of a key found ----
+-- ---- a key found, as the grammar's ----
 
--- a key found from any place of the table on is no longer than the table's width
-foundFrom-le : (i width : ℕ) (ks : List (List ℕ)) (cs : List ℕ) (j n : ℕ) → whole width ks ≡ true → foundFrom i ks cs ≡ Key j n → n ≤ width
-unfolding foundFrom whole
-foundFrom-le i width [] cs j n l e = let z : _≡_ {A = ℕ} 0 1 = cc in absurd (omega arith)
-foundFrom-le i width (k ∷ ks) cs j n l e =
-    let each = and-each (leb (length k) width) (letters k) (whole width ks) l in
-    let fits : length k ≤ width = leb-true (length k) width (each .0) in
-    (elim (starts k cs) as (λ b. cond b (Key i (length k)) (foundFrom (i + 1) ks cs) ≡ Key j n → n ≤ width)
-    [ true ↦ λ f. let z : length k ≡ n = cc in omega arith | false ↦ foundFrom-le (i + 1) width ks cs j n (each .2) ])
-    e
+-- what the search finds is what the grammar's search takes: the record before the key
+record Finds (ks : List (List ℕ)) (w : List ℕ) (c d : Cursor) : Type 0 where
+  taken : ℕ
+  takes : among ks (behind w c) ≡ took taken true
+  there : d ≡ backBy w c taken
 
--- a key found is no longer than the table's width
-found-le : (width : ℕ) (ks : List (List ℕ)) (cs : List ℕ) (j n : ℕ) → whole width ks ≡ true → found ks cs ≡ Key j n → n ≤ width
-unfolding found
-found-le width ks cs j n l e = foundFrom-le 0 width ks cs j n l e
+foundFrom-finds : (i : ℕ) (ks : List (List ℕ)) (w : List ℕ) (c : Cursor) {j : ℕ} {d : Cursor} → Key j d ≡ foundFrom i ks w c → Finds ks w c d
+unfolding foundFrom among
+foundFrom-finds i [] w c e = let z : _≡_ {A = ℕ} 0 1 = cc in absurd (omega arith)
+foundFrom-finds i (k ∷ ks) w c {j} {d} e = go (starts k (behind w c)) refl e (foundFrom-finds (i + 1) ks w c)
+  where
+    go : (t : Bool) → starts k (behind w c) ≡ t → Key j d ≡ cond t (Key i (backBy w c (length k))) (foundFrom (i + 1) ks w c)
+        → (Key j d ≡ foundFrom (i + 1) ks w c → Finds ks w c d) → Finds (k ∷ ks) w c d
+    go true t q rest = record { taken = length k; takes = rw t; there = cc }
+    go false t q rest = let r = rest q in record { taken = r .taken; takes = rw t (r .takes); there = r .there }
 
--- ---- how far a command reaches ----
+foundFrom-none : (i : ℕ) (ks : List (List ℕ)) (w : List ℕ) (c : Cursor) → Nothing ≡ foundFrom i ks w c → among ks (behind w c) ≡ fail
+unfolding foundFrom among
+foundFrom-none i [] w c e = refl
+foundFrom-none i (k ∷ ks) w c e = go (starts k (behind w c)) refl e (foundFrom-none (i + 1) ks w c)
+  where
+    go : (t : Bool) → starts k (behind w c) ≡ t → Nothing ≡ cond t (Key i (backBy w c (length k))) (foundFrom (i + 1) ks w c)
+        → (Nothing ≡ foundFrom (i + 1) ks w c → among ks (behind w c) ≡ fail) → among (k ∷ ks) (behind w c) ≡ fail
+    go true t q rest = let z : _≡_ {A = ℕ} 0 1 = cc in absurd (omega arith)
+    go false t q rest = rw t (rest q)
 
--- a command that follows n characters reaches as far as it does from n characters further back
-reach-more : (at n : ℕ) (o : Out) → reach at (more n true o) ≡ reach (at + n) o
-unfolding reach more
-reach-more at n fail = refl
-reach-more at n (took k f) = ap To (sym (add-assoc at n k))
+-- an answer after k characters is an answer from the record k characters back
+passes-more : (w : List ℕ) (c : Cursor) (k : ℕ) (o : Out) → passes w (backBy w c k) o ≡ passes w c (more k true o)
+unfolding passes more
+passes-more w c k fail = refl
+passes-more w c k (took j f) = ap (λ (r : Cursor). passedTo (r .cursor)) (backBy-add w c k j)
 
--- a test before a command is a test before what it reaches
-reach-asking : (at : ℕ) (b : Bool) (o : Out) → reach at (asking b o) ≡ inHarmony b (reach at o)
-unfolding reach asking inHarmony
-reach-asking at true o = refl
-reach-asking at false o = refl
+-- ---- a mark without its harmony test ----
 
--- after a key of n characters the optional y stands n characters further back
-reach-joins : (at n : ℕ) (joins : Bool) (cs : List ℕ) → reach (at + n) (cond joins (optionalY 0x79 (drop n (drop at cs))) (took 0 true))
-    ≡ cond joins (reach (at + n) (optionalY 0x79 (drop (at + n) cs))) (To (at + n))
-unfolding reach
-reach-joins at n true cs = rw drop-drop
-reach-joins at n false cs = ap To (add-zero (at + n))
+module _ (ks : List (List ℕ)) (joins : Bool) (w : List ℕ) (c : Cursor) {a : Among} (is : a ≡ found ks w c) where
+  -- no key
+  pub keyed-nothing : a ≡ Nothing → notPassed ≡ passes w c (markOf (keyedBy ks joins) (behind w c))
+  unfolding markOf keyedBy asking after passes found
+  keyed-nothing e = rw (foundFrom-none 0 ks w c (sym e ∙ is))
 
--- ---- a mark by its key ----
+  module _ {j : ℕ} {d : Cursor} (e : a ≡ Key j d) where
+    finds : Finds ks w c d
+    unfolding found
+    finds = foundFrom-finds 0 ks w c (sym e ∙ is)
 
--- a mark without a key fails
-pub mark-keyless : (m : Mark) (at : ℕ) (cs : List ℕ) → among (m .keys) cs ≡ fail → Fails ≡ reach at (markOf m cs)
-unfolding markOf after reach asking
-mark-keyless m at cs e = rw e (elim (not (m .harmonic) || harmony cs) as (λ b. Fails ≡ reach at (asking b fail)) [ true ↦ refl | false ↦ refl ])
+    -- the record before the key is open
+    pub keyed-open : Open w c → Open w d
+    keyed-open o = rw (finds .there) (open-backBy w c (finds .taken) o)
 
--- a mark with a key of n characters reaches past it, and past the optional y that it may have, if harmony holds where it asks for it
-pub mark-key : (m : Mark) (at n : ℕ) (cs : List ℕ) {o : Marked} → among (m .keys) (drop at cs) ≡ took n true → o ≡ inHarmony
-    (not (m .harmonic) || harmony (drop at cs)) (cond (m .joins) (reach (at + n) (optionalY 0x79 (drop (at + n) cs))) (To (at + n)))
-    → o ≡ reach at (markOf m (drop at cs))
-unfolding markOf after
-mark-key m at n cs e o =
-    o ∙ sym (reach-asking at (not (m .harmonic) || harmony (drop at cs)) _
-    ∙ ap (inHarmony (not (m .harmonic) || harmony (drop at cs))) (rw e (reach-more at n _) ∙ reach-joins at n (m .joins) cs))
+    -- a key, and the optional y before it
+    pub keyed-joined : joins ≡ true → {p : Passed} → p ≡ passes w d (optionalY 0x79 (behind w d)) → p ≡ passes w c (markOf (keyedBy ks joins) (behind w c))
+    unfolding markOf keyedBy asking after
+    keyed-joined t {p} q =
+        let k = finds .taken in
+        q ∙ ap (λ (r : Cursor). passes w r (optionalY 0x79 (behind w r))) (finds .there)
+        ∙ ap (λ (cs : List ℕ). passes w (backBy w c k) (optionalY 0x79 cs)) (behind-backBy w c k)
+        ∙ passes-more w c k (optionalY 0x79 (drop k (behind w c))) ∙ sym (rw (finds .takes, t))
 
--- ---- the key by a search of the last 16 characters, in a table of the mark's keys ----
+    -- a key alone
+    pub keyed-alone : joins ≡ false → passedTo (d .cursor) ≡ passes w c (markOf (keyedBy ks joins) (behind w c))
+    unfolding markOf keyedBy asking after more passes
+    keyed-alone t =
+        let k = finds .taken in
+        ap (λ (r : Cursor). passedTo (r .cursor)) (finds .there ∙ ap (backBy w c) (sym (add-zero k))) ∙ sym (rw (finds .takes, t))
 
-module _ (m : Mark) (width at : ℕ) {w t p : List ℕ} {r : Among} (tail : Tail w t p) (fits : at + width ≤ 16) (keys : whole width (m .keys) ≡ true)
-    (finds : r ≡ found (m .keys) (drop at t)) where
-  -- the search finds the mark's keys in the word
-  key-searched : among (m .keys) (drop at (chars w)) ≡ keyOut r
-  key-searched = among-found (m .keys) (drop at (chars w)) ∙ ap keyOut (sym (finds ∙ found-tail w t p (m .keys) width at tail keys fits))
+-- ---- a mark of a group ----
 
-  -- the key found is no longer than the table's width
-  pub searched-le : {i n : ℕ} → r ≡ Key i n → n ≤ width
-  searched-le e = found-le width (m .keys) (drop at t) _ _ keys (sym finds ∙ e)
+-- a step that moved, as the record moved
+reach-passes : (w : List ℕ) (c : Cursor) (o : Out) {p : Passed} → p ≡ passes w c o → p .moved ≡ true → To (moveTo c (p .at)) ≡ reach w c o
+unfolding passes reach passedTo notPassed
+reach-passes w c fail e m = absurd (false≢true (sym (ap (λ (x : Passed). x .moved) e) ∙ m))
+reach-passes w c (took k f) e m = ap To (ap (λ (x : Passed). moveTo c (x .at)) e ∙ move-backBy w c k)
 
-  -- where none is found the mark fails
-  pub searched-nothing : r ≡ Nothing → Fails ≡ reach at (markOf m (drop at (chars w)))
-  unfolding keyOut
-  searched-nothing e = mark-keyless m at (drop at (chars w)) (key-searched ∙ ap keyOut e)
+-- one that did not move fails
+passes-not : (w : List ℕ) (c : Cursor) (o : Out) {p : Passed} → p ≡ passes w c o → p .moved ≡ false → o ≡ fail
+unfolding passes passedTo notPassed
+passes-not w c fail e m = refl
+passes-not w c (took k f) e m = absurd (false≢true (sym m ∙ ap (λ (x : Passed). x .moved) e))
 
-  -- where one is found the mark goes on past it
-  pub searched-key : {i n : ℕ} {o : Marked} → r ≡ Key i n → o ≡ inHarmony (not (m .harmonic) || harmony (drop at (chars w)))
-      (cond (m .joins) (reach (at + n) (optionalY 0x79 (drop (at + n) (chars w)))) (To (at + n))) → o ≡ reach at (markOf m (drop at (chars w)))
-  unfolding keyOut
-  searched-key e = mark-key m at _ (chars w) (key-searched ∙ ap keyOut e)
+-- what the first takes, the group does
+first-took : (w : List ℕ) (c : Cursor) (o q : Out) {r : Cursor} → To r ≡ reach w c o → To r ≡ reach w c (first o q)
+unfolding first reach
+first-took w c fail q e = let z : _≡_ {A = ℕ} 0 1 = cc in absurd (omega arith)
+first-took w c (took k f) q e = e
 
--- ---- the key by a step back past an ASCII literal ----
+module _ (w : List ℕ) (c : Cursor) (group : List ℕ) (i : ℕ) (inside : i < length group) where
+  -- the mark tried, and the group from the next on
+  firstOf-at : firstOf (drop i group) (behind w c)
+      ≡ first (markOf (numbered (getD group i 0)) (behind w c)) (firstOf (drop (i + 1) group) (behind w c))
+  unfolding firstOf
+  firstOf-at = let next : i + 1 ≡ suc i = omega arith in rw (drop-cons group i 0 inside, next)
 
--- the literal is the key where the step moves, and else there is none
-pub key-literal : {w t p : List ℕ} → Tail w t p → (at : ℕ) → at ≤ 16 → (s : List ℕ) → ascii s ≡ true → {l : Literal} {b : Bool}
-    → l ≡ eqSB w s (record { cursor = getD p at 0; limit = getD p at 0; «limit_backward» = 0 }) → l .moved ≡ b
-    → among (reverse s ∷ []) (drop at (chars w)) ≡ cond b (took (length (reverse s)) true) fail
-unfolding among
-key-literal {w} {t} {p} tail at fits s a {l} steps e =
-    ap (λ (b : Bool). cond b (took (length (reverse s)) true) fail)
-    (ap (starts (reverse s)) (sym (before-place tail at fits)) ∙ sym (eqSB-chars w s (getD p at 0) a (place-le tail at fits))
-    ∙ sym (ap (λ (x : Literal). x .moved) steps) ∙ e)
+  -- a mark that fails is passed over
+  pub firstOf-next : markOf (numbered (getD group i 0)) (behind w c) ≡ fail
+      → reach w c (firstOf (drop (i + 1) group) (behind w c)) ≡ reach w c (firstOf (drop i group) (behind w c))
+  unfolding first
+  firstOf-next e = ap (reach w c) (sym (firstOf-at ∙ rw e))
+
+  module _ {p : Passed} (is : p ≡ passes w c (markOf (unharmonic (numbered (getD group i 0))) (behind w c))) where
+    -- without its key and optional y the mark fails
+    pub markOf-not : p .moved ≡ false → markOf (numbered (getD group i 0)) (behind w c) ≡ fail
+    unfolding asking
+    markOf-not m =
+        markOf-unharmonic (numbered (getD group i 0)) (behind w c)
+        ∙ ap (asking (not (numbered (getD group i 0) .harmonic) || harmony (behind w c))) (passes-not w c _ is m)
+        ∙ asking-fail (not (numbered (getD group i 0) .harmonic) || harmony (behind w c))
+      where
+        asking-fail : (b : Bool) → asking b fail ≡ fail
+        asking-fail true = refl
+        asking-fail false = refl
+
+    -- with them it takes what they take, if it tests no harmony or harmony holds
+    pub firstOf-took : p .moved ≡ true → not (numbered (getD group i 0) .harmonic) || harmony (behind w c) ≡ true
+        → To (moveTo c (p .at)) ≡ reach w c (firstOf (drop i group) (behind w c))
+    unfolding asking
+    firstOf-took m h =
+        first-took w c _ _ (reach-passes w c _ is m ∙ ap (reach w c) (sym (markOf-unharmonic (numbered (getD group i 0)) (behind w c) ∙ rw h)))
+        ∙ ap (reach w c) (sym firstOf-at)
+
+    -- and fails where it does not
+    pub markOf-discord : not (numbered (getD group i 0) .harmonic) || harmony (behind w c) ≡ false → markOf (numbered (getD group i 0)) (behind w c) ≡ fail
+    unfolding asking
+    markOf-discord h = markOf-unharmonic (numbered (getD group i 0)) (behind w c) ∙ rw h
+
+-- where no mark is left none fits
+pub firstOf-end : (w : List ℕ) (c : Cursor) (group : List ℕ) (i : ℕ) → length group ≤ i → Fails ≡ reach w c (firstOf (drop i group) (behind w c))
+unfolding firstOf reach
+firstOf-end w c group i h = rw (drop-of-length-le group {i = i} h)
+
+-- what the last letters seen rule out, the characters behind the record do
+pub mayEnd-sees : (w : List ℕ) (s : Seen) → Sees w s → (k : ℕ) {b : Bool} → b ≡ mayEnd k (s .last) (s .second) (s .third)
+    → b ≡ mayEnd k (getD (behind w (s .c)) 0 0) (getD (behind w (s .c)) 1 0) (getD (behind w (s .c)) 2 0)
+unfolding seenAt
+mayEnd-sees w s sees k e = e ∙ ap (λ (x : Seen). mayEnd k (x .last) (x .second) (x .third)) (sees .is)
+
+-- a mark that tests no harmony agrees with any, and one that does with harmony alone
+pub agrees-free : {h : Bool} (cs : List ℕ) → h ≡ false → not h || harmony cs ≡ true
+agrees-free cs e = rw e
+
+pub agrees-bound : {h : Bool} (cs : List ℕ) → h ≡ true → not h || harmony cs ≡ harmony cs
+agrees-bound cs e = rw e
+
+-- a number that is no mark's never fits
+pub passes-never : (w : List ℕ) (c : Cursor) (k : ℕ) → numbered k ≡ never → notPassed ≡ passes w c (markOf (unharmonic (numbered k)) (behind w c))
+unfolding never unharmonic markOf asking after among passes
+passes-never w c k e = sym (ap (λ (m : Mark). passes w c (markOf (unharmonic m) (behind w c))) e)

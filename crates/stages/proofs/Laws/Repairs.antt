@@ -1,25 +1,29 @@
--- The postlude's pieces by the tests that decide them: the reserved words, the vowel gained, the consonant hardened, the repair.
--- Assumes nothing.
-use Prim.Native.Nat.{ℕ, _-_, _/_, _%_, _+_, _≤_, _<_}
-use mathlib.Core.Path.{_≡_, refl, sym, _∙_}
+-- The postlude's pieces by the tests that decide them: the reserved words, the vowel gained, the consonant hardened, what is seen from
+-- the end, the repair. Assumes nothing.
+use Prim.Native.Nat.{ℕ, _+_, _/_, _%_, _≤_, _<_}
+use mathlib.Core.Path.{_≡_, refl, _∙_}
 use mathlib.Core.Logic.{_⊎_, inl, inr}
-use mathlib.Core.Bool.{Bool, true, false, _&&_, _||_, or-false}
+use mathlib.Core.Bool.{Bool, true, false, cond, _&&_, _||_, or-false}
 use mathlib.Core.List.{List, [], _∷_}
 use native.Mathlib.Omega.{arith}
-use lib.ListN.{length}
+use lib.ListN.{length, drop, getD}
 use lib.Dec.{eqb}
 use borrow.Author.Tests.{lt-ltb, le-ltb, eq-eqb, ne-eqb}
 use Rattle.utf8.proofs.Laws.Booleans.{cond-both}
-use Rattle.utf8.specs.Characters.{lastWidth, charAt, lastChar, before}
+use Rattle.utf8.specs.Characters.{before}
 use Rattle.utf8.specs.Steps.{standsAt}
-use Rattle.utf8.proofs.Laws.Characters.{before-zero, before-step}
+use Rattle.utf8.proofs.Laws.Characters.{back-le, before-back}
+use Rattle.utf8.proofs.Laws.Behind.{behind-before, backBy-back, open-start}
 use Rattle.turkish.specs.Letters.{text, fromEnd, any, has, starts}
 use Rattle.turkish.specs.Harmony.{lastVowel}
 use Rattle.turkish.specs.Postlude.{reserved, gained, hardenings, hardIn, hard}
+use Rattle.turkish.proofs.PostludeRules.{gained-elim}
+use Rattle.stages.specs.declared.seen.Seen.{Seen}
 use Rattle.stages.specs.declared.postlude.Repair.{Repair}
-use Rattle.stages.specs.Repairs.{unchanged, shortRepair, appended, hardened, repairOf}
+use Rattle.stages.specs.Seen.{seenAt, Sees}
+use Rattle.stages.specs.Repairs.{ending, unchanged, followed, appended, hardened, repairOf}
 use Rattle.stages.proofs.Laws.Literal.{ascii}
-use Rattle.stages.proofs.Laws.LiteralWhole.{literal-whole}
+use Rattle.stages.proofs.Laws.LiteralWhole.{same-standsAt}
 
 -- ---- a choice ----
 
@@ -29,7 +33,7 @@ either-number P v a b (inl e) p q = rw e p
 either-number P v a b (inr e) p q = rw e q
 
 -- a number that is neither is not among them
-pub has-neither : (v a b : ℕ) → (v ≡ a → ⊥) → (v ≡ b → ⊥) → has (a ∷ b ∷ []) v ≡ false
+has-neither : (v a b : ℕ) → (v ≡ a → ⊥) → (v ≡ b → ⊥) → has (a ∷ b ∷ []) v ≡ false
 unfolding has any
 has-neither v a b p q = rw (ne-eqb v a p, ne-eqb v b q)
 
@@ -39,7 +43,7 @@ has-neither v a b p q = rw (ne-eqb v a p, ne-eqb v b q)
 reserved-bytes : (w : List ℕ) (n : ℕ) → n ≤ length w
     → reserved (before w n) ≡ (eqb n 2 && standsAt w 0 (text "ad") || eqb n 5 && standsAt w 0 (text "soyad"))
 unfolding reserved fromEnd text ascii
-reserved-bytes w n h = rw (literal-whole w (text "ad") n refl h, literal-whole w (text "soyad") n refl h)
+reserved-bytes w n h = rw (same-standsAt w (text "ad") n refl h, same-standsAt w (text "soyad") n refl h)
 
 -- two bytes are one where they are `ad`
 pub reserved-two : (w : List ℕ) (n : ℕ) → n ≤ length w → n ≡ 2 → reserved (before w n) ≡ standsAt w 0 (text "ad")
@@ -68,23 +72,14 @@ gained-none v p q r s =
       has-neither v 0xF6 0xFC (λ e. s (inl e)) (λ e. s (inr e)),
     )
 
--- what holds of ı, i, u, ü and of none holds of the vowel gained
-pub gained-elim : (P : ℕ → Type 0) (v : ℕ) → P 0x131 → P 0x69 → P 0x75 → P 0xFC → P 0 → P (gained v)
-unfolding gained
-gained-elim P v p q r s z =
-    cond-both P (has (text "aı") v) _ _ p
-    (cond-both P (has (text "ei") v) _ _ q
-    (cond-both P (has (text "ou") v) _ _ r
-    (cond-both P (has (text "öü") v) _ _ s z)))
-
 -- the vowel gained is a character of two bytes at most
-pub gained-short : (v : ℕ) → gained v < 0x800
+gained-short : (v : ℕ) → gained v < 0x800
 gained-short v = gained-elim (λ n. n < 0x800) v (omega arith) (omega arith) (omega arith) (omega arith) (omega arith)
 
 -- ---- the consonant hardened ----
 
 -- what holds of p, ç, t, k and of the character itself holds of it hardened
-pub hard-elim : (P : ℕ → Type 0) (c : ℕ) → P 0x70 → P 0xE7 → P 0x74 → P 0x6B → P c → P (hard c)
+hard-elim : (P : ℕ → Type 0) (c : ℕ) → P 0x70 → P 0xE7 → P 0x74 → P 0x6B → P c → P (hard c)
 unfolding hard hardIn hardenings fromEnd text
 hard-elim P c p q r s z =
     let is : ℕ → Bool = λ k. starts (k ∷ []) (c ∷ []) in
@@ -95,33 +90,13 @@ pub hard-short : (c : ℕ) → (hard c ≡ c → ⊥) → hard c < 0x800
 hard-short c =
     hard-elim (λ h. (h ≡ c → ⊥) → h < 0x800) c (λ d. omega arith) (λ d. omega arith) (λ d. omega arith) (λ d. omega arith) (λ d. absurd (d refl))
 
--- ---- the character before a place, as the code reads it ----
-
--- before a place stands the character whose bytes end there, and before it what stands before its first byte
-pub before-last : (w : List ℕ) (n k c : ℕ) → 0 < n → k ≡ lastWidth w n → c ≡ charAt w (n - k) k → before w n ≡ c ∷ before w (n - k)
-unfolding lastChar
-before-last w n k c h e f = rw (f, e) (before-step w n h)
-
--- before the word's start nothing stands
-pub before-empty : (w : List ℕ) (n : ℕ) → n ≡ 0 → before w n ≡ []
-before-empty w n e = rw e (before-zero w)
-
 -- ---- the vowel that characters gain ----
 
--- no characters gain none
-pub appended-empty : (w : List ℕ) (n : ℕ) → n ≡ 0 → 0 ≡ appended (before w n)
-unfolding appended
-appended-empty w n e = rw (before-empty w n e)
-
--- characters that end in d or g gain a vowel by their last one
-pub appended-after : (cs ds : List ℕ) (c v r : ℕ) → cs ≡ c ∷ ds → has (text "dg") c ≡ true → v ≡ lastVowel ds → r ≡ gained v → r ≡ appended cs
-unfolding appended
-appended-after cs ds c v r e t f g = rw (e, t, ← f) g
-
--- others gain none
-pub appended-not : (cs ds : List ℕ) (c : ℕ) → cs ≡ c ∷ ds → (c ≡ 0x64 → ⊥) → (c ≡ 0x67 → ⊥) → 0 ≡ appended cs
-unfolding appended text
-appended-not cs ds c e p q = rw (e, has-neither c 0x64 0x67 p q)
+-- it goes by whether the first character is d or g, and by the others
+appended-getD : (cs : List ℕ) → appended cs ≡ cond (eqb (getD cs 0 0) 0x64 || eqb (getD cs 0 0) 0x67) (gained (lastVowel (drop 1 cs))) 0
+unfolding appended has any text
+appended-getD [] = refl
+appended-getD (c ∷ cs) = rw (or-false (eqb c 0x67))
 
 -- the vowel that characters gain has two bytes at most
 pub appended-short : (cs : List ℕ) → appended cs < 0x800
@@ -129,48 +104,63 @@ unfolding appended
 appended-short [] = omega arith
 appended-short (c ∷ cs) = cond-both (λ n. n < 0x800) (has (text "dg") c) (gained (lastVowel cs)) 0 (gained-short (lastVowel cs)) (omega arith)
 
+-- ---- what is seen from the end of the first n bytes ----
+
+module _ (w : List ℕ) (n : ℕ) (s : Seen) (e : s ≡ seenAt w (ending n)) where
+  -- it is seen from an open record
+  pub sees-ending : n ≤ length w → Sees w s
+  unfolding seenAt ending
+  sees-ending l = rw e (record { opens = open-start w n n (omega arith) l; is = refl })
+
+  -- its last character is the first of those before n
+  last-before : s .last ≡ getD (before w n) 0 0
+  unfolding seenAt ending
+  last-before = rw (e, behind-before w n n)
+
+  -- which begins no later than n
+  pub one-le : s .one ≤ n
+  unfolding seenAt ending
+  one-le = rw (e, backBy-back w n n 1) (back-le w n 1)
+
+  -- and before which stand the others
+  one-before : before w (s .one) ≡ drop 1 (before w n)
+  unfolding seenAt ending
+  one-before = rw (e, backBy-back w n n 1) (before-back w n 1)
+
+  -- where that character is d or g, the bytes gain a vowel by the last one before it
+  pub appended-after : (v r : ℕ) → eqb (s .last) 0x64 || eqb (s .last) 0x67 ≡ true → v ≡ lastVowel (before w (s .one)) → r ≡ gained v → r ≡ appended (before w n)
+  appended-after v r t f g = rw (appended-getD (before w n), ← last-before, t, ← one-before, ← f) g
+
+  -- elsewhere they gain none
+  pub appended-not : eqb (s .last) 0x64 || eqb (s .last) 0x67 ≡ false → 0 ≡ appended (before w n)
+  appended-not t = rw (appended-getD (before w n), ← last-before, t)
+
 -- ---- the repair ----
 
 -- one byte follows
-pub shortRepair-one : (keep v : ℕ) → v < 0x80 → record { keep = keep; more = 1; a = v; b = 0; yes = true } ≡ shortRepair keep v
-unfolding shortRepair
-shortRepair-one keep v h = rw (lt-ltb v 0x80 h)
+pub followed-one : (keep v : ℕ) → v < 0x80 → record { keep = keep; more = 1; a = v; b = 0; yes = true } ≡ followed keep v
+unfolding followed
+followed-one keep v h = rw (lt-ltb v 0x80 h)
 
 -- two bytes follow
-pub shortRepair-two : (keep v : ℕ) → 0x80 ≤ v
-    → record { keep = keep; more = 2; a = 0xC0 + v / 0x40; b = 0x80 + v % 0x40; yes = true } ≡ shortRepair keep v
-unfolding shortRepair
-shortRepair-two keep v h = rw (le-ltb v 0x80 h)
+pub followed-two : (keep v : ℕ) → 0x80 ≤ v
+    → record { keep = keep; more = 2; a = 0xC0 + v / 0x40; b = 0x80 + v % 0x40; yes = true } ≡ followed keep v
+unfolding followed
+followed-two keep v h = rw (le-ltb v 0x80 h)
 
 -- a reserved word stays
-pub repairOf-reserved : (w : List ℕ) (n : ℕ) → reserved (before w n) ≡ true → unchanged n false ≡ repairOf w n
+pub repairOf-reserved : (w : List ℕ) (n : ℕ) (r : Repair) → reserved (before w n) ≡ true → r ≡ unchanged n false → r ≡ repairOf w n
 unfolding repairOf
-repairOf-reserved w n e = rw e
+repairOf-reserved w n r e f = rw e f
 
 -- any other gains its vowel
 pub repairOf-gains : (w : List ℕ) (n v : ℕ) (r : Repair) → reserved (before w n) ≡ false
-    → v ≡ appended (before w n) → (v ≡ 0 → ⊥) → r ≡ shortRepair n v → r ≡ repairOf w n
+    → v ≡ appended (before w n) → (v ≡ 0 → ⊥) → r ≡ followed n v → r ≡ repairOf w n
 unfolding repairOf
 repairOf-gains w n v r e f d g = rw (e, ← f, ne-eqb v 0 d) g
 
 -- or its last character hardens
-pub repairOf-hardens : (w : List ℕ) (n v : ℕ) (cs : List ℕ) (r : Repair) → reserved (before w n) ≡ false
-    → v ≡ appended (before w n) → v ≡ 0 → before w n ≡ cs → r ≡ hardened w n cs → r ≡ repairOf w n
+pub repairOf-hardens : (w : List ℕ) (n v : ℕ) (r : Repair) → reserved (before w n) ≡ false
+    → v ≡ appended (before w n) → v ≡ 0 → r ≡ hardened w n (before w n) → r ≡ repairOf w n
 unfolding repairOf
-repairOf-hardens w n v cs r e f z b g = rw (e, ← f, eq-eqb v 0 z, b) g
-
--- where there is none, nothing does
-pub hardened-empty : (w : List ℕ) (n : ℕ) → unchanged n true ≡ hardened w n []
-unfolding hardened
-hardened-empty w n = refl
-
--- nor where it is no consonant that hardens
-pub hardened-stays : (w : List ℕ) (n h c : ℕ) (cs : List ℕ) → h ≡ hard c → h ≡ c → unchanged n true ≡ hardened w n (c ∷ cs)
-unfolding hardened
-hardened-stays w n h c cs e f = rw (eq-eqb (hard c) c (sym e ∙ f))
-
--- where it is, that consonant takes its place
-pub hardened-changes : (w : List ℕ) (n k h c : ℕ) (cs : List ℕ) (r : Repair) → k ≡ lastWidth w n
-    → h ≡ hard c → (h ≡ c → ⊥) → r ≡ shortRepair (n - k) h → r ≡ hardened w n (c ∷ cs)
-unfolding hardened
-hardened-changes w n k h c cs r e f d g = rw (ne-eqb (hard c) c (λ p. d (f ∙ p)), ← e, ← f) g
+repairOf-hardens w n v r e f z g = rw (e, ← f, eq-eqb v 0 z) g

@@ -12,19 +12,19 @@ use Rattle.utf8.proofs.Laws.Booleans.{and-left, and-right}
 use Rattle.turkish.specs.Letters.{text, any, has}
 use Rattle.turkish.specs.Harmony.{vowels, vowel, partnersIn, partnerTable, partner}
 use Rattle.stages.specs.declared.vowel.Vowel.{Vowel}
-use Rattle.stages.specs.declared.vowel.Sound.the-variants.{Is, Other}
-use Rattle.stages.specs.Sounds.{vowelOf, soundOf, partners, anyPartner}
+use Rattle.stages.specs.declared.vowel.Sound.the-variants.{AVowel, NoVowel}
+use Rattle.stages.specs.Sounds.{vowelOf, soundOf, partners}
 
 -- ---- lists of code points ----
 
 -- where two tests agree on every character, some character passes the one where some passes the other
-pub any-same : (f g : ℕ → Bool) (cs : List ℕ) → ((c : ℕ) → f c ≡ g c) → any f cs ≡ any g cs
+any-same : (f g : ℕ → Bool) (cs : List ℕ) → ((c : ℕ) → f c ≡ g c) → any f cs ≡ any g cs
 unfolding any
 any-same f g [] h = refl
 any-same f g (c ∷ cs) h = rw (h c, any-same f g cs h)
 
 -- a test that no character of a list fails passes on each of them
-pub has-passes : (f : ℕ → Bool) (cs : List ℕ) (c : ℕ) → any (λ x. not (f x)) cs ≡ false → has cs c ≡ true → f c ≡ true
+has-passes : (f : ℕ → Bool) (cs : List ℕ) (c : ℕ) → any (λ x. not (f x)) cs ≡ false → has cs c ≡ true → f c ≡ true
 unfolding has any
 has-passes f [] c h e = absurd (false≢true e)
 has-passes f (x ∷ xs) c h e = go (eqb c x) (f x) refl refl (has-passes f xs c)
@@ -37,14 +37,14 @@ has-passes f (x ∷ xs) c h e = go (eqb c x) (f x) refl refl (has-passes f xs c)
 -- ---- partners ----
 
 -- one to four partners are all kept
-pub vowelOf-partners : (ps : List ℕ) (c : ℕ) → 0 < length ps → length ps ≤ 4 → partners (vowelOf ps) c ≡ has ps c
+vowelOf-partners : (v : ℕ) (ps : List ℕ) (c : ℕ) → 0 < length ps → length ps ≤ 4 → partners (vowelOf v ps) c ≡ has ps c
 unfolding partners vowelOf has any
-vowelOf-partners [] c h k = absurd (omega arith)
-vowelOf-partners (a ∷ []) c h k = simp (or-self, or-false)
-vowelOf-partners (a ∷ b ∷ []) c h k = simp (or-self, or-false)
-vowelOf-partners (a ∷ b ∷ d ∷ []) c h k = simp (or-self, or-false)
-vowelOf-partners (a ∷ b ∷ d ∷ e ∷ []) c h k = simp or-false
-vowelOf-partners (a ∷ b ∷ d ∷ e ∷ f ∷ ps) c h k = absurd (omega arith)
+vowelOf-partners v [] c h k = absurd (omega arith)
+vowelOf-partners v (a ∷ []) c h k = simp (or-self, or-false)
+vowelOf-partners v (a ∷ b ∷ []) c h k = simp (or-self, or-false)
+vowelOf-partners v (a ∷ b ∷ d ∷ []) c h k = simp (or-self, or-false)
+vowelOf-partners v (a ∷ b ∷ d ∷ e ∷ []) c h k = simp or-false
+vowelOf-partners v (a ∷ b ∷ d ∷ e ∷ f ∷ ps) c h k = absurd (omega arith)
 
 -- that a code point has as many
 few : ℕ → Bool
@@ -56,46 +56,46 @@ unfolding vowel vowels text any partnersIn partnerTable few
 vowel-few c e = has-passes few vowels c refl e
 
 -- a vowel's partners are the definition's
-vowelOf-partner : (ch c : ℕ) → vowel ch ≡ true → partners (vowelOf (partnersIn partnerTable ch)) c ≡ partner ch c
+vowelOf-partner : (ch c : ℕ) → vowel ch ≡ true → partners (vowelOf ch (partnersIn partnerTable ch)) c ≡ partner ch c
 unfolding partner few
 vowelOf-partner ch c e =
     let n : ℕ = length (partnersIn partnerTable ch) in
-    vowelOf-partners (partnersIn partnerTable ch) c
+    vowelOf-partners ch (partnersIn partnerTable ch) c
     (leb-true 1 n (and-left (leb 1 n) (leb n 4) (vowel-few ch e)))
     (leb-true n 4 (and-right (leb 1 n) (leb n 4) (vowel-few ch e)))
 
 -- ---- sounds ----
 
 -- where a test chose no vowel, it failed
-chosen-other : (t : Bool) (v : Vowel) → cond t (Is v) Other ≡ Other → t ≡ false
-chosen-other false v e = refl
-chosen-other true v e = let z : _≡_ {A = ℕ} 0 1 = cc in absurd (omega arith)
+chosen-noVowel : (t : Bool) (v : Vowel) → cond t (AVowel v) NoVowel ≡ NoVowel → t ≡ false
+chosen-noVowel false v e = refl
+chosen-noVowel true v e = let z : _≡_ {A = ℕ} 0 1 = cc in absurd (omega arith)
 
 -- where it chose a vowel, it passed, and that is the one
-chosen-is : (t : Bool) (u v : Vowel) → cond t (Is u) Other ≡ Is v → (t ≡ true) × (v ≡ u)
-chosen-is false u v e = let z : _≡_ {A = ℕ} 0 1 = cc in absurd (omega arith)
-chosen-is true u v e = (refl, cc)
+chosen-aVowel : (t : Bool) (u v : Vowel) → cond t (AVowel u) NoVowel ≡ AVowel v → (t ≡ true) × (v ≡ u)
+chosen-aVowel false u v e = let z : _≡_ {A = ℕ} 0 1 = cc in absurd (omega arith)
+chosen-aVowel true u v e = (refl, cc)
 
--- a code point of another sound is no vowel
-pub soundOf-other : (ch : ℕ) → soundOf ch ≡ Other → vowel ch ≡ false
+-- a code point whose sound is none is no vowel
+pub soundOf-noVowel : (ch : ℕ) → soundOf ch ≡ NoVowel → vowel ch ≡ false
 unfolding soundOf
-soundOf-other ch e = chosen-other (vowel ch) (vowelOf (partnersIn partnerTable ch)) e
+soundOf-noVowel ch e = chosen-noVowel (vowel ch) (vowelOf ch (partnersIn partnerTable ch)) e
 
 -- a code point of a vowel's sound is a vowel
-pub soundOf-vowel : (ch : ℕ) (v : Vowel) → soundOf ch ≡ Is v → vowel ch ≡ true
+pub soundOf-aVowel : (ch : ℕ) (v : Vowel) → soundOf ch ≡ AVowel v → vowel ch ≡ true
 unfolding soundOf
-soundOf-vowel ch v e = chosen-is (vowel ch) (vowelOf (partnersIn partnerTable ch)) v e .0
+soundOf-aVowel ch v e = chosen-aVowel (vowel ch) (vowelOf ch (partnersIn partnerTable ch)) v e .0
 
 -- and its partners are that vowel's
-pub soundOf-partners : (ch : ℕ) (v : Vowel) (cs : List ℕ) → soundOf ch ≡ Is v → anyPartner v cs ≡ any (partner ch) cs
-unfolding soundOf anyPartner
+pub soundOf-partners : (ch : ℕ) (v : Vowel) (cs : List ℕ) → soundOf ch ≡ AVowel v → any (partners v) cs ≡ any (partner ch) cs
+unfolding soundOf
 soundOf-partners ch v cs e =
-    let d = chosen-is (vowel ch) (vowelOf (partnersIn partnerTable ch)) v e in
+    let d = chosen-aVowel (vowel ch) (vowelOf ch (partnersIn partnerTable ch)) v e in
     ap (λ (u : Vowel). any (partners u) cs) (d .1) ∙ any-same _ _ cs (λ c. vowelOf-partner ch c (d .0))
 
--- a code point that is none of the eight vowels has another sound
+-- a code point that is none of the eight vowels has no vowel's sound
 pub soundOf-none : (ch : ℕ) → (ch ≡ 0x61 → ⊥) → (ch ≡ 0x65 → ⊥) → (ch ≡ 0x69 → ⊥) → (ch ≡ 0x6F → ⊥)
-    → (ch ≡ 0x75 → ⊥) → (ch ≡ 0xF6 → ⊥) → (ch ≡ 0xFC → ⊥) → (ch ≡ 0x131 → ⊥) → soundOf ch ≡ Other
+    → (ch ≡ 0x75 → ⊥) → (ch ≡ 0xF6 → ⊥) → (ch ≡ 0xFC → ⊥) → (ch ≡ 0x131 → ⊥) → soundOf ch ≡ NoVowel
 unfolding soundOf vowel vowels text has any
 soundOf-none ch a e i o u ö ü ı =
     rw (ne-eqb ch 0x61 a, ne-eqb ch 0x65 e, ne-eqb ch 0x131 ı, ne-eqb ch 0x69 i)

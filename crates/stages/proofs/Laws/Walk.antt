@@ -1,7 +1,7 @@
 -- A walk back over a word, a character a turn: what one turn passes, and what a walk's answer is when it skips a character, stops at
 -- one, or comes to the word's start. Assumes nothing.
 use Prim.Native.Nat.{ℕ, _-_, _≤_, _<_}
-use mathlib.Core.Path.{_≡_, sym, ap, ap₂, _∙_}
+use mathlib.Core.Path.{_≡_, sym, ap, _∙_}
 use mathlib.Core.Bool.{Bool, true, false}
 use mathlib.Core.List.{List, [], _∷_}
 use native.Mathlib.Omega.{arith}
@@ -13,18 +13,18 @@ use Rattle.turkish.specs.Harmony.{vowel, partner, lastVowel, beforeLastVowel, h
 -- ---- one turn ----
 
 -- a turn passes one to four bytes, none of them before the word's start
-pub turn-width : (w : List ℕ) (at n : ℕ) → 0 < at → n ≡ lastWidth w at → (0 < n) × (n ≤ 4) × (n ≤ at)
-turn-width w at n h e = rw e (lastWidth-pos w at, lastWidth-four w at, lastWidth-le w at h)
+pub lastWidth-bounds : (w : List ℕ) (at n : ℕ) → (at ≡ 0 → ⊥) → n ≡ lastWidth w at → (0 < n) × (n ≤ 4) × (n ≤ at)
+lastWidth-bounds w at n h e = rw e (lastWidth-pos w at, lastWidth-four w at, lastWidth-le w at (omega arith))
 
 -- and the character that they are
-pub turn-char : (w : List ℕ) (at n ch : ℕ) → 0 < at → n ≡ lastWidth w at → ch ≡ charAt w (at - n) n
+pub before-charAt : (w : List ℕ) (at n ch : ℕ) → (at ≡ 0 → ⊥) → n ≡ lastWidth w at → ch ≡ charAt w (at - n) n
     → before w at ≡ ch ∷ before w (at - n)
 unfolding lastChar
-turn-char w at n ch h e d = before-step w at h ∙ sym (rw (d, e))
+before-charAt w at n ch h e d = before-step w at (omega arith) ∙ sym (rw (d, e))
 
 -- no turn is left at the word's start
-pub turn-none : (w : List ℕ) (at : ℕ) → at ≤ 0 → before w at ≡ []
-turn-none w at h = let e : at ≡ 0 = omega arith in ap (before w) e ∙ before-zero w
+pub before-start : (w : List ℕ) (at : ℕ) → at ≡ 0 → before w at ≡ []
+before-start w at e = ap (before w) e ∙ before-zero w
 
 -- ---- some character passes a test ----
 
@@ -56,36 +56,19 @@ pub lastVowel-stops : {l cs : List ℕ} {c : ℕ} → l ≡ c ∷ cs → vowel c
 unfolding lastVowel
 lastVowel-stops e d = rw (e, d)
 
--- ---- what stands before the last vowel ----
-
--- a character that is no vowel is skipped
-pub beforeLastVowel-skips : {l cs : List ℕ} {c : ℕ} → l ≡ c ∷ cs → vowel c ≡ false → beforeLastVowel cs ≡ beforeLastVowel l
-unfolding beforeLastVowel
-beforeLastVowel-skips e d = rw (e, d)
-
--- before a vowel stands the rest
-pub beforeLastVowel-stops : {l cs : List ℕ} {c : ℕ} → l ≡ c ∷ cs → vowel c ≡ true → cs ≡ beforeLastVowel l
-unfolding beforeLastVowel
-beforeLastVowel-stops e d = rw (e, d)
-
--- nothing stands before the word's start
-pub beforeLastVowel-none : {l : List ℕ} → l ≡ [] → [] ≡ beforeLastVowel l
-unfolding beforeLastVowel
-beforeLastVowel-none e = rw e
-
 -- ---- harmony ----
 
 -- a character that is no vowel is skipped
 pub harmony-skips : {l cs : List ℕ} {c : ℕ} → l ≡ c ∷ cs → vowel c ≡ false → harmony cs ≡ harmony l
-unfolding harmony
-harmony-skips e d = ap₂ (λ (v : ℕ) (bs : List ℕ). any (partner v) bs) (lastVowel-skips e d) (beforeLastVowel-skips e d)
+unfolding harmony lastVowel beforeLastVowel
+harmony-skips e d = rw (e, d)
 
 -- at a vowel the rest is searched for its partners
 pub harmony-stops : {l cs : List ℕ} {c : ℕ} → l ≡ c ∷ cs → vowel c ≡ true → any (partner c) cs ≡ harmony l
-unfolding harmony
-harmony-stops e d = ap₂ (λ (v : ℕ) (bs : List ℕ). any (partner v) bs) (lastVowel-stops e d) (beforeLastVowel-stops e d)
+unfolding harmony lastVowel beforeLastVowel
+harmony-stops e d = rw (e, d)
 
 -- there is none at the word's start
 pub harmony-none : {l : List ℕ} → l ≡ [] → false ≡ harmony l
-unfolding harmony
-harmony-none {l} e = any-none (partner (lastVowel l)) (sym (beforeLastVowel-none e))
+unfolding harmony beforeLastVowel any
+harmony-none e = rw e

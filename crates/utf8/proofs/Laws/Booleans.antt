@@ -51,3 +51,8 @@ cond-both P t x y p q = cond-test P t (λ e. p) q
 pub chosen : (t p q : Bool) → t && p || not t && q ≡ cond t p q
 chosen true p q = or-false p
 chosen false p q = refl
+
+-- a test whose contrary passes fails
+pub not-eq-false : (a : Bool) → not a ≡ true → a ≡ false
+not-eq-false true e = absurd (false≢true e)
+not-eq-false false e = refl

@@ -23,9 +23,9 @@ use Rattle.turkish.specs.Calls.{postludeText, postludeRefusal, postludeCall, po
 use Rattle.turkish.proofs.Laws.Accepted.{accepted-text, bytes-chars}
 use Rattle.turkish.proofs.Laws.Words.{text-back}
 use Rattle.turkish.proofs.Sizes.{kept-bytes}
-use Rattle.stages.specs.declared.stem.Stem.{Stem}
+use Rattle.stages.specs.declared.stage.Outcome.{Outcome}
 use Rattle.stages.specs.declared.postlude.Repair.{Repair}
-use Rattle.stages.specs.Reach.{stemOf}
+use Rattle.stages.specs.Reach.{outcomeOf}
 use Rattle.stages.specs.Repairs.{repairText, repairOf}
 use Rattle.stages.proofs.RepairText.{repair-text, repair-answer, repair-size}
 use Rattle.words.proofs.Laws.Refusals.{into-accepted, into-room}
@@ -124,20 +124,20 @@ module _ (w out : List ℕ) (n : ℕ) (e : n ≡ refusalInto w (length w + 2) (l
       let t = pass-short w (into-accepted w (length w + 2) (length out) n e z) y in
       (rw (← e, z, t, y, l), o ∙ rw (← e, z, t))
 
-  module _ (z : n ≡ 0) (y : moreThanOneSyllable (chars w) ≡ true) (s : Stem) (q : s ≡ stemOf w) where
+  module _ (z : n ≡ 0) (y : moreThanOneSyllable (chars w) ≡ true) (s : Outcome) (q : s ≡ outcomeOf w) where
     -- the code's flag is the stage's
-    stemOf-flag : s .flag ≡ stage (chars w) .flag
-    unfolding stemOf
-    stemOf-flag = ap (λ (x : Stem). x .flag) q
+    outcomeOf-flag : s .flag ≡ stage (chars w) .flag
+    unfolding outcomeOf
+    outcomeOf-flag = ap (λ (x : Outcome). x .flag) q
 
     -- where the flag is false the text kept is written
     pub passCall-passOut-kept : s .flag ≡ false
         → (k : ℕ) (last : List ℕ) → k ≡ length (take (s .kept) w) → last ≡ written (take (s .kept) w) out
         → (_≡_ {A = PassAnswer} (record { refusal = 0; length = k; syllable = true; yes = s .yes; flag = false }) (passCall w (length out)))
         × (last ≡ passOut w out)
-    unfolding passCall passOut passRefusal pass passStage stemOf
+    unfolding passCall passOut passRefusal pass passStage outcomeOf
     passCall-passOut-kept f k last l o =
-        let g : stage (chars w) .flag ≡ false = sym stemOf-flag ∙ f in
+        let g : stage (chars w) .flag ≡ false = sym outcomeOf-flag ∙ f in
         let t = pass-kept w (into-accepted w (length w + 2) (length out) n e z) y g in
         (rw (← e, z, t, y, l, q, g), o ∙ rw (← e, z, t, q))
 
@@ -146,8 +146,8 @@ module _ (w out : List ℕ) (n : ℕ) (e : n ≡ refusalInto w (length w + 2) (l
         → (k : ℕ) (last : List ℕ) → k ≡ length (repairText w r) → last ≡ written (repairText w r) out
         → (_≡_ {A = PassAnswer} (record { refusal = 0; length = k; syllable = true; yes = s .yes; flag = true }) (passCall w (length out)))
         × (last ≡ passOut w out)
-    unfolding passCall passOut passRefusal pass passStage stemOf
+    unfolding passCall passOut passRefusal pass passStage outcomeOf
     passCall-passOut-repaired f r p k last l o =
-        let g : stage (chars w) .flag ≡ true = sym stemOf-flag ∙ f in
+        let g : stage (chars w) .flag ≡ true = sym outcomeOf-flag ∙ f in
         let t = pass-repaired w (into-accepted w (length w + 2) (length out) n e z) y g in
         (rw (← e, z, t, y, l, p, q, g), o ∙ rw (← e, z, t, p, q))

@@ -14,8 +14,8 @@ use Rattle.turkish.specs.declared.answer.StageAnswer.{StageAnswer}
 use Rattle.turkish.specs.Harmony.{moreThanOneSyllable}
 use Rattle.turkish.specs.Stage.{stage}
 use Rattle.turkish.specs.Calls.{chars, refusal, accepted, syllableCall, keptLength, stagePart, stageCall}
-use Rattle.stages.specs.declared.stem.Stem.{Stem}
-use Rattle.stages.specs.Reach.{stemOf}
+use Rattle.stages.specs.declared.stage.Outcome.{Outcome}
+use Rattle.stages.specs.Reach.{outcomeOf}
 
 module _ (w : List ℕ) (n : ℕ) (e : n ≡ refusal w) where
   -- a number means that the word is not accepted
@@ -49,8 +49,8 @@ module _ (w : List ℕ) (n : ℕ) (e : n ≡ refusal w) where
   stagePart-refused h = rw (accepted-no h)
 
   -- any other the front of the word that it keeps
-  pub stagePart-given : n ≡ 0 → (s : Stem) → s ≡ stemOf w → take (s .kept) w ≡ stagePart w
-  unfolding stagePart stemOf
+  pub stagePart-given : n ≡ 0 → (s : Outcome) → s ≡ outcomeOf w → take (s .kept) w ≡ stagePart w
+  unfolding stagePart outcomeOf
   stagePart-given z s q = rw (accepted-yes z, q)
 
   -- a refused stage gives its number, length 0, no, and false for the flag
@@ -59,16 +59,16 @@ module _ (w : List ℕ) (n : ℕ) (e : n ≡ refusal w) where
   stageCall-refused h = rw (accepted-no h, ← e)
 
   -- any other the length kept, yes or no, and the flag
-  pub stageCall-given : n ≡ 0 → (s : Stem) → s ≡ stemOf w
+  pub stageCall-given : n ≡ 0 → (s : Outcome) → s ≡ outcomeOf w
       → _≡_ {A = StageAnswer} (record { refusal = 0; length = s .kept; yes = s .yes; flag = s .flag }) (stageCall w)
-  unfolding stageCall stemOf
+  unfolding stageCall outcomeOf
   stageCall-given z s q = rw (accepted-yes z, q)
 
 -- the text kept is within the word
-pub kept-le : (w : List ℕ) (s : Stem) → s ≡ stemOf w → s .kept ≤ length w
-unfolding stemOf keptLength
+pub kept-le : (w : List ℕ) (s : Outcome) → s ≡ outcomeOf w → s .kept ≤ length w
+unfolding outcomeOf keptLength
 kept-le w s q = rw q (back-le w (length w) (stage (chars w) .removed))
 
 -- and as long as the stage says
-pub kept-length-take : (w : List ℕ) (s : Stem) → s ≡ stemOf w → s .kept ≡ length (take (s .kept) w)
+pub kept-length-take : (w : List ℕ) (s : Outcome) → s ≡ outcomeOf w → s .kept ≡ length (take (s .kept) w)
 kept-length-take w s q = omega (arith, length-take (s .kept) w, kept-le w s q)

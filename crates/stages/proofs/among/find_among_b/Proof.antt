@@ -1,67 +1,77 @@
 -- `stages::among::find_among_b` meets its contract. The loop's invariant: the search from the key at `base` on, which is the i-th,
 -- answers as the whole search does. The measure is what is left of the table. Assumes nothing.
 use Prim.Native.Nat.{_-_, _≤_}
-use mathlib.Core.Path.{_≡_, refl, sym, _∙_}
+use mathlib.Core.Path.{_≡_, refl, ap, _∙_}
 use native.Mathlib.Omega.{arith}
 use lib.ListN.{length, drop}
 use denote.Ref.{now}
 use borrow.Author.Needs.{needs}
-use Rattle.stages.specs.Keys.{rows, foundFrom, found}
-use Rattle.stages.proofs.Laws.Keys.{foundFrom-fits, foundFrom-next, foundFrom-end}
+use Rattle.stages.specs.declared.among.Among.the-variants.{Key}
+use Rattle.stages.specs.Keys.{rows}
+use Rattle.stages.specs.Search.{foundFrom, found}
+use Rattle.stages.proofs.Laws.Search.{foundFrom-passed, foundFrom-next, foundFrom-end}
 use Rattle.stages.proofs.among.find_among_b.Statement.{statement}
 use Rattle.stages.proofs.among.find_among_b.Tie as tie
 
 abbrev Inv-loop : tie.InvT-loop
-Inv-loop t at keys width base₀ i₀ base i =
-    (i ≤ base) × (base ≤ length keys) × (foundFrom i (rows width (drop base keys)) (drop at t) ≡ found (rows width keys) (drop at t))
+Inv-loop w s keys width base₀ i₀ base i =
+    (i ≤ base) × (base ≤ length keys) × (foundFrom i (rows width (drop base keys)) w (s .c) ≡ found (rows width keys) w (s .c))
 
 abbrev μ-loop : tie.MeasureT-loop
-μ-loop t at keys width base₀ i₀ base i = length keys - base
+μ-loop w s keys width base₀ i₀ base i = length keys - base
 
 loop-holds : tie.Need-loop-holds Inv-loop μ-loop
 unfolding found
-loop-holds c = (omega arith, omega arith, refl)
+loop-holds c =
+    (omega arith, omega arith, refl)
 
 sub-loop : tie.Need-sub-loop Inv-loop μ-loop
-sub-loop c = search needs
+sub-loop c =
+    search needs
 
-key-fits-requires : tie.Need-key-fits-requires Inv-loop μ-loop
-key-fits-requires c κs = search needs
+key-before-requires : tie.Need-key-before-requires Inv-loop μ-loop
+key-before-requires c κs =
+    let s = c .before .before .before .before in (s .pre .0, (s .pre .1, omega arith))
 
-key-length-requires : tie.Need-key-length-requires Inv-loop μ-loop
-key-length-requires c κs = search needs
+moved-to-requires : tie.Need-moved-to-requires Inv-loop μ-loop
+moved-to-requires c κs =
+    search needs
 
 returns : tie.Need-returns Inv-loop μ-loop
 returns c =
-    let a = c .before .before .before .before .before .before .before .args in
+    let s = c .before .before .before .before .before .before .before in
     let l = c .before .before .before .before .loop in
-    foundFrom-fits (now (a .keys)) (drop (a .at) (now (a .t))) (l .base) (a .width) (l .i) _ (c .before .before .before .before .before .before .before .pre .0) (c .before .before .before .loop-test .taken)
-    (c .before .before .key-fits .ensures) (c .before .if1 .taken) (c .key-length .ensures) ∙ l .inv .2
+    ap (Key (l .i)) (c .moved-to .ensures)
+    ∙ foundFrom-passed (now (s .args .w)) (s .args .s .c) (now (s .args .keys)) (l .base) (s .args .width) (l .i) (c .before .before .key-before .ensures) (s .pre .1)
+    (c .before .before .before .loop-test .taken) (c .before .if1 .taken) ∙ l .inv .2
 
 add-base : tie.Need-add-base Inv-loop μ-loop
-add-base c = search needs
+add-base c =
+    search needs
 
 add-i : tie.Need-add-i Inv-loop μ-loop
-add-i c = search needs
+add-i c =
+    search needs
 
 loop-less : tie.Need-loop-less Inv-loop μ-loop
-loop-less c = omega arith
+loop-less c =
+    omega arith
 
 loop-again : tie.Need-loop-again Inv-loop μ-loop
 loop-again c =
-    let a = c .before .before .before .before .before .before .args in
+    let s = c .before .before .before .before .before .before in
     let l = c .before .before .before .loop in (
       omega arith,
       omega arith,
-      foundFrom-next (now (a .keys)) (drop (a .at) (now (a .t))) (l .base) (a .width) (l .i) (c .before .before .before .before .before .before .pre .0) (c .before .before .loop-test .taken)
-          (c .before .key-fits .ensures) (c .if1 .left) ∙ l .inv .2,
+      foundFrom-next (now (s .args .w)) (s .args .s .c) (now (s .args .keys)) (l .base) (s .args .width) (l .i) (c .before .key-before .ensures) (s .pre .1)
+          (c .before .before .loop-test .taken) (c .if1 .left) ∙ l .inv .2,
     )
 
 returns-2 : tie.Need-returns-2 Inv-loop μ-loop
 returns-2 c =
-    let a = c .before .before .before .before .args in
+    let s = c .before .before .before .before in
     let l = c .before .loop in
-    sym (foundFrom-end (now (a .keys)) (drop (a .at) (now (a .t))) (l .base) (a .width) (l .i) (c .loop-test .left)) ∙ l .inv .2
+    foundFrom-end (now (s .args .w)) (s .args .s .c) (now (s .args .keys)) (l .base) (s .args .width) (l .i) (c .loop-test .left) ∙ l .inv .2
 
 pub find-among-b-spec : {M : Type 1} → statement M
 find-among-b-spec =
@@ -71,8 +81,8 @@ find-among-b-spec =
     μ-loop
     loop-holds
     sub-loop
-    key-fits-requires
-    key-length-requires
+    key-before-requires
+    moved-to-requires
     returns
     add-base
     add-i

@@ -1,54 +1,113 @@
--- `mark_suffix_with_optional_y_consonant` meets its contract. The two characters that it reads are the word's, and by its two tests
--- on them the optional y fails, takes one character or takes none. Assumes nothing.
-use native.Mathlib.Omega.{arith}
-use mathlib.Core.Path.{sym, _∙_}
-use borrow.Author.Tests.{not-true, not-false}
+-- `stages::mark::mark_suffix_with_optional_y_consonant` meets its contract: two characters are read back, and the optional y goes by them.
+-- Assumes nothing.
 use borrow.Author.Needs.{needs}
-use Rattle.stages.proofs.Laws.OnTail.{optionalY-fails, optionalY-takes, optionalY-passes}
+use mathlib.Core.Path.{sym, _∙_}
+use native.Mathlib.Omega.{arith}
+use borrow.Author.Tests.{not-true, not-false}
+use denote.Ref.{now}
+use Rattle.stages.specs.Passed.{notPassed}
+use Rattle.stages.proofs.Laws.Part.{low-length-le, low-cursor-le, cursor-length-le, cursor-part-le}
+use Rattle.stages.proofs.Laws.Reads.{first-le}
+use Rattle.stages.proofs.Laws.OptionalY.{passes-unjoined, passes-joined, passes-free}
 use Rattle.stages.proofs.mark.mark_suffix_with_optional_y_consonant.Statement.{statement}
 use Rattle.stages.proofs.mark.mark_suffix_with_optional_y_consonant.Tie as tie
 
-add-is-vowel : tie.Need-add-is-vowel
-add-is-vowel c = search needs
+sub-part : tie.Need-sub-part
+sub-part c =
+    let s = c .before in
+    let w = now (s .args .w) in
+    let r = s .args .c in
+    low-length-le w r (s .pre)
 
-mul-is-vowel : tie.Need-mul-is-vowel
-mul-is-vowel c = search needs
+part-part-start : tie.Need-part-part-start
+part-part-start c =
+    let s = c .before in
+    let w = now (s .args .w) in
+    let r = s .args .c in
+    low-length-le w r (s .pre)
 
-shared-slice-read-is-vowel : tie.Need-shared-slice-read-is-vowel
-shared-slice-read-is-vowel c = search needs
+part-part-end : tie.Need-part-part-end
+part-part-end c =
+    search needs
+
+sub-read-back : tie.Need-sub-read-back
+sub-read-back c =
+    let s = c .before .before .before in
+    let w = now (s .args .w) in
+    let r = s .args .c in
+    low-cursor-le w r (s .pre)
+
+read-back-requires : tie.Need-read-back-requires
+read-back-requires c κs =
+    let s = c .before .before .before in
+    let w = now (s .args .w) in
+    let r = s .args .c in
+    cursor-part-le w r (s .pre)
+
+read-back-requires-2 : tie.Need-read-back-requires-2
+read-back-requires-2 c κs =
+    let s = c .before .before .before .before in
+    let w = now (s .args .w) in
+    let r = s .args .c in
+    omega (arith, cursor-part-le w r (s .pre), first-le w r (c .read-back .ensures))
 
 is-vowel-requires : tie.Need-is-vowel-requires
-is-vowel-requires c κs = search needs
+is-vowel-requires c κs =
+    search needs
 
 returns : tie.Need-returns
-returns c = let s = c .before .before .before .before .before .before in optionalY-fails (s .pre .0) 0x79 (s .args .at) (s .pre .1) (sym (c .before .is-vowel .ensures) ∙ not-true _ (c .if1 .taken))
+unfolding notPassed
+returns c =
+    let s = c .before .before .before .before .before .before .before in
+    let w = now (s .args .w) in
+    let r = s .args .c in
+    passes-unjoined w r (c .before .before .before .read-back .ensures) (c .before .before .read-back2 .ensures) (sym (c .before .is-vowel .ensures) ∙ not-true _ (c .if1 .taken))
 
-mul-if2 : tie.Need-mul-if2
-mul-if2 c = search needs
+add-to : tie.Need-add-to
+add-to c =
+    let s = c .before .before .before .before .before .before .before .before .before .before in
+    let w = now (s .args .w) in
+    let r = s .args .c in
+    omega (arith, cursor-length-le w r (s .pre), low-cursor-le w r (s .pre), first-le w r (c .before .before .before .before .before .before .read-back .ensures))
 
-shared-slice-read-if2 : tie.Need-shared-slice-read-if2
-shared-slice-read-if2 c = search needs
-
-add-t12 : tie.Need-add-t12
-add-t12 c = search needs
+to-requires : tie.Need-to-requires
+to-requires c κs =
+    search needs
 
 returns-2 : tie.Need-returns-2
-returns-2 c = let s = c .before .before .before .before .before .before .before .before in optionalY-takes (s .pre .0) 0x79 (s .args .at) (s .pre .1) (sym (c .before .before .before .is-vowel .ensures) ∙ not-false _ (c .before .before .if1 .left)) (c .if2 .taken)
+returns-2 c =
+    let s = c .before .before .before .before .before .before .before .before .before .before .before in
+    let w = now (s .args .w) in
+    let r = s .args .c in
+    c .to .ensures ∙ passes-joined w r (c .before .before .before .before .before .before .before .read-back .ensures) (c .before .before .before .before .before .before .read-back2 .ensures)
+    (sym (c .before .before .before .before .before .is-vowel .ensures) ∙ not-false _ (c .before .before .before .before .if1 .left)) (c .before .before .if2 .taken)
+
+to-requires-2 : tie.Need-to-requires-2
+to-requires-2 c κs =
+    search needs
 
 returns-3 : tie.Need-returns-3
-returns-3 c = let s = c .before .before .before .before .before .before .before .before in optionalY-passes (s .pre .0) 0x79 (s .args .at) (s .pre .1) (sym (c .before .before .before .is-vowel .ensures) ∙ not-false _ (c .before .before .if1 .left)) (c .if2 .left)
+returns-3 c =
+    let s = c .before .before .before .before .before .before .before .before .before .before in
+    let w = now (s .args .w) in
+    let r = s .args .c in
+    c .to2 .ensures ∙ passes-free w r (c .before .before .before .before .before .before .read-back .ensures) (c .before .before .before .before .before .read-back2 .ensures)
+    (sym (c .before .before .before .before .is-vowel .ensures) ∙ not-false _ (c .before .before .before .if1 .left)) (s .pre) (c .before .if2 .left)
 
 pub mark-suffix-with-optional-y-consonant-spec : {M : Type 1} → statement M
 mark-suffix-with-optional-y-consonant-spec =
     tie.close
     (tie.spec
-    add-is-vowel
-    mul-is-vowel
-    shared-slice-read-is-vowel
+    sub-part
+    part-part-start
+    part-part-end
+    sub-read-back
+    read-back-requires
+    read-back-requires-2
     is-vowel-requires
     returns
-    mul-if2
-    shared-slice-read-if2
-    add-t12
+    add-to
+    to-requires
     returns-2
+    to-requires-2
     returns-3)

@@ -1,80 +1,137 @@
--- `mark_yken` meets its contract. The literal is the mark's one key from its end, so the step back past it moves exactly where the
--- characters have that key. Where no character stands before it, the optional y fails; else the mark goes on with it.
--- Assumes nothing.
-use Prim.Native.Nat.{ℕ, _+_}
-use mathlib.Core.Path.{_≡_, refl, sym, ap, _∙_}
-use mathlib.Core.List.{List, [], _∷_}
+-- `mark_yken` meets its contract: the steps of the lent record decide it, by the laws of Laws/Yken. On each way k has those steps, and
+-- b, v, j, p and l the answers on a vowel, a character, the y, the last step and `ken`, as far as they are known. Assumes nothing.
+use mathlib.Core.Path.{sym, ap, _∙_}
+use mathlib.Core.Bool.{true, false}
 use native.Mathlib.Omega.{arith}
 use borrow.Author.Tests.{not-true, not-false}
 use borrow.Author.Needs.{needs}
-use Rattle.turkish.specs.Letters.{text, fromEnd}
-use Rattle.turkish.specs.Grammar.{optionalY}
-use Rattle.turkish.specs.Marks.{marked, yken}
-use Rattle.lent.specs.declared.Over.{Over}
-use Rattle.lent.specs.Over.{over}
-use Rattle.stages.specs.Reach.{reach, inHarmony}
-use Rattle.stages.proofs.Laws.Literal.{ascii}
-use Rattle.stages.proofs.Laws.Over.{over-start}
-use Rattle.stages.proofs.Laws.Marks.{mark-keyless, mark-key, key-literal}
+use denote.Ref.{now}
+use Rattle.utf8.specs.declared.step.Step.{Step}
+use Rattle.stages.specs.Passed.{notPassed}
+use Rattle.stages.proofs.Laws.Yken.{yken-keyless, yken-bytes, yken-short, yken-joined, yken-apart}
 use Rattle.stages.proofs.mark.mark_yken.Statement.{statement}
 use Rattle.stages.proofs.mark.mark_yken.Tie as tie
 
--- the literal's bytes
-abbrev ken : List ℕ
-ken = 0x6B ∷ 0x65 ∷ 0x6E ∷ []
-
-mul-c : tie.Need-mul-c
-mul-c c = search needs
-
-shared-slice-read-c : tie.Need-shared-slice-read-c
-shared-slice-read-c c = search needs
-
 slice-aggregate-back-over : tie.Need-slice-aggregate-back-over
 slice-aggregate-back-over c = search needs
+
+slice-aggregate-back-over-2 : tie.Need-slice-aggregate-back-over-2
+slice-aggregate-back-over-2 c = search needs
 
 back-over-requires : tie.Need-back-over-requires
 back-over-requires c κs = search needs
 
 returns : tie.Need-returns
-unfolding yken marked fromEnd text ascii over
+unfolding notPassed
 returns c =
-    let s = c .before .before .before .before .before .before .before .before in
-    let e = sym (ap (λ (o : Over). o .literal) (c .before .before .back-over .ensures)) ∙ not-true _ (c .if1 .taken) in
-    mark-keyless yken (s .args .at) _ (key-literal (s .pre .0) (s .args .at) (omega arith) ken refl refl e)
+    let k = c .before .before in
+    let s = k .before .before .before .before in
+    yken-keyless (now (s .args .w)) (s .args .c) (s .pre) (k .back-over .result) (k .back-over .ensures) (not-true _ (c .if1 .taken))
 
 returns-2 : tie.Need-returns-2
-unfolding yken marked fromEnd text ascii over inHarmony optionalY reach
+unfolding notPassed
 returns-2 c =
-    let s = c .before .before .before .before .before .before .before .before .before .before in
-    let o = c .before .before .before .before .back-over .ensures in
-    let e = sym (ap (λ (o : Over). o .literal) o) ∙ not-false _ (c .before .before .if1 .left) in
-    let f = sym (ap (λ (o : Over). o .character) o) ∙ not-true _ (c .if2 .taken) in
-    mark-key yken (s .args .at) 3 _ (key-literal (s .pre .0) (s .args .at) (omega arith) ken refl refl e)
-    (ap (λ (l : List ℕ). reach (s .args .at + 3) (optionalY 0x79 l)) (sym (over-start (s .pre .0) (s .args .at) (omega arith) ken e f)))
+    let l = c .before .before in
+    let k = l .before .before in
+    let s = k .before .before .before .before in
+    yken-short (now (s .args .w)) (s .args .c) (s .pre) (k .back-over .result) (k .back-over .ensures) (not-false _ (l .if1 .left)) (not-true _ (c .if2 .taken))
 
-add-mark-suffix-with-optional-y-consonant : tie.Need-add-mark-suffix-with-optional-y-consonant
-add-mark-suffix-with-optional-y-consonant c = search needs
+sub-char-at : tie.Need-sub-char-at
+sub-char-at c =
+    let p = c .before .before .before .before .before in
+    let k = p .before .before .before .before in
+    let s = k .before .before .before .before in
+    omega (arith, yken-bytes (now (s .args .w)) (s .args .c) (s .pre) (k .back-over .result) (k .back-over .ensures) (not-false _ (p .if2 .left)) .0)
 
-mark-suffix-with-optional-y-consonant-requires : tie.Need-mark-suffix-with-optional-y-consonant-requires
-mark-suffix-with-optional-y-consonant-requires c κs = search needs
+char-at-requires : tie.Need-char-at-requires
+char-at-requires c κs =
+    let p = c .before .before .before .before .before in
+    let k = p .before .before .before .before in
+    let s = k .before .before .before .before in
+    yken-bytes (now (s .args .w)) (s .args .c) (s .pre) (k .back-over .result) (k .back-over .ensures) (not-false _ (p .if2 .left))
+
+is-vowel-requires : tie.Need-is-vowel-requires
+is-vowel-requires c κs = search needs
 
 returns-3 : tie.Need-returns-3
-unfolding yken marked fromEnd text ascii over inHarmony
+unfolding notPassed
 returns-3 c =
-    let s = c .before .before .before .before .before .before .before .before .before .before .before in
-    let e = sym (ap (λ (o : Over). o .literal) (c .before .before .before .before .before .back-over .ensures)) ∙ not-false _ (c .before .before .before .if1 .left) in
-    mark-key yken (s .args .at) 3 _ (key-literal (s .pre .0) (s .args .at) (omega arith) ken refl refl e) (c .mark-suffix-with-optional-y-consonant .ensures)
+    let b = c .before in
+    let v = b .before in
+    let j = v .before .before .before in
+    let p = j .before .before .before in
+    let l = p .before .before in
+    let k = l .before .before in
+    let s = k .before .before .before .before in
+    yken-joined (now (s .args .w)) (s .args .c) (s .pre) (k .back-over .result) (k .back-over .ensures)
+    (not-false _ (l .if1 .left)) (j .if3 .taken) (not-false _ (p .if2 .left)) (v .char-at .ensures) false (sym (b .is-vowel .ensures) ∙ not-true _ (c .if4 .taken))
+
+to-requires : tie.Need-to-requires
+to-requires c κs = search needs
+
+returns-4 : tie.Need-returns-4
+unfolding notPassed
+returns-4 c =
+    let b = c .before .before in
+    let v = b .before in
+    let j = v .before .before .before in
+    let p = j .before .before .before in
+    let l = p .before .before in
+    let k = l .before .before in
+    let s = k .before .before .before .before in
+    c .to .ensures ∙ yken-joined (now (s .args .w)) (s .args .c) (s .pre) (k .back-over .result) (k .back-over .ensures)
+    (not-false _ (l .if1 .left)) (j .if3 .taken) (not-false _ (p .if2 .left)) (v .char-at .ensures) true (sym (b .is-vowel .ensures) ∙ not-false _ (c .before .if4 .left))
+
+previous-char-requires : tie.Need-previous-char-requires
+previous-char-requires c κs = search needs
+
+is-vowel-requires-2 : tie.Need-is-vowel-requires-2
+is-vowel-requires-2 c κs = search needs
+
+returns-5 : tie.Need-returns-5
+unfolding notPassed
+returns-5 c =
+    let b = c .before in
+    let v = b .before in
+    let j = v .before in
+    let l = j .before .before .before .before .before in
+    let k = l .before .before in
+    let s = k .before .before .before .before in
+    yken-apart (now (s .args .w)) (s .args .c) (s .pre) (k .back-over .result) (k .back-over .ensures)
+    (not-false _ (l .if1 .left)) (j .if3 .left) (ap (λ (x : Step). x .ch) (v .previous-char .ensures)) false (sym (b .is-vowel2 .ensures) ∙ not-true _ (c .if5 .taken))
+
+to-requires-2 : tie.Need-to-requires-2
+to-requires-2 c κs = search needs
+
+returns-6 : tie.Need-returns-6
+unfolding notPassed
+returns-6 c =
+    let b = c .before .before in
+    let v = b .before in
+    let j = v .before in
+    let l = j .before .before .before .before .before in
+    let k = l .before .before in
+    let s = k .before .before .before .before in
+    c .to2 .ensures ∙ yken-apart (now (s .args .w)) (s .args .c) (s .pre) (k .back-over .result) (k .back-over .ensures)
+    (not-false _ (l .if1 .left)) (j .if3 .left) (ap (λ (x : Step). x .ch) (v .previous-char .ensures)) true (sym (b .is-vowel2 .ensures) ∙ not-false _ (c .before .if5 .left))
 
 pub mark-yken-spec : {M : Type 1} → statement M
 mark-yken-spec =
     tie.close
     (tie.spec
-    mul-c
-    shared-slice-read-c
     slice-aggregate-back-over
+    slice-aggregate-back-over-2
     back-over-requires
     returns
     returns-2
-    add-mark-suffix-with-optional-y-consonant
-    mark-suffix-with-optional-y-consonant-requires
-    returns-3)
+    sub-char-at
+    char-at-requires
+    is-vowel-requires
+    returns-3
+    to-requires
+    returns-4
+    previous-char-requires
+    is-vowel-requires-2
+    returns-5
+    to-requires-2
+    returns-6)

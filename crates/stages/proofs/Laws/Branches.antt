@@ -1,0 +1,273 @@
+-- A branch by its marks: one after the other from where the one before it reaches, with deletions on the way; groups of marks as the
+-- grammar has them; and what the stage answers where a branch fits, and where none does. Assumes nothing.
+use Prim.Native.Nat.{ℕ, _+_}
+use mathlib.Core.Path.{_≡_, refl, sym, ap, _∙_}
+use mathlib.Core.Bool.{Bool, true, false, _&&_}
+use mathlib.Core.List.{List, [], _∷_}
+use native.Mathlib.Nat.{add-zero, zero-add}
+use native.Mathlib.Omega.{arith}
+use lib.ListN.{length, drop, getD}
+use Rattle.utf8.specs.declared.cursor.Cursor.{Cursor}
+use Rattle.utf8.specs.Characters.{back}
+use Rattle.utf8.specs.Steps.{moveTo}
+use Rattle.utf8.specs.Behind.{behind, backBy, deleted, Open}
+use Rattle.utf8.proofs.Laws.Behind.{behind-backBy, backBy-add, backBy-zero, open-backBy, behind-before, backBy-back, open-start}
+use Rattle.turkish.specs.Grammar.{Out, fail, took, more, after, first, markOf, Command, mark, _or_, run}
+use Rattle.turkish.specs.Marks.{yUm, sUn, yUz, sUnUz, lAr, nUz, DUr, cAsInA, yDU, ysA, ymUs, yken}
+use Rattle.turkish.specs.Stage.{person, branch1, branches, staged, stage}
+use Rattle.turkish.specs.Calls.{chars, keptLength}
+use Rattle.turkish.proofs.Laws.Outcome.{Flagged, unfit, fits}
+use Rattle.stages.specs.declared.marked.Marked.{Marked}
+use Rattle.stages.specs.declared.marked.Marked.the-variants.{To, Fails}
+use Rattle.stages.specs.declared.seen.Seen.{Seen}
+use Rattle.stages.specs.Seen.{seenAt, Sees}
+use Rattle.stages.specs.Ends.{someEnd}
+use Rattle.stages.specs.Numbered.{numbered, firstOf}
+use Rattle.stages.specs.Reach.{reach, cutTo, triedTo, outcomeOf}
+use Rattle.stages.proofs.Laws.Ends.{someEnd-unfit}
+
+-- no answer both reaches and fails
+to-fails : {A : Type 0} {d : Cursor} {r : Marked} → r ≡ To d → r ≡ Fails → A
+to-fails to fails = let z : _≡_ {A = ℕ} 0 1 = cc in absurd (omega arith)
+
+-- ---- an answer taken apart ----
+
+-- the record reached is the one so many characters back
+record Reached (w : List ℕ) (c : Cursor) (o : Out) (d : Cursor) : Type 0 where
+  taken : ℕ
+  flag : Bool
+  took-is : o ≡ took taken flag
+  there : d ≡ backBy w c taken
+
+reached : (w : List ℕ) (c : Cursor) (o : Out) {r : Marked} {d : Cursor} → r ≡ reach w c o → r ≡ To d → Reached w c o d
+unfolding reach
+reached w c fail is to = to-fails to is
+reached w c (took k f) is to = record { taken = k; flag = f; took-is = refl; there = cc }
+
+failed : (w : List ℕ) (c : Cursor) (o : Out) {r : Marked} → r ≡ reach w c o → r ≡ Fails → o ≡ fail
+unfolding reach
+failed w c fail is fails = refl
+failed w c (took k f) is fails = to-fails is fails
+
+-- a record reached is open
+pub open-reach : (w : List ℕ) (c : Cursor) (o : Out) {r : Marked} {d : Cursor} → Open w c → r ≡ reach w c o → r ≡ To d → Open w d
+open-reach w c o opens is to = let a = reached w c o is to in rw (a .there) (open-backBy w c (a .taken) opens)
+
+-- and so is one tried for
+pub open-tried : (w : List ℕ) (c : Cursor) (o : Out) {d : Cursor} → Open w c → d ≡ triedTo w c o → Open w d
+unfolding triedTo
+open-tried w c fail opens is = rw is opens
+open-tried w c (took k f) opens is = rw is (open-backBy w c k opens)
+
+-- ---- an answer and its deletion ----
+
+-- where a command reaches, all from there on is deleted
+pub cut-reach : (w : List ℕ) (c : Cursor) (o : Out) {r : Marked} {d e : Cursor} → r ≡ reach w c o → r ≡ To d → e ≡ deleted d → To e ≡ cutTo w c o
+unfolding cutTo
+cut-reach w c o is to e = let a = reached w c o is to in ap To (e ∙ ap deleted (a .there)) ∙ sym (ap (cutTo w c) (a .took-is))
+
+-- where it fails, so does what is deleted after it
+pub cut-fails : (w : List ℕ) (c : Cursor) (o : Out) {r : Marked} → r ≡ reach w c o → r ≡ Fails → Fails ≡ cutTo w c o
+unfolding cutTo
+cut-fails w c o is fails = sym (ap (cutTo w c) (failed w c o is fails))
+
+-- where the first of two fails, so do both
+pub after-fails : (w : List ℕ) (c : Cursor) (o : Out) (q : ℕ → Out) {r : Marked} → r ≡ reach w c o → r ≡ Fails → Fails ≡ cutTo w c (after o q)
+unfolding after cutTo
+after-fails w c o q is fails = sym (ap (λ (x : Out). cutTo w c (after x q)) (failed w c o is fails))
+
+-- an answer after k characters is cut as from the record k characters back
+cut-more : (w : List ℕ) (c : Cursor) (k : ℕ) (f : Bool) (o : Out) → cutTo w (backBy w c k) o ≡ cutTo w c (more k f o)
+unfolding cutTo more
+cut-more w c k f fail = refl
+cut-more w c k f (took j g) = ap (λ (r : Cursor). To (deleted r)) (backBy-add w c k j)
+
+-- what follows a mark goes on from where that reaches
+pub after-to : (w : List ℕ) (c : Cursor) (o : Out) (q : List ℕ → Out) {r : Marked} {d : Cursor} → r ≡ reach w c o → r ≡ To d
+    → cutTo w d (q (behind w d)) ≡ cutTo w c (after o (λ k. q (drop k (behind w c))))
+unfolding after
+after-to w c o q {d = d} is to =
+    let a = reached w c o is to in
+    let k = a .taken in
+    ap (λ (x : Cursor). cutTo w x (q (behind w x))) (a .there)
+    ∙ ap (λ (cs : List ℕ). cutTo w (backBy w c k) (q cs)) (behind-backBy w c k)
+    ∙ cut-more w c k (a .flag) (q (drop k (behind w c)))
+    ∙ sym (ap (λ (x : Out). cutTo w c (after x (λ n. q (drop n (behind w c))))) (a .took-is))
+
+-- a command that may fail, after a deletion: the record tried for, deleted from there on
+pub cut-tried : (w : List ℕ) (d : Cursor) (o : Out) {e f : Cursor} → Open w d → e ≡ triedTo w (deleted d) o → f ≡ deleted e
+    → To f ≡ cutTo w d (first o (took 0 true))
+unfolding triedTo first cutTo deleted backBy moveTo
+cut-tried w d fail opens is e = ap To (e ∙ ap deleted is ∙ ap deleted (sym (backBy-zero w d opens)))
+cut-tried w d (took k g) opens is e = ap To (e ∙ ap deleted is)
+
+-- the same of a command that answers where it reaches
+pub cut-opened : (w : List ℕ) (d : Cursor) (o : Out) {r : Marked} {e f : Cursor} → r ≡ reach w (deleted d) o → r ≡ To e → f ≡ deleted e
+    → To f ≡ cutTo w d (first o (took 0 true))
+unfolding first cutTo deleted backBy moveTo
+cut-opened w d o is to e =
+    let a = reached w (deleted d) o is to in
+    ap To (e ∙ ap deleted (a .there)) ∙ sym (ap (λ (x : Out). cutTo w d (first x (took 0 true))) (a .took-is))
+
+pub cut-stays : (w : List ℕ) (d : Cursor) (o : Out) {r : Marked} {f : Cursor} → Open w d → r ≡ reach w (deleted d) o → r ≡ Fails → f ≡ deleted d
+    → To f ≡ cutTo w d (first o (took 0 true))
+unfolding first cutTo
+cut-stays w d o opens is fails e =
+    ap To (e ∙ ap deleted (sym (backBy-zero w d opens))) ∙ sym (ap (λ (x : Out). cutTo w d (first x (took 0 true))) (failed w (deleted d) o is fails))
+
+-- `unset` cuts no more
+pub cut-unset : (w : List ℕ) (c : Cursor) (o : Out) → cutTo w c o ≡ cutTo w c (after o (λ k. took 0 false))
+unfolding cutTo after more
+cut-unset w c fail = refl
+cut-unset w c (took k f) = ap (λ (n : ℕ). To (deleted (backBy w c n))) (sym (add-zero k))
+
+-- ---- a command tried, and another after it ----
+
+pub tried-fails : (w : List ℕ) (c : Cursor) (o : Out) {r : Marked} → r ≡ reach w c o → r ≡ Fails → c ≡ triedTo w c o
+unfolding triedTo
+tried-fails w c o is fails = sym (ap (triedTo w c) (failed w c o is fails))
+
+pub tried-to : (w : List ℕ) (c : Cursor) (o : Out) {r : Marked} {d : Cursor} → r ≡ reach w c o → r ≡ To d → d ≡ triedTo w c o
+unfolding triedTo
+tried-to w c o is to = let a = reached w c o is to in a .there ∙ sym (ap (triedTo w c) (a .took-is))
+
+reach-more : (w : List ℕ) (c : Cursor) (k : ℕ) (f : Bool) (o : Out) → reach w (backBy w c k) o ≡ reach w c (more k f o)
+unfolding reach more
+reach-more w c k f fail = refl
+reach-more w c k f (took j g) = ap To (backBy-add w c k j)
+
+pub tried-then : (w : List ℕ) (c : Cursor) (o : Out) (q : List ℕ → Out) {d : Cursor} → Open w c → d ≡ triedTo w c o
+    → reach w d (q (behind w d)) ≡ reach w c (after (first o (took 0 true)) (λ k. q (drop k (behind w c))))
+unfolding triedTo first after
+tried-then w c fail q opens is =
+    ap (λ (x : Cursor). reach w x (q (behind w x))) (is ∙ sym (backBy-zero w c opens))
+    ∙ ap (λ (cs : List ℕ). reach w (backBy w c 0) (q cs)) (behind-backBy w c 0) ∙ reach-more w c 0 true (q (drop 0 (behind w c)))
+tried-then w c (took k f) q opens is =
+    ap (λ (x : Cursor). reach w x (q (behind w x))) is
+    ∙ ap (λ (cs : List ℕ). reach w (backBy w c k) (q cs)) (behind-backBy w c k) ∙ reach-more w c k f (q (drop k (behind w c)))
+
+-- ---- groups ----
+
+first-fail : (o : Out) → first o fail ≡ o
+unfolding first
+first-fail fail = refl
+first-fail (took k f) = refl
+
+first-assoc : (o p q : Out) → first (first o p) q ≡ first o (first p q)
+unfolding first
+first-assoc fail p q = refl
+first-assoc (took k f) p q = refl
+
+module _ (cs : List ℕ) where
+  -- a group of four, three, two and one mark as the grammar has them
+  pub group-four : (h i j k : ℕ) → firstOf (h ∷ i ∷ j ∷ k ∷ []) cs
+      ≡ run (mark (numbered h) or (mark (numbered i) or (mark (numbered j) or mark (numbered k)))) cs
+  unfolding firstOf run
+  group-four h i j k =
+      ap (λ (o : Out). first (markOf (numbered h) cs) (first (markOf (numbered i) cs) (first (markOf (numbered j) cs) o))) (first-fail (markOf (numbered k) cs))
+
+  pub group-two : (h i : ℕ) → firstOf (h ∷ i ∷ []) cs ≡ run (mark (numbered h) or mark (numbered i)) cs
+  unfolding firstOf run
+  group-two h i = ap (first (markOf (numbered h) cs)) (first-fail (markOf (numbered i) cs))
+
+  pub group-one : (k : ℕ) → firstOf (k ∷ []) cs ≡ markOf (numbered k) cs
+  unfolding firstOf
+  group-one k = first-fail (markOf (numbered k) cs)
+
+  -- a person's ending or nothing
+  pub person-first : run person cs ≡ first (firstOf (4 ∷ 5 ∷ 1 ∷ 2 ∷ 3 ∷ []) cs) (took 0 true)
+  unfolding run person firstOf numbered
+  person-first = sym (simp (first-assoc, first-fail))
+
+-- what the last letters seen rule out of a group
+pub someEnd-sees : (w : List ℕ) (s : Seen) → Sees w s → (ks : List ℕ) {b : Bool} → b ≡ someEnd ks (s .last) (s .second) (s .third) → b ≡ false
+    → firstOf ks (behind w (s .c)) ≡ fail
+unfolding seenAt
+someEnd-sees w s sees ks e none =
+    someEnd-unfit ks (behind w (s .c)) (sym (ap (λ (x : Seen). someEnd ks (x .last) (x .second) (x .third)) (sees .is)) ∙ sym e ∙ none)
+
+-- what is seen from an open record
+pub seen-c : (w : List ℕ) (c : Cursor) {s : Seen} → s ≡ seenAt w c → s .c ≡ c
+unfolding seenAt
+seen-c w c e = ap (λ (x : Seen). x .c) e
+
+pub sees-made : (w : List ℕ) (c : Cursor) {s : Seen} → s ≡ seenAt w c → Open w c → Sees w s
+sees-made w c e o = let at = sym (seen-c w c e) in record { opens = rw at at o; is = e ∙ ap (seenAt w) at }
+
+-- a deletion leaves what stands before the record
+pub behind-deleted : (w : List ℕ) (d : Cursor) → behind w (deleted d) ≡ behind w d
+unfolding behind deleted
+behind-deleted w d = refl
+
+-- ---- the stage ----
+
+-- a branch that is cut took so much, and its flag is known
+pub cut-took : (w : List ℕ) (c : Cursor) {o : Out} {f : Bool} {r : Marked} {d : Cursor} → Flagged f o → r ≡ cutTo w c o → r ≡ To d
+    → (k : ℕ) × (o ≡ took k f) × (d .limit ≡ backBy w c k .cursor)
+unfolding cutTo deleted
+cut-took w c unfit is to = to-fails to is
+cut-took w c {d = d} (fits k e) is to =
+    let there : d ≡ deleted (backBy w c k) = cc in
+    (k, ap (took k) e, ap (λ (x : Cursor). x .limit) there)
+
+pub cut-failed : (w : List ℕ) (c : Cursor) (o : Out) {r : Marked} → r ≡ cutTo w c o → r ≡ Fails → o ≡ fail
+unfolding cutTo
+cut-failed w c fail is fails = refl
+cut-failed w c (took k f) is fails = to-fails is fails
+
+-- a branch that fails is passed over, and the first that does not is the stage's
+pub first-passed : {o : Out} (q : Out) → o ≡ fail → first o q ≡ q
+unfolding first
+first-passed q e = ap (λ (x : Out). first x q) e
+
+pub first-taken : {o : Out} (q : Out) {k : ℕ} {f : Bool} → o ≡ took k f → first o q ≡ took k f
+unfolding first
+first-taken q e = ap (λ (x : Out). first x q) e
+
+-- the stage's answer where a branch fits
+pub outcome-took : (w : List ℕ) (k : ℕ) (f : Bool) {n : ℕ} → run branches (chars w) ≡ took k f → n ≡ back w (length w) k
+    → record { kept = n; yes = true; flag = f } ≡ outcomeOf w
+unfolding outcomeOf keptLength stage staged
+outcome-took w k f e n = rw (e, n)
+
+-- and where none does
+pub outcome-fail : (w : List ℕ) → run branches (chars w) ≡ fail → record { kept = length w; yes = false; flag = true } ≡ outcomeOf w
+unfolding outcomeOf keptLength stage staged back
+outcome-fail w e = rw e
+
+-- ---- at the word's end ----
+
+-- the record at the word's end that has all before it
+abbrev pub whole : List ℕ → Cursor
+whole w = record { cursor = length w; limit = length w; «limit_backward» = 0 }
+
+pub open-whole : (w : List ℕ) → Open w (whole w)
+open-whole w = open-start w (length w) (length w) (omega arith) (omega arith)
+
+module _ (w : List ℕ) {s : Seen} (is : s ≡ seenAt w (whole w)) where
+  -- a branch from what is seen there is one on all the word's characters
+  pub at-end : (b : Command) {r : Marked} → r ≡ cutTo w (s .c) (run b (behind w (s .c))) → r ≡ cutTo w (whole w) (run b (chars w))
+  unfolding chars
+  at-end b e =
+      e ∙ ap (λ (c : Cursor). cutTo w c (run b (behind w c))) (seen-c w (whole w) is)
+      ∙ ap (λ (cs : List ℕ). cutTo w (whole w) (run b cs)) (behind-before w (length w) (length w))
+
+  -- and what the last letters seen rule out is ruled out by those
+  pub someEnd-whole : (ks : List ℕ) {b : Bool} → b ≡ someEnd ks (s .last) (s .second) (s .third) → b ≡ false
+      → someEnd ks (getD (chars w) 0 0) (getD (chars w) 1 0) (getD (chars w) 2 0) ≡ false
+  unfolding seenAt chars
+  someEnd-whole ks e none =
+      ap (λ (cs : List ℕ). someEnd ks (getD cs 0 0) (getD cs 1 0) (getD cs 2 0)) (sym (behind-before w (length w) (length w)))
+      ∙ sym (ap (λ (x : Seen). someEnd ks (x .last) (x .second) (x .third)) is) ∙ sym e ∙ none
+
+-- the stage's answer where a branch is cut, the last one or one before others
+pub outcome-last : (w : List ℕ) {o : Out} {f : Bool} {r : Marked} {d : Cursor} → Flagged f o → r ≡ cutTo w (whole w) o → r ≡ To d
+    → run branches (chars w) ≡ o → record { kept = d .limit; yes = true; flag = f } ≡ outcomeOf w
+outcome-last w {f = f} flag is to e =
+    let a = cut-took w (whole w) flag is to in outcome-took w (a .0) f (e ∙ a .1) (a .2 ∙ backBy-back w (length w) (length w) (a .0))
+
+pub outcome-first : (w : List ℕ) {o : Out} (q : Out) {f : Bool} {r : Marked} {d : Cursor} → Flagged f o → r ≡ cutTo w (whole w) o → r ≡ To d
+    → run branches (chars w) ≡ first o q → record { kept = d .limit; yes = true; flag = f } ≡ outcomeOf w
+outcome-first w q {f = f} flag is to e =
+    let a = cut-took w (whole w) flag is to in
+    outcome-took w (a .0) f (e ∙ first-taken q (a .1)) (a .2 ∙ backBy-back w (length w) (length w) (a .0))

@@ -1,0 +1,61 @@
+-- The optional y by the two characters that it looks at; 0 stands for none. Assumes nothing.
+use Prim.Native.Nat.{ℕ, _+_, _-_}
+use mathlib.Core.Path.{_≡_, refl, sym, ap, _∙_}
+use mathlib.Core.Bool.{true, false, cond, false≢true}
+use mathlib.Core.List.{List, [], _∷_}
+use lib.ListN.{getD}
+use lib.Dec.{eqb}
+use borrow.Author.Tests.{eq-eqb, ne-eqb}
+use Rattle.utf8.specs.declared.cursor.Cursor.{Cursor}
+use Rattle.utf8.specs.declared.characters.Read.{Read}
+use Rattle.utf8.specs.Behind.{readBack, behind, backBy, Open}
+use Rattle.utf8.proofs.Laws.Behind.{backBy-zero}
+use Rattle.turkish.specs.Letters.{text, any, has}
+use Rattle.turkish.specs.Harmony.{vowels, vowel}
+use Rattle.turkish.specs.Grammar.{fail, took, optionalY}
+use Rattle.stages.specs.Passed.{passedTo, notPassed, passes}
+use Rattle.stages.proofs.Laws.Part.{partFrom}
+use Rattle.stages.proofs.Laws.Reads.{first-ch, first-place, second-ch}
+
+-- it fails where the second character back is no vowel
+pub optionalY-fails : (y : ℕ) (cs : List ℕ) → vowel (getD cs 1 0) ≡ false → optionalY y cs ≡ fail
+unfolding optionalY
+optionalY-fails y [] e = refl
+optionalY-fails y (c ∷ []) e = refl
+optionalY-fails y (c ∷ v ∷ cs) e = rw e
+
+-- and else takes a y if one stands there
+pub optionalY-takes : (y : ℕ) (cs : List ℕ) → vowel (getD cs 1 0) ≡ true → optionalY y cs ≡ took (cond (eqb (getD cs 0 0) y) 1 0) true
+unfolding optionalY
+optionalY-takes y [] e = absurd (false≢true (unfold vowel vowels has any text in e))
+optionalY-takes y (c ∷ []) e = absurd (false≢true (unfold vowel vowels has any text in e))
+optionalY-takes y (c ∷ v ∷ cs) e = rw e
+
+-- ---- as the code reads the two characters ----
+
+module _ (w : List ℕ) (c : Cursor) {a b : Read} (a-is : a ≡ readBack (partFrom w (c .«limit_backward»)) (c .cursor - c .«limit_backward»))
+    (b-is : b ≡ readBack (partFrom w (c .«limit_backward»)) (a .at)) where
+  -- no vowel before the first: it fails
+  pub passes-unjoined : vowel (b .ch) ≡ false → notPassed ≡ passes w c (optionalY 0x79 (behind w c))
+  unfolding passes
+  passes-unjoined e = sym (ap (passes w c) (optionalY-fails 0x79 (behind w c) (ap vowel (sym (second-ch w c a-is b-is)) ∙ e)))
+
+  module _ (e : vowel (b .ch) ≡ true) where
+    takes : optionalY 0x79 (behind w c) ≡ took (cond (eqb (getD (behind w c) 0 0) 0x79) 1 0) true
+    takes = optionalY-takes 0x79 (behind w c) (ap vowel (sym (second-ch w c a-is b-is)) ∙ e)
+
+    -- a y joins
+    pub passes-joined : a .ch ≡ 0x79 → passedTo (c .«limit_backward» + a .at) ≡ passes w c (optionalY 0x79 (behind w c))
+    unfolding passes
+    passes-joined y =
+        let y-stands = eq-eqb (getD (behind w c) 0 0) 0x79 (sym (first-ch w c a-is) ∙ y) in
+        let one : took (cond (eqb (getD (behind w c) 0 0) 0x79) 1 0) true ≡ took 1 true = rw y-stands in
+        ap passedTo (first-place w c a-is) ∙ sym (ap (passes w c) (takes ∙ one))
+
+    -- and without one the record stays
+    pub passes-free : Open w c → (a .ch ≡ 0x79 → ⊥) → passedTo (c .cursor) ≡ passes w c (optionalY 0x79 (behind w c))
+    unfolding passes
+    passes-free o n =
+        let no-y = ne-eqb (getD (behind w c) 0 0) 0x79 (λ y. n (first-ch w c a-is ∙ y)) in
+        let none : took (cond (eqb (getD (behind w c) 0 0) 0x79) 1 0) true ≡ took 0 true = rw no-y in
+        ap (λ (r : Cursor). passedTo (r .cursor)) (sym (backBy-zero w c o)) ∙ sym (ap (passes w c) (takes ∙ none))

@@ -1,0 +1,12 @@
+-- `stages::ends::is_D` meets its contract: its code is the definition. Assumes nothing.
+use mathlib.Core.Path.{refl}
+use Rattle.stages.specs.Ends.{isD}
+use Rattle.stages.proofs.ends.is_D.Statement.{statement}
+use Rattle.stages.proofs.ends.is_D.Tie as tie
+
+returns : tie.Need-returns
+unfolding isD
+returns c = refl
+
+pub is-D-spec : {M : Type 1} → statement M
+is-D-spec = tie.close (tie.spec returns)

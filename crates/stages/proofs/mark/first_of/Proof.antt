@@ -1,0 +1,175 @@
+-- `stages::mark::first_of` meets its contract. The loop's invariant: the first of the marks from the i-th on is the first of the group, and
+-- what is known of harmony is true. The measure is what is left of the group. Assumes nothing.
+use Prim.Native.Nat.{_-_, _≤_}
+use mathlib.Core.Path.{_≡_, refl, sym, ap, subst, _∙_}
+use native.Mathlib.Omega.{arith}
+use lib.ListN.{length, drop}
+use denote.Ref.{now}
+use borrow.Author.Needs.{needs}
+use borrow.Author.Tests.{not-true, not-false}
+use Rattle.utf8.specs.Behind.{behind}
+use Rattle.stages.specs.declared.harmony.Told.{Told}
+use Rattle.stages.specs.declared.marked.Marked.the-variants.{To}
+use Rattle.stages.specs.Told.{Hears, toldAt}
+use Rattle.stages.specs.Numbered.{firstOf}
+use Rattle.stages.specs.Reach.{reach}
+use Rattle.stages.proofs.Laws.Told.{hears-told}
+use Rattle.stages.proofs.Laws.Ends.{markOf-unfit}
+use Rattle.stages.proofs.Laws.Marks.{firstOf-next, firstOf-took, firstOf-end, markOf-not, markOf-discord, mayEnd-sees, agrees-free, agrees-bound}
+use Rattle.stages.proofs.mark.first_of.Statement.{statement}
+use Rattle.stages.proofs.mark.first_of.Tie as tie
+
+abbrev Inv-loop : tie.InvT-loop
+Inv-loop w s group t₀ i₀ t i =
+    (i ≤ length group) × (Hears w (s .c) t) × (reach w (s .c) (firstOf (drop i group) (behind w (s .c))) ≡ reach w (s .c) (firstOf group (behind w (s .c))))
+
+abbrev μ-loop : tie.MeasureT-loop
+μ-loop w s group t₀ i₀ t i = length group - i
+
+loop-holds : tie.Need-loop-holds Inv-loop μ-loop
+loop-holds c =
+    (omega arith, c .before .before .pre .1, refl)
+
+mul-k : tie.Need-mul-k Inv-loop μ-loop
+mul-k c =
+    search needs
+
+shared-slice-read-k : tie.Need-shared-slice-read-k Inv-loop μ-loop
+shared-slice-read-k c =
+    search needs
+
+add-i : tie.Need-add-i Inv-loop μ-loop
+add-i c =
+    search needs
+
+may-end-requires : tie.Need-may-end-requires Inv-loop μ-loop
+may-end-requires c κs =
+    search needs
+
+loop-less : tie.Need-loop-less Inv-loop μ-loop
+loop-less c =
+    omega arith
+
+loop-again : tie.Need-loop-again Inv-loop μ-loop
+loop-again c =
+    let s = c .before .before .before .before .before .before .before in
+    let w = now (s .args .w) in
+    let r = s .args .s .c in
+    let group = now (s .args .group) in
+    let l = c .before .before .before .before .loop in
+    let unfit = sym (mayEnd-sees w (s .args .s) (s .pre .0) _ (c .before .may-end .ensures)) ∙ not-true _ (c .if1 .taken) in
+    (omega arith, l .inv .1, firstOf-next w r group (l .i) (c .before .before .before .loop-test .taken) (markOf-unfit _ _ unfit) ∙ l .inv .2)
+
+mark-requires : tie.Need-mark-requires Inv-loop μ-loop
+mark-requires c κs =
+    c .before .before .before .before .before .before .before .pre .0
+
+loop-less-2 : tie.Need-loop-less-2 Inv-loop μ-loop
+loop-less-2 c =
+    omega arith
+
+loop-again-2 : tie.Need-loop-again-2 Inv-loop μ-loop
+loop-again-2 c =
+    let s = c .before .before .before .before .before .before .before .before .before .before in
+    let w = now (s .args .w) in
+    let r = s .args .s .c in
+    let group = now (s .args .group) in
+    let l = c .before .before .before .before .before .before .before .loop in
+    let inside = c .before .before .before .before .before .before .loop-test .taken in
+    let fails = markOf-not w r group (l .i) inside (c .before .before .mark .ensures) (not-true _ (c .if2 .taken)) in
+    (omega arith, l .inv .1, firstOf-next w r group (l .i) inside fails ∙ l .inv .2)
+
+is-harmonic-requires : tie.Need-is-harmonic-requires Inv-loop μ-loop
+is-harmonic-requires c κs =
+    search needs
+
+moved-to-requires : tie.Need-moved-to-requires Inv-loop μ-loop
+moved-to-requires c κs =
+    search needs
+
+returns : tie.Need-returns Inv-loop μ-loop
+returns c =
+    let s = c .before .before .before .before .before .before .before .before .before .before .before .before .before in
+    let w = now (s .args .w) in
+    let r = s .args .s .c in
+    let group = now (s .args .group) in
+    let l = c .before .before .before .before .before .before .before .before .before .before .loop in
+    let free = sym (c .before .before .is-harmonic .ensures) ∙ not-true _ (c .before .if3 .taken) in
+    ap To (c .moved-to .ensures)
+    ∙ firstOf-took w r group (l .i) (c .before .before .before .before .before .before .before .before .before .loop-test .taken) (c .before .before .before .before .before .mark .ensures) (not-false _ (c .before .before .before .if2 .left))
+    (agrees-free (behind w r) free) ∙ l .inv .2
+
+hear-requires : tie.Need-hear-requires Inv-loop μ-loop
+hear-requires c κs =
+    (c .before .before .before .before .before .before .before .before .before .before .before .before .pre .0 .opens, c .before .before .before .before .before .before .before .before .before .loop .inv .1)
+
+moved-to-requires-2 : tie.Need-moved-to-requires-2 Inv-loop μ-loop
+moved-to-requires-2 c κs =
+    search needs
+
+returns-2 : tie.Need-returns-2 Inv-loop μ-loop
+unfolding toldAt
+returns-2 c =
+    let s = c .before .before .before .before .before .before .before .before .before .before .before .before .before .before .before in
+    let w = now (s .args .w) in
+    let r = s .args .s .c in
+    let group = now (s .args .group) in
+    let l = c .before .before .before .before .before .before .before .before .before .before .before .before .loop in
+    let bound = sym (c .before .before .before .before .is-harmonic .ensures) ∙ not-false _ (c .before .before .before .if3 .left) in
+    let holds = sym (ap (λ (x : Told). x .holds) (c .before .before .hear .ensures)) ∙ c .before .if4 .taken in
+    ap To (c .moved-to2 .ensures)
+    ∙ firstOf-took w r group (l .i) (c .before .before .before .before .before .before .before .before .before .before .before .loop-test .taken) (c .before .before .before .before .before .before .before .mark .ensures) (not-false _ (c .before .before .before .before .before .if2 .left))
+    (agrees-bound (behind w r) bound ∙ holds) ∙ l .inv .2
+
+loop-less-3 : tie.Need-loop-less-3 Inv-loop μ-loop
+loop-less-3 c =
+    omega arith
+
+loop-again-3 : tie.Need-loop-again-3 Inv-loop μ-loop
+unfolding toldAt
+loop-again-3 c =
+    let s = c .before .before .before .before .before .before .before .before .before .before .before .before .before .before in
+    let w = now (s .args .w) in
+    let r = s .args .s .c in
+    let group = now (s .args .group) in
+    let l = c .before .before .before .before .before .before .before .before .before .before .before .loop in
+    let bound = sym (c .before .before .before .is-harmonic .ensures) ∙ not-false _ (c .before .before .if3 .left) in
+    let discord = sym (ap (λ (x : Told). x .holds) (c .before .hear .ensures)) ∙ c .if4 .left in
+    let inside = c .before .before .before .before .before .before .before .before .before .before .loop-test .taken in
+    let fails = markOf-discord w r group (l .i) inside (c .before .before .before .before .before .before .mark .ensures) (agrees-bound (behind w r) bound ∙ discord) in
+    (omega arith, subst (Hears w r) (sym (c .before .hear .ensures)) (hears-told w r), firstOf-next w r group (l .i) inside fails ∙ l .inv .2)
+
+returns-3 : tie.Need-returns-3 Inv-loop μ-loop
+returns-3 c =
+    let s = c .before .before .before .before in
+    let w = now (s .args .w) in
+    let r = s .args .s .c in
+    let group = now (s .args .group) in
+    let l = c .before .loop in
+    firstOf-end w r group (l .i) (c .loop-test .left) ∙ l .inv .2
+
+pub first-of-spec : {M : Type 1} → statement M
+first-of-spec =
+    tie.close
+    (tie.spec
+    Inv-loop
+    μ-loop
+    loop-holds
+    mul-k
+    shared-slice-read-k
+    add-i
+    may-end-requires
+    loop-less
+    loop-again
+    mark-requires
+    loop-less-2
+    loop-again-2
+    is-harmonic-requires
+    moved-to-requires
+    returns
+    hear-requires
+    moved-to-requires-2
+    returns-2
+    loop-less-3
+    loop-again-3
+    returns-3)

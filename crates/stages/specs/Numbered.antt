@@ -1,0 +1,39 @@
+-- The twelve marks by number, 1 to 12 in the order of document 01's mark tables with yken last, and a group of them. Assumes nothing.
+use Prim.Native.Nat.{ℕ}
+use mathlib.Core.Bool.{Bool, true, false, cond}
+use mathlib.Core.List.{List, [], _∷_}
+use lib.Dec.{eqb}
+use Rattle.turkish.specs.Grammar.{Out, fail, first, Mark, markOf}
+use Rattle.turkish.specs.Marks.{yUm, sUn, yUz, sUnUz, lAr, nUz, DUr, cAsInA, yDU, ysA, ymUs, yken}
+
+-- a mark that never fits
+unfoldable pub never : Mark
+never = record { harmonic = true; keys = []; joins = false }
+
+unfoldable pub numbered : ℕ → Mark
+numbered n =
+    cond (eqb n 1) yUm
+    (cond (eqb n 2) sUn
+    (cond (eqb n 3) yUz
+    (cond (eqb n 4) sUnUz
+    (cond (eqb n 5) lAr
+    (cond (eqb n 6) nUz
+    (cond (eqb n 7) DUr
+    (cond (eqb n 8) cAsInA
+    (cond (eqb n 9) yDU
+    (cond (eqb n 10) ysA
+    (cond (eqb n 11) ymUs
+    (cond (eqb n 12) yken never)))))))))))
+
+-- a mark without its harmony test
+unfoldable pub unharmonic : Mark → Mark
+unharmonic m = record { harmonic = false; keys = m .keys; joins = m .joins }
+
+-- a key of these, with or without an optional y before it, and no harmony test
+unfoldable pub keyedBy : List (List ℕ) → Bool → Mark
+keyedBy ks joins = record { harmonic = false; keys = ks; joins = joins }
+
+-- the first of a group that fits
+unfoldable pub firstOf : List ℕ → List ℕ → Out
+firstOf [] cs = fail
+firstOf (k ∷ ks) cs = first (markOf (numbered k) cs) (firstOf ks cs)

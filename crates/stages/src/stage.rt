@@ -1,0 +1,234 @@
+// The suffix stage (turkish.rs, `r_stem_nominal_verb_suffixes`): its six branches in the Rust's order. A branch answers the record
+// after its deletions, which lower the limit; the text kept ends there.
+use crate::ends;
+use crate::harmony;
+use crate::harmony::Told;
+use crate::mark;
+use crate::marked::Marked;
+use crate::seen;
+use crate::seen::Seen;
+use utf8::cursor::Cursor;
+ghost use mathlib.Core.Path.{_≡_};
+ghost use Rattle.utf8.specs.Behind.{behind, Open};
+ghost use Rattle.turkish.specs.Grammar.{run, mark, _then_};
+ghost use Rattle.turkish.specs.Marks.{ymUs};
+ghost use Rattle.turkish.specs.Stage.{person, branch1, branch2, branch3, branch4, branch5, branch6};
+ghost use Rattle.stages.specs.Seen.{Sees};
+ghost use Rattle.stages.specs.Told.{Hears};
+ghost use Rattle.stages.specs.Numbered.{firstOf};
+ghost use Rattle.stages.specs.Reach.{reach, cutTo, triedTo, outcomeOf};
+
+// The place before which the text kept stands, whether an ending was removed, and the flag.
+pub struct Outcome {
+    pub kept: usize,
+    pub yes: bool,
+    pub flag: bool,
+}
+
+// The marks of line 314.
+const FIRST: [u32; 4] = [mark::YMUS, mark::YDU, mark::YSA, mark::YKEN];
+
+// A person's ending (lines 316 and 327).
+const PERSON: [u32; 5] = [mark::SUNUZ, mark::LAR, mark::YUM, mark::SUN, mark::YUZ];
+
+// What may follow lAr (line 319).
+const AFTER_LAR: [u32; 4] = [mark::DUR, mark::YDU, mark::YSA, mark::YMUS];
+
+// What must follow nUz (line 323).
+const AFTER_NUZ: [u32; 2] = [mark::YDU, mark::YSA];
+
+// A person's ending without lAr (line 325).
+const PERSON_ALONE: [u32; 4] = [mark::SUNUZ, mark::YUZ, mark::SUN, mark::YUM];
+
+const YMUS_ALONE: [u32; 1] = [mark::YMUS];
+
+// The record moved back over the first mark of a group that fits before it; the record itself where none does.
+fn try_of(w: &[u8], c: Cursor, group: &[u32]) -> Cursor
+    requires { ⌜ Open (now w) c ⌝ }
+    ensures { λ r. ⌜ r ≡ triedTo (now (w .entry)) c (firstOf (now (group .entry)) (behind (now (w .entry)) c)) ⌝ }
+{
+    let Marked::To(d) = mark::first_of(w, seen::look_back(w, c), Told::UNASKED, group) else {
+        return c;
+    };
+    d
+}
+
+// A person's ending or nothing, then ymUs_ (lines 316 and 327).
+fn person_then_ymUs(w: &[u8], c: Cursor) -> Marked
+    requires { ⌜ Open (now w) c ⌝ }
+    ensures { λ r. ⌜ r ≡ reach (now (w .entry)) c (run (person then mark ymUs) (behind (now (w .entry)) c)) ⌝ }
+{
+    let d = try_of(w, c, &PERSON);
+    mark::one_of(w, seen::look_back(w, d), Told::UNASKED, mark::YMUS)
+}
+
+// Line 314: ymUs_, yDU, ysA or yken.
+fn first_branch(w: &[u8], s: Seen, t: Told) -> Marked
+    requires { ⌜ Sees (now w) s ⌝ }
+    requires { ⌜ Hears (now w) (s .c) t ⌝ }
+    ensures { λ r. ⌜ r ≡ cutTo (now (w .entry)) (s .c) (run branch1 (behind (now (w .entry)) (s .c))) ⌝ }
+{
+    if !ends::ends_first(s.last, s.second, s.third) {
+        return Marked::Fails;
+    }
+    let Marked::To(c) = mark::first_of(w, s, t, &FIRST) else {
+        return Marked::Fails;
+    };
+    Marked::To(c.deleted())
+}
+
+// Line 316: cAsInA, a person's ending or nothing, then ymUs_.
+fn second_branch(w: &[u8], s: Seen, t: Told) -> Marked
+    requires { ⌜ Sees (now w) s ⌝ }
+    requires { ⌜ Hears (now w) (s .c) t ⌝ }
+    ensures { λ r. ⌜ r ≡ cutTo (now (w .entry)) (s .c) (run branch2 (behind (now (w .entry)) (s .c))) ⌝ }
+{
+    let Marked::To(c) = mark::one_of(w, s, t, mark::CASINA) else {
+        return Marked::Fails;
+    };
+    let Marked::To(d) = person_then_ymUs(w, c) else {
+        return Marked::Fails;
+    };
+    Marked::To(d.deleted())
+}
+
+// Lines 318 to 320: lAr, deleted; then DUr, yDU, ysA or ymUs_ if one fits. The flag goes down.
+fn third_branch(w: &[u8], s: Seen, t: Told) -> Marked
+    requires { ⌜ Sees (now w) s ⌝ }
+    requires { ⌜ Hears (now w) (s .c) t ⌝ }
+    ensures { λ r. ⌜ r ≡ cutTo (now (w .entry)) (s .c) (run branch3 (behind (now (w .entry)) (s .c))) ⌝ }
+{
+    let Marked::To(c) = mark::one_of(w, s, t, mark::LAR) else {
+        return Marked::Fails;
+    };
+    let d = try_of(w, c.deleted(), &AFTER_LAR);
+    Marked::To(d.deleted())
+}
+
+// Line 323: nUz, then yDU or ysA.
+fn fourth_branch(w: &[u8], s: Seen, t: Told) -> Marked
+    requires { ⌜ Sees (now w) s ⌝ }
+    requires { ⌜ Hears (now w) (s .c) t ⌝ }
+    ensures { λ r. ⌜ r ≡ cutTo (now (w .entry)) (s .c) (run branch4 (behind (now (w .entry)) (s .c))) ⌝ }
+{
+    let Marked::To(c) = mark::one_of(w, s, t, mark::NUZ) else {
+        return Marked::Fails;
+    };
+    let Marked::To(d) = mark::first_of(w, seen::look_back(w, c), Told::UNASKED, &AFTER_NUZ) else {
+        return Marked::Fails;
+    };
+    Marked::To(d.deleted())
+}
+
+// Line 325: sUnUz, yUz, sUn or yUm, deleted; then ymUs_ if it fits.
+fn fifth_branch(w: &[u8], s: Seen, t: Told) -> Marked
+    requires { ⌜ Sees (now w) s ⌝ }
+    requires { ⌜ Hears (now w) (s .c) t ⌝ }
+    ensures { λ r. ⌜ r ≡ cutTo (now (w .entry)) (s .c) (run branch5 (behind (now (w .entry)) (s .c))) ⌝ }
+{
+    if !ends::ends_fifth(s.last, s.second, s.third) {
+        return Marked::Fails;
+    }
+    let Marked::To(c) = mark::first_of(w, s, t, &PERSON_ALONE) else {
+        return Marked::Fails;
+    };
+    let d = try_of(w, c.deleted(), &YMUS_ALONE);
+    Marked::To(d.deleted())
+}
+
+// Line 327: DUr, deleted; then a person's ending or nothing and ymUs_, if that fits whole.
+fn sixth_branch(w: &[u8], s: Seen, t: Told) -> Marked
+    requires { ⌜ Sees (now w) s ⌝ }
+    requires { ⌜ Hears (now w) (s .c) t ⌝ }
+    ensures { λ r. ⌜ r ≡ cutTo (now (w .entry)) (s .c) (run branch6 (behind (now (w .entry)) (s .c))) ⌝ }
+{
+    let Marked::To(c) = mark::one_of(w, s, t, mark::DUR) else {
+        return Marked::Fails;
+    };
+    let d = c.deleted();
+    let Marked::To(e) = person_then_ymUs(w, d) else {
+        return Marked::To(d);
+    };
+    Marked::To(e.deleted())
+}
+
+// Harmony at the word's end, walked for where a key of a mark that tests it fits.
+fn told_at_end(w: &[u8], s: Seen) -> Told
+    requires { ⌜ Sees (now w) s ⌝ }
+    ensures { λ r. ⌜ Hears (now (w .entry)) (s .c) r ⌝ }
+{
+    if !ends::ends_harmonic(s.last, s.second, s.third) {
+        return Told::UNASKED;
+    }
+    harmony::hear(w, s.c, Told::UNASKED)
+}
+
+// The suffix stage of a word, entered at its end with limit_backward 0: the first branch that fits.
+pub fn stem_nominal_verb_suffixes(w: &[u8]) -> Outcome
+    ensures { λ r. ⌜ r ≡ outcomeOf (now (w .entry)) ⌝ }
+{
+    let n = w.len();
+    let s = seen::look_back(
+        w,
+        Cursor {
+            cursor: n,
+            limit: n,
+            limit_backward: 0,
+        },
+    );
+    if !ends::ends_any(s.last, s.second, s.third) {
+        return Outcome {
+            kept: n,
+            yes: false,
+            flag: true,
+        };
+    }
+    let t = told_at_end(w, s);
+    if let Marked::To(c) = first_branch(w, s, t) {
+        return Outcome {
+            kept: c.limit,
+            yes: true,
+            flag: true,
+        };
+    }
+    if let Marked::To(c) = second_branch(w, s, t) {
+        return Outcome {
+            kept: c.limit,
+            yes: true,
+            flag: true,
+        };
+    }
+    if let Marked::To(c) = third_branch(w, s, t) {
+        return Outcome {
+            kept: c.limit,
+            yes: true,
+            flag: false,
+        };
+    }
+    if let Marked::To(c) = fourth_branch(w, s, t) {
+        return Outcome {
+            kept: c.limit,
+            yes: true,
+            flag: true,
+        };
+    }
+    if let Marked::To(c) = fifth_branch(w, s, t) {
+        return Outcome {
+            kept: c.limit,
+            yes: true,
+            flag: true,
+        };
+    }
+    if let Marked::To(c) = sixth_branch(w, s, t) {
+        return Outcome {
+            kept: c.limit,
+            yes: true,
+            flag: true,
+        };
+    }
+    Outcome {
+        kept: n,
+        yes: false,
+        flag: true,
+    }
+}
