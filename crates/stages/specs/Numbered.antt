@@ -25,6 +25,10 @@ numbered n =
     (cond (eqb n 11) ymUs
     (cond (eqb n 12) yken never)))))))))))
 
+-- the keys that stand in a table: all but the literal `ken`
+unfoldable pub tabled : ℕ → List (List ℕ)
+tabled k = cond (eqb k 12) [] (numbered k .keys)
+
 -- a mark without its harmony test
 unfoldable pub unharmonic : Mark → Mark
 unharmonic m = record { harmonic = false; keys = m .keys; joins = m .joins }

@@ -15,17 +15,15 @@ use utf8::characters;
 use utf8::cursor::Cursor;
 use utf8::step;
 ghost use mathlib.Core.Path.{_≡_};
-ghost use mathlib.Core.Bool.{false};
-ghost use Prim.Native.Nat.{_<_};
 ghost use Rattle.utf8.specs.Behind.{behind, Open};
 ghost use Rattle.turkish.specs.Grammar.{optionalY, markOf};
 ghost use Rattle.turkish.specs.Marks.{yken};
-ghost use Rattle.stages.specs.Keys.{rows};
+ghost use Rattle.stages.specs.Search.{found};
 ghost use Rattle.stages.specs.Seen.{Sees};
 ghost use Rattle.stages.specs.Told.{Hears};
 ghost use Rattle.stages.specs.Passed.{passes};
 ghost use Rattle.stages.specs.Reach.{reach};
-ghost use Rattle.stages.specs.Numbered.{numbered, unharmonic, keyedBy, firstOf};
+ghost use Rattle.stages.specs.Numbered.{numbered, tabled, unharmonic, firstOf};
 
 // The marks' numbers.
 pub const YUM: u32 = 1;
@@ -70,21 +68,6 @@ fn mark_suffix_with_optional_y_consonant(w: &[u8], c: Cursor) -> Passed
     Passed::to(c.cursor)
 }
 
-// A key of the table, and an optional y before it where the mark joins by one.
-fn keyed(w: &[u8], s: Seen, keys: &[u32], width: usize, joins: bool) -> Passed
-    requires { ⌜ Sees (now w) s ⌝ }
-    requires { ⌜ 0 < width ⌝ }
-    ensures { λ r. ⌜ r ≡ passes (now (w .entry)) (s .c) (markOf (keyedBy (rows width (now (keys .entry))) joins) (behind (now (w .entry)) (s .c))) ⌝ }
-{
-    let Among::Key(_, d) = find_among_b(w, s, keys, width) else {
-        return Passed::NOT;
-    };
-    if joins {
-        return mark_suffix_with_optional_y_consonant(w, d);
-    }
-    Passed::to(d.cursor)
-}
-
 // The literals that yken is made of.
 const KEN: [u8; 3] = *b"ken";
 
@@ -119,26 +102,50 @@ fn mark_yken(w: &[u8], c: Cursor) -> Passed
     Passed::to(here.cursor)
 }
 
-// The mark with this number, but for its harmony test.
+// The search in the table of the mark with this number; yken has none.
+fn find_key(w: &[u8], s: Seen, kind: u32) -> Among
+    requires { ⌜ Sees (now w) s ⌝ }
+    ensures { λ r. ⌜ r ≡ found (tabled kind) (now (w .entry)) (s .c) ⌝ }
+{
+    match kind {
+        1 => find_among_b(w, s, &tables::A_12, 2),
+        2 => find_among_b(w, s, &tables::A_13, 3),
+        3 => find_among_b(w, s, &tables::A_14, 2),
+        4 => find_among_b(w, s, &tables::A_15, 5),
+        5 => find_among_b(w, s, &tables::A_16, 3),
+        6 => find_among_b(w, s, &tables::A_17, 3),
+        7 => find_among_b(w, s, &tables::A_18, 3),
+        8 => find_among_b(w, s, &tables::A_19, 6),
+        9 => find_among_b(w, s, &tables::A_20, 3),
+        10 => find_among_b(w, s, &tables::A_21, 3),
+        11 => find_among_b(w, s, &tables::A_22, 3),
+        _ => Among::Nothing,
+    }
+}
+
+// Whether an optional y stands before the key of the mark with this number.
+fn is_joining(kind: u32) -> bool
+    ensures { λ r. ⌜ r ≡ numbered kind .joins ⌝ }
+{
+    ((kind == YUM) | (kind == YUZ))
+        | (((kind == YDU) | (kind == YSA)) | ((kind == YMUS) | (kind == YKEN)))
+}
+
+// The mark with this number, but for its harmony test: its key, and an optional y before it where it joins by one.
 fn mark(w: &[u8], s: Seen, kind: u32) -> Passed
     requires { ⌜ Sees (now w) s ⌝ }
     ensures { λ r. ⌜ r ≡ passes (now (w .entry)) (s .c) (markOf (unharmonic (numbered kind)) (behind (now (w .entry)) (s .c))) ⌝ }
 {
-    match kind {
-        1 => keyed(w, s, &tables::A_12, 2, true),
-        2 => keyed(w, s, &tables::A_13, 3, false),
-        3 => keyed(w, s, &tables::A_14, 2, true),
-        4 => keyed(w, s, &tables::A_15, 5, false),
-        5 => keyed(w, s, &tables::A_16, 3, false),
-        6 => keyed(w, s, &tables::A_17, 3, false),
-        7 => keyed(w, s, &tables::A_18, 3, false),
-        8 => keyed(w, s, &tables::A_19, 6, false),
-        9 => keyed(w, s, &tables::A_20, 3, true),
-        10 => keyed(w, s, &tables::A_21, 3, true),
-        11 => keyed(w, s, &tables::A_22, 3, true),
-        12 => mark_yken(w, s.c),
-        _ => Passed::NOT,
+    if kind == YKEN {
+        return mark_yken(w, s.c);
     }
+    let Among::Key(_, d) = find_key(w, s, kind) else {
+        return Passed::NOT;
+    };
+    if is_joining(kind) {
+        return mark_suffix_with_optional_y_consonant(w, d);
+    }
+    Passed::to(d.cursor)
 }
 
 // Whether the mark with this number tests harmony.

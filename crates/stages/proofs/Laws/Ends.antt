@@ -178,3 +178,24 @@ numbered-unharmonic k (inl e) = ap (λ (i : ℕ). numbered i .harmonic) e
 numbered-unharmonic k (inr (inl e)) = ap (λ (i : ℕ). numbered i .harmonic) e
 numbered-unharmonic k (inr (inr (inl e))) = ap (λ (i : ℕ). numbered i .harmonic) e
 numbered-unharmonic k (inr (inr (inr e))) = ap (λ (i : ℕ). numbered i .harmonic) e
+
+-- ---- the optional y ----
+
+-- the marks that an optional y joins
+pub numbered-joins : (k : ℕ) → (eqb k 1 || eqb k 3) || ((eqb k 9 || eqb k 10) || (eqb k 11 || eqb k 12)) ≡ numbered k .joins
+unfolding numbered never marked yUm sUn yUz sUnUz lAr nUz DUr cAsInA yDU ysA ymUs yken
+numbered-joins k =
+    let H : Mark → Type 0 = λ m. (eqb k 1 || eqb k 3) || ((eqb k 9 || eqb k 10) || (eqb k 11 || eqb k 12)) ≡ m .joins in
+    cond-cases H (eqb k 1) (λ e. rw (eqb-true k 1 e)) (λ e1.
+    (cond-cases H (eqb k 2) (λ e. rw (eqb-true k 2 e)) λ e2.
+    (cond-cases H (eqb k 3) (λ e. rw (eqb-true k 3 e)) λ e3.
+    (cond-cases H (eqb k 4) (λ e. rw (eqb-true k 4 e)) λ e4.
+    (cond-cases H (eqb k 5) (λ e. rw (eqb-true k 5 e)) λ e5.
+    (cond-cases H (eqb k 6) (λ e. rw (eqb-true k 6 e)) λ e6.
+    (cond-cases H (eqb k 7) (λ e. rw (eqb-true k 7 e)) λ e7.
+    (cond-cases H (eqb k 8) (λ e. rw (eqb-true k 8 e)) λ e8.
+    (cond-cases H (eqb k 9) (λ e. rw (eqb-true k 9 e)) λ e9.
+    (cond-cases H (eqb k 10) (λ e. rw (eqb-true k 10 e)) λ e10.
+    (cond-cases H (eqb k 11) (λ e. rw (eqb-true k 11 e)) λ e11.
+    (cond-cases H (eqb k 12) (λ e. rw (eqb-true k 12 e)) λ e12.
+    rw (e1, e3, e9, e10, e11, e12)))))))))))))

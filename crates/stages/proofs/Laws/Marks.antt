@@ -8,6 +8,7 @@ use native.Mathlib.Nat.{add-zero}
 use native.Mathlib.Omega.{arith}
 use lib.ListN.{length, drop, getD, drop-of-length-le}
 use lib.Seq.{drop-cons}
+use borrow.Author.Tests.{ne-eqb}
 use Rattle.utf8.specs.declared.cursor.Cursor.{Cursor}
 use Rattle.utf8.specs.Steps.{moveTo}
 use Rattle.utf8.specs.Behind.{behind, backBy, Open}
@@ -23,7 +24,7 @@ use Rattle.stages.specs.declared.passed.Passed.{Passed}
 use Rattle.stages.specs.declared.seen.Seen.{Seen}
 use Rattle.stages.specs.Passed.{passedTo, notPassed, passes}
 use Rattle.stages.specs.Reach.{reach}
-use Rattle.stages.specs.Numbered.{never, numbered, unharmonic, keyedBy, firstOf}
+use Rattle.stages.specs.Numbered.{numbered, tabled, unharmonic, keyedBy, firstOf}
 use Rattle.stages.specs.Search.{foundFrom, found}
 use Rattle.stages.specs.Seen.{seenAt, Sees}
 use Rattle.stages.specs.Ends.{mayEnd}
@@ -174,7 +175,7 @@ agrees-free cs e = rw e
 pub agrees-bound : {h : Bool} (cs : List ℕ) → h ≡ true → not h || harmony cs ≡ harmony cs
 agrees-bound cs e = rw e
 
--- a number that is no mark's never fits
-pub passes-never : (w : List ℕ) (c : Cursor) (k : ℕ) → numbered k ≡ never → notPassed ≡ passes w c (markOf (unharmonic (numbered k)) (behind w c))
-unfolding never unharmonic markOf asking after among passes
-passes-never w c k e = sym (ap (λ (m : Mark). passes w c (markOf (unharmonic m) (behind w c))) e)
+-- a mark but yken has its keys in a table
+pub tabled-found : (w : List ℕ) (c : Cursor) {k : ℕ} {a : Among} → (k ≡ 12 → ⊥) → a ≡ found (tabled k) w c → a ≡ found (numbered k .keys) w c
+unfolding tabled
+tabled-found w c {k} n e = e ∙ ap (λ (ks : List (List ℕ)). found ks w c) (rw (ne-eqb k 12 n))

@@ -1,217 +1,94 @@
--- `stages::mark::mark` meets its contract: each table computes to its mark's keys, and yken goes by its literal. Assumes nothing.
+-- `stages::mark::mark` meets its contract: yken goes by its literal, every other mark by the key found in its table and the optional y
+-- before it. Assumes nothing.
 use Prim.Native.Nat.{ℕ}
-use mathlib.Core.Path.{_≡_, sym, ap, _∙_}
-use mathlib.Core.List.{List}
+use mathlib.Core.Path.{sym, ap, _∙_}
 use denote.Ref.{now}
-use borrow.Author.Tests.{ne-eqb}
-use Rattle.utf8.specs.declared.cursor.Cursor.{Cursor}
 use Rattle.utf8.specs.Behind.{behind}
-use Rattle.turkish.specs.Letters.{text, fromEnd}
 use Rattle.turkish.specs.Grammar.{markOf}
-use Rattle.turkish.specs.Marks.{marked, yUm, sUn, yUz, sUnUz, lAr, nUz, DUr, cAsInA, yDU, ysA, ymUs, yken}
-use Rattle.stages.specs.Keys.{upToZero, row, rowsWithin, rows}
+use Rattle.turkish.specs.Marks.{marked, yken}
 use Rattle.stages.specs.Passed.{notPassed, passes}
-use Rattle.stages.proofs.Laws.Marks.{passes-never}
-use Rattle.stages.specs.Numbered.{never, numbered, unharmonic, keyedBy}
+use Rattle.stages.specs.Numbered.{numbered, unharmonic, keyedBy}
+use Rattle.stages.proofs.Laws.Marks.{tabled-found, keyed-nothing, keyed-open, keyed-joined, keyed-alone}
 use borrow.Author.Needs.{needs}
 use Rattle.stages.proofs.mark.mark.Statement.{statement}
 use Rattle.stages.proofs.mark.mark.Tie as tie
 
-slice-aggregate-keyed : tie.Need-slice-aggregate-keyed
-slice-aggregate-keyed c = search needs
-
-keyed-requires : tie.Need-keyed-requires
-keyed-requires c κs = search needs
-
-slice-aggregate-keyed-2 : tie.Need-slice-aggregate-keyed-2
-slice-aggregate-keyed-2 c = search needs
-
-keyed-requires-2 : tie.Need-keyed-requires-2
-keyed-requires-2 c κs = search needs
-
-slice-aggregate-keyed-3 : tie.Need-slice-aggregate-keyed-3
-slice-aggregate-keyed-3 c = search needs
-
-keyed-requires-3 : tie.Need-keyed-requires-3
-keyed-requires-3 c κs = search needs
-
-slice-aggregate-keyed-4 : tie.Need-slice-aggregate-keyed-4
-slice-aggregate-keyed-4 c = search needs
-
-keyed-requires-4 : tie.Need-keyed-requires-4
-keyed-requires-4 c κs = search needs
-
-slice-aggregate-keyed-5 : tie.Need-slice-aggregate-keyed-5
-slice-aggregate-keyed-5 c = search needs
-
-keyed-requires-5 : tie.Need-keyed-requires-5
-keyed-requires-5 c κs = search needs
-
-slice-aggregate-keyed-6 : tie.Need-slice-aggregate-keyed-6
-slice-aggregate-keyed-6 c = search needs
-
-keyed-requires-6 : tie.Need-keyed-requires-6
-keyed-requires-6 c κs = search needs
-
-slice-aggregate-keyed-7 : tie.Need-slice-aggregate-keyed-7
-slice-aggregate-keyed-7 c = search needs
-
-keyed-requires-7 : tie.Need-keyed-requires-7
-keyed-requires-7 c κs = search needs
-
-slice-aggregate-keyed-8 : tie.Need-slice-aggregate-keyed-8
-slice-aggregate-keyed-8 c = search needs
-
-keyed-requires-8 : tie.Need-keyed-requires-8
-keyed-requires-8 c κs = search needs
-
-slice-aggregate-keyed-9 : tie.Need-slice-aggregate-keyed-9
-slice-aggregate-keyed-9 c = search needs
-
-keyed-requires-9 : tie.Need-keyed-requires-9
-keyed-requires-9 c κs = search needs
-
-slice-aggregate-keyed-10 : tie.Need-slice-aggregate-keyed-10
-slice-aggregate-keyed-10 c = search needs
-
-keyed-requires-10 : tie.Need-keyed-requires-10
-keyed-requires-10 c κs = search needs
-
-slice-aggregate-keyed-11 : tie.Need-slice-aggregate-keyed-11
-slice-aggregate-keyed-11 c = search needs
-
-keyed-requires-11 : tie.Need-keyed-requires-11
-keyed-requires-11 c κs = search needs
-
 mark-yken-requires : tie.Need-mark-yken-requires
 mark-yken-requires c κs = search needs
 
--- a mark by its number
-numbered-passes : (w : List ℕ) (c : Cursor) {j k : ℕ} → j ≡ k
-    → passes w c (markOf (unharmonic (numbered j)) (behind w c)) ≡ passes w c (markOf (unharmonic (numbered k)) (behind w c))
-numbered-passes w c e = ap (λ (n : ℕ). passes w c (markOf (unharmonic (numbered n)) (behind w c))) e
-
 returns : tie.Need-returns
-unfolding numbered unharmonic keyedBy yUm marked fromEnd text rows rowsWithin row upToZero
+unfolding numbered unharmonic yken marked
 returns c =
-    c .keyed .ensures ∙ numbered-passes _ _ (sym (c .before .before .match .keys1))
+    let s = c .before .before .before in
+    c .mark-yken .ensures ∙ ap (λ (k : ℕ). passes (now (s .args .w)) (s .args .s .c) (markOf (unharmonic (numbered k)) (behind (now (s .args .w)) (s .args .s .c))))
+    (sym (c .before .if1 .taken))
+
+find-key-requires : tie.Need-find-key-requires
+find-key-requires c κs = search needs
+
+enum-known-d : tie.Need-enum-known-d
+enum-known-d c = search needs
+
+enum-told : tie.Need-enum-told
+enum-told c = search needs
 
 returns-2 : tie.Need-returns-2
-unfolding numbered unharmonic keyedBy sUn marked fromEnd text rows rowsWithin row upToZero
+unfolding notPassed unharmonic keyedBy
 returns-2 c =
-    c .keyed2 .ensures ∙ numbered-passes _ _ (sym (c .before .before .match .keys2))
+    let s = c .before .before .before .before .before in
+    let w = now (s .args .w) in
+    let r = s .args .s .c in
+    let m = numbered (s .args .kind) in
+    keyed-nothing (m .keys) (m .joins) w r (tabled-found w r (c .before .before .before .if1 .left) (c .before .before .find-key .ensures)) (c .enum-told .given .1)
+
+is-joining-requires : tie.Need-is-joining-requires
+is-joining-requires c κs =
+    search needs
+
+mark-suffix-with-optional-y-consonant-requires :
+    tie.Need-mark-suffix-with-optional-y-consonant-requires
+mark-suffix-with-optional-y-consonant-requires c κs =
+    let s = c .before .before .before .before .before .before .before .before in
+    let w = now (s .args .w) in
+    let r = s .args .s .c in
+    let m = numbered (s .args .kind) in
+    keyed-open (m .keys) (m .joins) w r (tabled-found w r (c .before .before .before .before .before .before .if1 .left) (c .before .before .before .before .before .find-key .ensures)) (c .before .before .before .d .given .1) (s .pre .opens)
 
 returns-3 : tie.Need-returns-3
-unfolding numbered unharmonic keyedBy yUz marked fromEnd text rows rowsWithin row upToZero
+unfolding unharmonic keyedBy
 returns-3 c =
-    c .keyed3 .ensures ∙ numbered-passes _ _ (sym (c .before .before .match .keys3))
+    let s = c .before .before .before .before .before .before .before .before .before in
+    let w = now (s .args .w) in
+    let r = s .args .s .c in
+    let m = numbered (s .args .kind) in
+    keyed-joined (m .keys) (m .joins) w r (tabled-found w r (c .before .before .before .before .before .before .before .if1 .left) (c .before .before .before .before .before .before .find-key .ensures)) (c .before .before .before .before .d .given .1)
+    (sym (c .before .before .is-joining .ensures) ∙ c .before .if2 .taken) (c .mark-suffix-with-optional-y-consonant .ensures)
+
+to-requires : tie.Need-to-requires
+to-requires c κs = search needs
 
 returns-4 : tie.Need-returns-4
-unfolding numbered unharmonic keyedBy sUnUz marked fromEnd text rows rowsWithin row upToZero
+unfolding unharmonic keyedBy
 returns-4 c =
-    c .keyed4 .ensures ∙ numbered-passes _ _ (sym (c .before .before .match .keys4))
-
-returns-5 : tie.Need-returns-5
-unfolding numbered unharmonic keyedBy lAr marked fromEnd text rows rowsWithin row upToZero
-returns-5 c =
-    c .keyed5 .ensures ∙ numbered-passes _ _ (sym (c .before .before .match .keys5))
-
-returns-6 : tie.Need-returns-6
-unfolding numbered unharmonic keyedBy nUz marked fromEnd text rows rowsWithin row upToZero
-returns-6 c =
-    c .keyed6 .ensures ∙ numbered-passes _ _ (sym (c .before .before .match .keys6))
-
-returns-7 : tie.Need-returns-7
-unfolding numbered unharmonic keyedBy DUr marked fromEnd text rows rowsWithin row upToZero
-returns-7 c =
-    c .keyed7 .ensures ∙ numbered-passes _ _ (sym (c .before .before .match .keys7))
-
-returns-8 : tie.Need-returns-8
-unfolding numbered unharmonic keyedBy cAsInA marked fromEnd text rows rowsWithin row upToZero
-returns-8 c =
-    c .keyed8 .ensures ∙ numbered-passes _ _ (sym (c .before .before .match .keys8))
-
-returns-9 : tie.Need-returns-9
-unfolding numbered unharmonic keyedBy yDU marked fromEnd text rows rowsWithin row upToZero
-returns-9 c =
-    c .keyed9 .ensures ∙ numbered-passes _ _ (sym (c .before .before .match .keys9))
-
-returns-10 : tie.Need-returns-10
-unfolding numbered unharmonic keyedBy ysA marked fromEnd text rows rowsWithin row upToZero
-returns-10 c =
-    c .keyed10 .ensures ∙ numbered-passes _ _ (sym (c .before .before .match .keys10))
-
-returns-11 : tie.Need-returns-11
-unfolding numbered unharmonic keyedBy ymUs marked fromEnd text rows rowsWithin row upToZero
-returns-11 c =
-    c .keyed11 .ensures ∙ numbered-passes _ _ (sym (c .before .before .match .keys11))
-
-returns-12 : tie.Need-returns-12
-unfolding numbered unharmonic yken marked
-returns-12 c =
-    c .mark-yken .ensures ∙ numbered-passes _ _ (sym (c .before .match .keys12))
-
-returns-13 : tie.Need-returns-13
-unfolding numbered notPassed
-returns-13 c =
-    let s = c .before .before in
-    let k = s .args .kind in
-    let r12 = c .match .rest in
-    let r8 = r12 .0 .0 .0 .0 in
-    let r4 = r8 .0 .0 .0 .0 in
-    let none : numbered k ≡ never = simp (
-      ne-eqb k 1 (r4 .0 .0 .0 .1),
-      ne-eqb k 2 (r4 .0 .0 .1),
-      ne-eqb k 3 (r4 .0 .1),
-      ne-eqb k 4 (r4 .1),
-      ne-eqb k 5 (r8 .0 .0 .0 .1),
-      ne-eqb k 6 (r8 .0 .0 .1),
-      ne-eqb k 7 (r8 .0 .1),
-      ne-eqb k 8 (r8 .1),
-      ne-eqb k 9 (r12 .0 .0 .0 .1),
-      ne-eqb k 10 (r12 .0 .0 .1),
-      ne-eqb k 11 (r12 .0 .1),
-      ne-eqb k 12 (r12 .1),
-    ) in
-    passes-never (now (s .args .w)) (s .args .s .c) k none
+    c .to .ensures ∙ (let s = c .before .before .before .before .before .before .before .before .before in
+    let w = now (s .args .w) in
+    let r = s .args .s .c in
+    let m = numbered (s .args .kind) in
+    keyed-alone (m .keys) (m .joins) w r (tabled-found w r (c .before .before .before .before .before .before .before .if1 .left) (c .before .before .before .before .before .before .find-key .ensures)) (c .before .before .before .before .d .given .1)
+    (sym (c .before .before .is-joining .ensures) ∙ c .before .if2 .left))
 
 pub mark-spec : {M : Type 1} → statement M
 mark-spec =
     tie.close
     (tie.spec
-    slice-aggregate-keyed
-    keyed-requires
-    slice-aggregate-keyed-2
-    keyed-requires-2
-    slice-aggregate-keyed-3
-    keyed-requires-3
-    slice-aggregate-keyed-4
-    keyed-requires-4
-    slice-aggregate-keyed-5
-    keyed-requires-5
-    slice-aggregate-keyed-6
-    keyed-requires-6
-    slice-aggregate-keyed-7
-    keyed-requires-7
-    slice-aggregate-keyed-8
-    keyed-requires-8
-    slice-aggregate-keyed-9
-    keyed-requires-9
-    slice-aggregate-keyed-10
-    keyed-requires-10
-    slice-aggregate-keyed-11
-    keyed-requires-11
     mark-yken-requires
     returns
+    find-key-requires
+    enum-known-d
+    enum-told
     returns-2
+    is-joining-requires
+    mark-suffix-with-optional-y-consonant-requires
     returns-3
-    returns-4
-    returns-5
-    returns-6
-    returns-7
-    returns-8
-    returns-9
-    returns-10
-    returns-11
-    returns-12
-    returns-13)
+    to-requires
+    returns-4)
