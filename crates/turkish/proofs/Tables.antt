@@ -1,6 +1,6 @@
 -- The tables of keys, all by one test: no key is the tail of another in its table, so at most one ends a text; each is of letters, no
--- more than its table's width, and begins on a character's start. Other crates cite these of a mark's table by its membership,
--- as in `table-whole DUr-table`. Assumes nothing.
+-- more than its table's width, and begins on a character's start. A fact is had of a mark's table by its membership, as in
+-- `table-whole DUr-table`. Assumes nothing.
 use Prim.Native.Nat.{ℕ, _≤_, _<_}
 use mathlib.Core.Path.{_≡_, refl, sym, _∙_}
 use mathlib.Core.Bool.{Bool, true, false, not, _&&_, _||_, true≢false, false≢true}

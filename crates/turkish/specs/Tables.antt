@@ -1,4 +1,5 @@
--- The tables of keys (turkish.rs, A_12 to A_23, and the literal `ken`), each with its width, and what the code's search asks of one.
+-- The tables of keys (turkish.rs, A_12 to A_23, and the literal `ken`), each with its width, and a test on one: no key is longer than
+-- the width or has a 0, with which the code fills it up.
 -- Assumes nothing.
 use Prim.Native.Nat.{ℕ}
 use mathlib.Core.Bool.{Bool, true, _&&_}
