@@ -3,10 +3,10 @@ pub mod Sounds
 pub mod LastVowel
 pub mod Keys
 pub mod Seen
-pub mod Told
 pub mod Passed
 pub mod Search
 pub mod Ends
+pub mod Told
 pub mod Numbered
 pub mod Reach
 pub mod Repairs

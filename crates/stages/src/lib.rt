@@ -1,4 +1,4 @@
-// The port of the three stages, routine by routine under the Rust's names. Nothing here refuses: the calls with their refusals
+// The port of the three stages under the Rust's names, its twelve marks by number. Nothing here refuses: the calls with their refusals
 // stand above, in words.
 mod among;
 mod ends;

@@ -1,6 +1,7 @@
 // The marks of the suffix stage (turkish.rs, `r_mark_yUm` to `r_mark_yken`), numbered 1 to 12 in the order of document 01's mark tables
-// with yken last. Each takes the word and a record and answers the record moved back. The key and the optional y are tested first and
-// harmony only where they fit: all must hold, so the answer is the same as in the Rust, which tests harmony first.
+// with yken last. Tried alone or in a group, they take the word and what is seen from a record and answer the record moved back. The key
+// and the optional y are tested first and harmony only where they fit: all must hold, so the answer is the same as in the Rust, which
+// tests harmony first.
 use crate::among::Among;
 use crate::among::find_among_b;
 use crate::ends;

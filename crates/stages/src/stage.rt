@@ -14,7 +14,7 @@ ghost use Rattle.turkish.specs.Grammar.{run, mark, _then_};
 ghost use Rattle.turkish.specs.Marks.{ymUs};
 ghost use Rattle.turkish.specs.Stage.{person, branch1, branch2, branch3, branch4, branch5, branch6};
 ghost use Rattle.stages.specs.Seen.{Sees};
-ghost use Rattle.stages.specs.Told.{Hears};
+ghost use Rattle.stages.specs.Told.{Hears, toldAtEnd};
 ghost use Rattle.stages.specs.Numbered.{firstOf};
 ghost use Rattle.stages.specs.Reach.{reach, cutTo, triedTo, outcomeOf};
 
@@ -152,10 +152,10 @@ fn sixth_branch(w: &[u8], s: Seen, t: Told) -> Marked
     Marked::To(e.deleted())
 }
 
-// Harmony at the word's end, walked for where a key of a mark that tests it fits.
+// Harmony at the word's end, walked for where the last letters are those of a mark that tests it.
 fn told_at_end(w: &[u8], s: Seen) -> Told
     requires { ⌜ Sees (now w) s ⌝ }
-    ensures { λ r. ⌜ Hears (now (w .entry)) (s .c) r ⌝ }
+    ensures { λ r. ⌜ r ≡ toldAtEnd (now (w .entry)) s ⌝ }
 {
     if !ends::ends_harmonic(s.last, s.second, s.third) {
         return Told::UNASKED;

@@ -11,7 +11,7 @@ use lib.Seq.{take-append-seam}
 use lib.Dec.{eqb, leb}
 use borrow.Author.Tests.{eqb-true, leb-true}
 use Rattle.utf8.specs.Encoding.{encode}
-use Rattle.utf8.proofs.Laws.Booleans.{and-left, and-right}
+use Rattle.utf8.proofs.Laws.Booleans.{and-left, and-right, cond-test}
 use Rattle.utf8.proofs.Laws.Encoding.{encode-one}
 use Rattle.utf8.proofs.TextCharacters.{take-back}
 use Rattle.turkish.specs.Letters.{starts}
@@ -20,7 +20,7 @@ use Rattle.turkish.specs.Stage.{stage, kept}
 use Rattle.turkish.specs.Postlude.{reserved, gained, appends, appendU, Hardening, hardenings, hardIn, hard, harden, postlude}
 use Rattle.turkish.specs.WordPass.{foldChar, fold, Passed, passStage, pass}
 use Rattle.turkish.specs.Calls.{chars, bytes, accepted, keptLength, stagePart, postludeText, foldText, passText}
-use Rattle.turkish.proofs.Laws.Tests.{cond-test, every}
+use Rattle.turkish.proofs.Laws.Tests.{every}
 use Rattle.turkish.proofs.Laws.Accepted.{accepted-text, bytes-chars}
 use Rattle.turkish.proofs.Laws.Words.{bytes-cons}
 use Rattle.turkish.proofs.PostludeRules.{gained-elim, postlude-one}

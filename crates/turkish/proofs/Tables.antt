@@ -1,6 +1,6 @@
 -- The tables of keys, all by one test: no key is the tail of another in its table, so at most one ends a text; each is of letters, no
--- more than its table's width, and begins on a character's start. A fact is had of a mark's table by its membership, as in
--- `table-whole DUr-table`. Assumes nothing.
+-- more than its table's width, and begins on a character's start. A fact is had of a table by its membership in the list.
+-- Assumes nothing.
 use Prim.Native.Nat.{ℕ, _≤_, _<_}
 use mathlib.Core.Path.{_≡_, refl, sym, _∙_}
 use mathlib.Core.Bool.{Bool, true, false, not, _&&_, _||_, true≢false, false≢true}
@@ -17,7 +17,7 @@ use Rattle.turkish.specs.Marks.{marked, yUm, sUn, yUz, sUnUz, lAr, nUz, 
 use Rattle.turkish.specs.Postlude.{hardenings, hardKeys}
 use Rattle.turkish.specs.Tables.{Table, tableOf, hardTable, tables, letters, whole}
 use Rattle.turkish.specs.Calls.{bytes}
-use Rattle.turkish.proofs.Laws.Tests.{every, every-at, getD-member}
+use Rattle.turkish.proofs.Laws.Tests.{every, every-at}
 
 -- ---- the test ----
 
@@ -52,60 +52,6 @@ tables-pass = refl
 table-passes : {t : Table} → List·Memᴰ t tables → (whole (t .width) (t .keys) ≡ true) × (every begins (t .keys) ≡ true) × (apart (t .keys) ≡ true)
 unfolding passes
 table-passes {t} m = and-each (whole (t .width) (t .keys)) (every begins (t .keys)) (apart (t .keys)) (every-at passes tables-pass m)
-
--- ---- which they are: each mark's table, and A_23 ----
-
-pub yUm-table : List·Memᴰ (tableOf 2 yUm) tables
-unfolding tables
-yUm-table = getD-member hardTable tables 0 refl
-
-pub sUn-table : List·Memᴰ (tableOf 3 sUn) tables
-unfolding tables
-sUn-table = getD-member hardTable tables 1 refl
-
-pub yUz-table : List·Memᴰ (tableOf 2 yUz) tables
-unfolding tables
-yUz-table = getD-member hardTable tables 2 refl
-
-pub sUnUz-table : List·Memᴰ (tableOf 5 sUnUz) tables
-unfolding tables
-sUnUz-table = getD-member hardTable tables 3 refl
-
-pub lAr-table : List·Memᴰ (tableOf 3 lAr) tables
-unfolding tables
-lAr-table = getD-member hardTable tables 4 refl
-
-pub nUz-table : List·Memᴰ (tableOf 3 nUz) tables
-unfolding tables
-nUz-table = getD-member hardTable tables 5 refl
-
-pub DUr-table : List·Memᴰ (tableOf 3 DUr) tables
-unfolding tables
-DUr-table = getD-member hardTable tables 6 refl
-
-pub cAsInA-table : List·Memᴰ (tableOf 6 cAsInA) tables
-unfolding tables
-cAsInA-table = getD-member hardTable tables 7 refl
-
-pub yDU-table : List·Memᴰ (tableOf 3 yDU) tables
-unfolding tables
-yDU-table = getD-member hardTable tables 8 refl
-
-pub ysA-table : List·Memᴰ (tableOf 3 ysA) tables
-unfolding tables
-ysA-table = getD-member hardTable tables 9 refl
-
-pub ymUs-table : List·Memᴰ (tableOf 3 ymUs) tables
-unfolding tables
-ymUs-table = getD-member hardTable tables 10 refl
-
-pub yken-table : List·Memᴰ (tableOf 3 yken) tables
-unfolding tables
-yken-table = getD-member hardTable tables 11 refl
-
-pub hard-table : List·Memᴰ hardTable tables
-unfolding tables
-hard-table = getD-member hardTable tables 12 refl
 
 -- ---- what it says ----
 
@@ -142,7 +88,7 @@ pub one-key : (cs : List ℕ) {t : Table} {j k : List ℕ} → List·Memᴰ t ta
 one-key cs t = apart-one cs (table-passes t .2)
 
 -- no key of a table has a 0 or more characters than its width
-pub table-whole : {t : Table} → List·Memᴰ t tables → whole (t .width) (t .keys) ≡ true
+table-whole : {t : Table} → List·Memᴰ t tables → whole (t .width) (t .keys) ≡ true
 table-whole t = table-passes t .0
 
 -- and each key of it alone has not

@@ -8,7 +8,7 @@ ghost use Rattle.utf8.specs.Behind.{readBack};
 ghost use Rattle.utf8.specs.Characters.{continuation, goesOn, lastWidth, firstWidth, charAt};
 
 // Whether a byte goes on with a character and begins none.
-pub fn is_continuation(b: u8) -> bool
+pub(crate) fn is_continuation(b: u8) -> bool
     ensures { λ r. ⌜ r ≡ continuation b ⌝ }
 {
     (0x80 <= b) & (b <= 0xBF)
@@ -53,7 +53,7 @@ fn continues_at(w: &[u8], i: usize) -> bool
 }
 
 // The bytes of the character that begins at place c.
-pub fn first_width(w: &[u8], c: usize) -> usize
+pub(crate) fn first_width(w: &[u8], c: usize) -> usize
     requires { ⌜ c < length (now w) ⌝ }
     ensures { λ r. ⌜ r ≡ firstWidth (now (w .entry)) c ⌝ }
 {

@@ -7,10 +7,10 @@ use mathlib.Core.List.{List, [], _∷_, List·Memᴰ, List·Memᴰ·head, List·
 use mathlib.Mathlib.Data.Bool.Basic.{partialOrderLaws}
 use lib.Dec.{eqb}
 use borrow.Author.Tests.{eqb-true, eq-eqb, ne-eqb}
-use Rattle.utf8.proofs.Laws.Booleans.{and-left, and-right}
+use Rattle.utf8.proofs.Laws.Booleans.{and-left, and-right, cond-test}
 use Rattle.turkish.specs.Letters.{text, any, has}
 use Rattle.turkish.specs.Harmony.{vowels, vowel, Partners, partnerTable, partnersIn, partner, lastVowel, beforeLastVowel}
-use Rattle.turkish.proofs.Laws.Tests.{cond-test, every, every-at}
+use Rattle.turkish.proofs.Laws.Tests.{every, every-at}
 
 -- where some character passes a test, one of them does
 any-member : (t : ℕ → Bool) (cs : List ℕ) → any t cs ≡ true → (c : ℕ) × List·Memᴰ c cs × (t c ≡ true)

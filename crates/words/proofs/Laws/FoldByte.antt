@@ -5,8 +5,7 @@ use mathlib.Core.Path.{_≡_, refl}
 use mathlib.Core.Bool.{true, _&&_}
 use lib.Dec.{eqb, leb}
 use borrow.Author.Tests.{leb-true, le-leb, eqb-true}
-use Rattle.utf8.proofs.Laws.Booleans.{and-left, and-right}
-use Rattle.turkish.proofs.Laws.Tests.{cond-test}
+use Rattle.utf8.proofs.Laws.Booleans.{and-left, and-right, cond-test}
 use Rattle.words.specs.FoldBytes.{foldByte}
 
 -- A to Z

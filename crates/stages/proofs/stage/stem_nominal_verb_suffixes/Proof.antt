@@ -6,6 +6,7 @@ use Rattle.turkish.specs.Grammar.{run}
 use Rattle.turkish.specs.Stage.{branch1, branch2, branch3, branch4, branch5, branch6, branches}
 use Rattle.turkish.specs.Calls.{chars}
 use Rattle.turkish.proofs.Laws.Flag.{branch1-keeps, branch2-keeps, branch3-lowers, branch4-keeps, branch5-keeps, branch6-keeps}
+use Rattle.stages.proofs.Laws.Told.{hears-toldAtEnd}
 use Rattle.stages.proofs.Laws.Ends.{branches-unfit}
 use Rattle.stages.proofs.Laws.Branches.{whole, open-whole, sees-made, at-end, someEnd-whole, cut-failed, first-passed, outcome-first, outcome-last, outcome-fail}
 use borrow.Author.Needs.{needs}
@@ -30,7 +31,7 @@ told-at-end-requires c κs =
 
 first-branch-requires : tie.Need-first-branch-requires
 first-branch-requires c κs =
-    let w = now (c .before .before .before .before .before .args .w) in (sees-made w (whole w) (c .before .before .before .look-back .ensures) (open-whole w), c .told-at-end .ensures)
+    let w = now (c .before .before .before .before .before .args .w) in (sees-made w (whole w) (c .before .before .before .look-back .ensures) (open-whole w), hears-toldAtEnd w _ (c .told-at-end .ensures))
 
 enum-known-c : tie.Need-enum-known-c
 enum-known-c c = search needs
@@ -48,7 +49,7 @@ enum-told c = search needs
 
 second-branch-requires : tie.Need-second-branch-requires
 second-branch-requires c κs =
-    let w = now (c .before .before .before .before .before .before .before .before .args .w) in (sees-made w (whole w) (c .before .before .before .before .before .before .look-back .ensures) (open-whole w), c .before .before .before .told-at-end .ensures)
+    let w = now (c .before .before .before .before .before .before .before .before .args .w) in (sees-made w (whole w) (c .before .before .before .before .before .before .look-back .ensures) (open-whole w), hears-toldAtEnd w _ (c .before .before .before .told-at-end .ensures))
 
 enum-known-c-2 : tie.Need-enum-known-c-2
 enum-known-c-2 c = search needs
@@ -66,7 +67,7 @@ enum-told-2 c = search needs
 
 third-branch-requires : tie.Need-third-branch-requires
 third-branch-requires c κs =
-    let w = now (c .before .before .before .before .before .before .before .before .before .before .before .args .w) in (sees-made w (whole w) (c .before .before .before .before .before .before .before .before .before .look-back .ensures) (open-whole w), c .before .before .before .before .before .before .told-at-end .ensures)
+    let w = now (c .before .before .before .before .before .before .before .before .before .before .before .args .w) in (sees-made w (whole w) (c .before .before .before .before .before .before .before .before .before .look-back .ensures) (open-whole w), hears-toldAtEnd w _ (c .before .before .before .before .before .before .told-at-end .ensures))
 
 enum-known-c-3 : tie.Need-enum-known-c-3
 enum-known-c-3 c = search needs
@@ -85,7 +86,7 @@ enum-told-3 c = search needs
 
 fourth-branch-requires : tie.Need-fourth-branch-requires
 fourth-branch-requires c κs =
-    let w = now (c .before .before .before .before .before .before .before .before .before .before .before .before .before .before .args .w) in (sees-made w (whole w) (c .before .before .before .before .before .before .before .before .before .before .before .before .look-back .ensures) (open-whole w), c .before .before .before .before .before .before .before .before .before .told-at-end .ensures)
+    let w = now (c .before .before .before .before .before .before .before .before .before .before .before .before .before .before .args .w) in (sees-made w (whole w) (c .before .before .before .before .before .before .before .before .before .before .before .before .look-back .ensures) (open-whole w), hears-toldAtEnd w _ (c .before .before .before .before .before .before .before .before .before .told-at-end .ensures))
 
 enum-known-c-4 : tie.Need-enum-known-c-4
 enum-known-c-4 c = search needs
@@ -105,7 +106,7 @@ enum-told-4 c = search needs
 
 fifth-branch-requires : tie.Need-fifth-branch-requires
 fifth-branch-requires c κs =
-    let w = now (c .before .before .before .before .before .before .before .before .before .before .before .before .before .before .before .before .before .args .w) in (sees-made w (whole w) (c .before .before .before .before .before .before .before .before .before .before .before .before .before .before .before .look-back .ensures) (open-whole w), c .before .before .before .before .before .before .before .before .before .before .before .before .told-at-end .ensures)
+    let w = now (c .before .before .before .before .before .before .before .before .before .before .before .before .before .before .before .before .before .args .w) in (sees-made w (whole w) (c .before .before .before .before .before .before .before .before .before .before .before .before .before .before .before .look-back .ensures) (open-whole w), hears-toldAtEnd w _ (c .before .before .before .before .before .before .before .before .before .before .before .before .told-at-end .ensures))
 
 enum-known-c-5 : tie.Need-enum-known-c-5
 enum-known-c-5 c = search needs
@@ -126,7 +127,7 @@ enum-told-5 c = search needs
 
 sixth-branch-requires : tie.Need-sixth-branch-requires
 sixth-branch-requires c κs =
-    let w = now (c .before .before .before .before .before .before .before .before .before .before .before .before .before .before .before .before .before .before .before .before .args .w) in (sees-made w (whole w) (c .before .before .before .before .before .before .before .before .before .before .before .before .before .before .before .before .before .before .look-back .ensures) (open-whole w), c .before .before .before .before .before .before .before .before .before .before .before .before .before .before .before .told-at-end .ensures)
+    let w = now (c .before .before .before .before .before .before .before .before .before .before .before .before .before .before .before .before .before .before .before .before .args .w) in (sees-made w (whole w) (c .before .before .before .before .before .before .before .before .before .before .before .before .before .before .before .before .before .before .look-back .ensures) (open-whole w), hears-toldAtEnd w _ (c .before .before .before .before .before .before .before .before .before .before .before .before .before .before .before .told-at-end .ensures))
 
 enum-known-c-6 : tie.Need-enum-known-c-6
 enum-known-c-6 c = search needs

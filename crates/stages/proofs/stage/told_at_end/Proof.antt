@@ -1,27 +1,27 @@
--- `stages::stage::told_at_end` meets its contract: harmony is not asked for, or asked for. Assumes nothing.
-use mathlib.Core.Path.{sym, subst}
+-- `stages::stage::told_at_end` meets its contract: harmony is asked for where the last letters say so. Assumes nothing.
+use mathlib.Core.Path.{sym, _∙_}
 use denote.Ref.{now}
 use borrow.Author.Needs.{needs}
-use Rattle.stages.specs.Told.{Hears}
-use Rattle.stages.proofs.Laws.Told.{hears-unasked, hears-told}
+use borrow.Author.Tests.{not-true, not-false}
+use Rattle.stages.specs.Told.{unasked, toldAtEnd}
+use Rattle.stages.proofs.Laws.Told.{hears-unasked}
 use Rattle.stages.proofs.stage.told_at_end.Statement.{statement}
 use Rattle.stages.proofs.stage.told_at_end.Tie as tie
 
 ends-harmonic-requires : tie.Need-ends-harmonic-requires
-ends-harmonic-requires c κs =
-    search needs
+ends-harmonic-requires c κs = search needs
 
 returns : tie.Need-returns
-returns c =
-    let s = c .before .before .before in hears-unasked (now (s .args .w)) (s .args .s .c)
+unfolding toldAtEnd unasked
+returns c = let silent = sym (c .before .ends-harmonic .ensures) ∙ not-true _ (c .if1 .taken) in sym (rw silent)
 
 hear-requires : tie.Need-hear-requires
 hear-requires c κs =
     let s = c .before .before .before in (s .pre .opens, hears-unasked (now (s .args .w)) (s .args .s .c))
 
 returns-2 : tie.Need-returns-2
-returns-2 c =
-    let s = c .before .before .before .before in subst (Hears (now (s .args .w)) (s .args .s .c)) (sym (c .hear .ensures)) (hears-told (now (s .args .w)) (s .args .s .c))
+unfolding toldAtEnd
+returns-2 c = let asked = sym (c .before .before .ends-harmonic .ensures) ∙ not-false _ (c .before .if1 .left) in c .hear .ensures ∙ sym (rw asked)
 
 pub told-at-end-spec : {M : Type 1} → statement M
 told-at-end-spec = tie.close (tie.spec ends-harmonic-requires returns hear-requires returns-2)
