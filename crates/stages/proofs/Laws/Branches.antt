@@ -1,10 +1,10 @@
 -- A branch by its marks: one after the other from where the one before it reaches, with deletions on the way; groups of marks as the
 -- grammar has them; and what the stage answers where a branch fits, and where none does. Assumes nothing.
-use Prim.Native.Nat.{ℕ, _+_}
+use Prim.Native.Nat.{ℕ}
 use mathlib.Core.Path.{_≡_, refl, sym, ap, _∙_}
-use mathlib.Core.Bool.{Bool, true, false, _&&_}
+use mathlib.Core.Bool.{Bool, true, false}
 use mathlib.Core.List.{List, [], _∷_}
-use native.Mathlib.Nat.{add-zero, zero-add}
+use native.Mathlib.Nat.{add-zero}
 use native.Mathlib.Omega.{arith}
 use lib.ListN.{length, drop, getD}
 use Rattle.utf8.specs.declared.cursor.Cursor.{Cursor}
@@ -13,8 +13,7 @@ use Rattle.utf8.specs.Steps.{moveTo}
 use Rattle.utf8.specs.Behind.{behind, backBy, deleted, Open}
 use Rattle.utf8.proofs.Laws.Behind.{behind-backBy, backBy-add, backBy-zero, open-backBy, behind-before, backBy-back, open-start}
 use Rattle.turkish.specs.Grammar.{Out, fail, took, more, after, first, markOf, Command, mark, _or_, run}
-use Rattle.turkish.specs.Marks.{yUm, sUn, yUz, sUnUz, lAr, nUz, DUr, cAsInA, yDU, ysA, ymUs, yken}
-use Rattle.turkish.specs.Stage.{person, branch1, branches, staged, stage}
+use Rattle.turkish.specs.Stage.{person, branches, staged, stage}
 use Rattle.turkish.specs.Calls.{chars, keptLength}
 use Rattle.turkish.proofs.Laws.Outcome.{Flagged, unfit, fits}
 use Rattle.stages.specs.declared.marked.Marked.{Marked}

@@ -17,7 +17,6 @@ use Rattle.turkish.specs.Harmony.{harmony}
 use Rattle.turkish.specs.Grammar.{Out, fail, took, more, after, first, asking, among, optionalY, Mark, markOf}
 use Rattle.stages.specs.declared.among.Among.{Among}
 use Rattle.stages.specs.declared.among.Among.the-variants.{Key, Nothing}
-use Rattle.stages.specs.declared.marked.Marked.{Marked}
 use Rattle.stages.specs.declared.marked.Marked.the-variants.{To, Fails}
 use Rattle.stages.specs.declared.passed.Passed.{Passed}
 use Rattle.stages.specs.declared.seen.Seen.{Seen}

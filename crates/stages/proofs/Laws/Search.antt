@@ -2,7 +2,7 @@
 use Prim.Native.Nat.{ℕ, suc, _+_, _-_, _≤_, _<_}
 use mathlib.Core.Path.{_≡_, refl, sym, ap, _∙_}
 use mathlib.Core.Bool.{Bool, true, false, cond, _&&_, false≢true}
-use mathlib.Core.List.{List, [], _∷_}
+use mathlib.Core.List.{List, _∷_}
 use native.Mathlib.Nat.{add-zero}
 use native.Mathlib.Omega.{arith}
 use lib.ListN.{length, drop, getD, drop-of-length-le, List·getD-eq-default, length-drop}
@@ -17,7 +17,6 @@ use Rattle.utf8.specs.Behind.{readBack, behind, backBy}
 use Rattle.utf8.proofs.Laws.Characters.{back-add, before-back}
 use Rattle.turkish.specs.Letters.{starts}
 use Rattle.stages.specs.declared.passed.Passed.{Passed}
-use Rattle.stages.specs.declared.among.Among.{Among}
 use Rattle.stages.specs.declared.among.Among.the-variants.{Key, Nothing}
 use Rattle.stages.specs.Keys.{row, rows}
 use Rattle.stages.specs.Passed.{passedTo, notPassed}

@@ -1,12 +1,11 @@
 -- What stands before a cursor and the record some characters back: going back twice, and with limit_backward at the word's start; and
 -- that both ways, and a deletion, leave the record open. Assumes nothing.
 use Prim.Native.Nat.{ℕ, _+_, _-_, _≤_}
-use mathlib.Core.Path.{_≡_, refl, sym, ap, _∙_}
-use mathlib.Core.Bool.{true}
+use mathlib.Core.Path.{_≡_, refl, ap, _∙_}
 use mathlib.Core.List.{List}
 use native.Mathlib.Omega.{arith}
 use native.Mathlib.Nat.{add-sub-cancel-left, sub-zero, zero-add}
-use lib.ListN.{length, drop, getD}
+use lib.ListN.{length, drop}
 use Rattle.utf8.specs.declared.cursor.Cursor.{Cursor}
 use Rattle.utf8.specs.Characters.{before, back}
 use Rattle.utf8.specs.Steps.{stands, moveTo}

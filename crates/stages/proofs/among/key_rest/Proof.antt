@@ -5,7 +5,7 @@ use Rattle.stages.specs.Passed.{notPassed}
 use Rattle.utf8.proofs.Laws.Characters.{back-le}
 use Rattle.utf8.specs.Behind.{readBack}
 use borrow.Author.Needs.{needs}
-use Rattle.stages.proofs.Laws.Search.{overPart, over-overPart, overPart-back, overPart-none, overPart-ends, overPart-differs, overPart-next}
+use Rattle.stages.proofs.Laws.Search.{overPart, over-overPart, overPart-none, overPart-ends, overPart-differs}
 use Rattle.stages.specs.Keys.{row}
 use Rattle.utf8.proofs.Laws.Steps.{stands-within}
 use Rattle.utf8.specs.Characters.{back}

@@ -30,26 +30,6 @@ loop-holds : tie.Need-loop-holds Inv-loop μ-loop
 loop-holds c =
     (omega arith, c .before .before .pre .1, refl)
 
-mul-k : tie.Need-mul-k Inv-loop μ-loop
-mul-k c =
-    search needs
-
-shared-slice-read-k : tie.Need-shared-slice-read-k Inv-loop μ-loop
-shared-slice-read-k c =
-    search needs
-
-add-i : tie.Need-add-i Inv-loop μ-loop
-add-i c =
-    search needs
-
-may-end-requires : tie.Need-may-end-requires Inv-loop μ-loop
-may-end-requires c κs =
-    search needs
-
-loop-less : tie.Need-loop-less Inv-loop μ-loop
-loop-less c =
-    omega arith
-
 loop-again : tie.Need-loop-again Inv-loop μ-loop
 loop-again c =
     let s = c .before .before .before .before .before .before .before in
@@ -64,10 +44,6 @@ mark-requires : tie.Need-mark-requires Inv-loop μ-loop
 mark-requires c κs =
     c .before .before .before .before .before .before .before .pre .0
 
-loop-less-2 : tie.Need-loop-less-2 Inv-loop μ-loop
-loop-less-2 c =
-    omega arith
-
 loop-again-2 : tie.Need-loop-again-2 Inv-loop μ-loop
 loop-again-2 c =
     let s = c .before .before .before .before .before .before .before .before .before .before in
@@ -78,14 +54,6 @@ loop-again-2 c =
     let inside = c .before .before .before .before .before .before .loop-test .taken in
     let fails = markOf-not w r group (l .i) inside (c .before .before .mark .ensures) (not-true _ (c .if2 .taken)) in
     (omega arith, l .inv .1, firstOf-next w r group (l .i) inside fails ∙ l .inv .2)
-
-is-harmonic-requires : tie.Need-is-harmonic-requires Inv-loop μ-loop
-is-harmonic-requires c κs =
-    search needs
-
-moved-to-requires : tie.Need-moved-to-requires Inv-loop μ-loop
-moved-to-requires c κs =
-    search needs
 
 returns : tie.Need-returns Inv-loop μ-loop
 returns c =
@@ -103,10 +71,6 @@ hear-requires : tie.Need-hear-requires Inv-loop μ-loop
 hear-requires c κs =
     (c .before .before .before .before .before .before .before .before .before .before .before .before .pre .0 .opens, c .before .before .before .before .before .before .before .before .before .loop .inv .1)
 
-moved-to-requires-2 : tie.Need-moved-to-requires-2 Inv-loop μ-loop
-moved-to-requires-2 c κs =
-    search needs
-
 returns-2 : tie.Need-returns-2 Inv-loop μ-loop
 unfolding toldAt
 returns-2 c =
@@ -120,10 +84,6 @@ returns-2 c =
     ap To (c .moved-to2 .ensures)
     ∙ firstOf-took w r group (l .i) (c .before .before .before .before .before .before .before .before .before .before .before .loop-test .taken) (c .before .before .before .before .before .before .before .mark .ensures) (not-false _ (c .before .before .before .before .before .if2 .left))
     (agrees-bound (behind w r) bound ∙ holds) ∙ l .inv .2
-
-loop-less-3 : tie.Need-loop-less-3 Inv-loop μ-loop
-loop-less-3 c =
-    omega arith
 
 loop-again-3 : tie.Need-loop-again-3 Inv-loop μ-loop
 unfolding toldAt
@@ -151,25 +111,6 @@ returns-3 c =
 pub first-of-spec : {M : Type 1} → statement M
 first-of-spec =
     tie.close
-    (tie.spec
-    Inv-loop
-    μ-loop
-    loop-holds
-    mul-k
-    shared-slice-read-k
-    add-i
-    may-end-requires
-    loop-less
-    loop-again
-    mark-requires
-    loop-less-2
-    loop-again-2
-    is-harmonic-requires
-    moved-to-requires
-    returns
-    hear-requires
-    moved-to-requires-2
-    returns-2
-    loop-less-3
-    loop-again-3
-    returns-3)
+    (tie.spec Inv-loop μ-loop loop-holds (λ c. search needs) (λ c. search needs) (λ c. search needs) (λ c κs. search needs)
+    (λ c. omega arith) loop-again mark-requires (λ c. omega arith) loop-again-2 (λ c κs. search needs) (λ c κs. search needs) returns
+    hear-requires (λ c κs. search needs) returns-2 (λ c. omega arith) loop-again-3 returns-3)

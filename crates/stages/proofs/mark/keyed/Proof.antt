@@ -8,15 +8,6 @@ use borrow.Author.Needs.{needs}
 use Rattle.stages.proofs.mark.keyed.Statement.{statement}
 use Rattle.stages.proofs.mark.keyed.Tie as tie
 
-find-among-b-requires : tie.Need-find-among-b-requires
-find-among-b-requires c κs = search needs
-
-enum-known-d : tie.Need-enum-known-d
-enum-known-d c = search needs
-
-enum-told : tie.Need-enum-told
-enum-told c = search needs
-
 returns : tie.Need-returns
 unfolding notPassed
 returns c =
@@ -41,9 +32,6 @@ returns-2 c =
     keyed-joined keys (s .args .joins) w (s .args .s .c) (c .before .before .before .before .before .find-among-b .ensures) (c .before .before .before .d .given .1) (c .before .if1 .taken)
     (c .mark-suffix-with-optional-y-consonant .ensures)
 
-to-requires : tie.Need-to-requires
-to-requires c κs = search needs
-
 returns-3 : tie.Need-returns-3
 returns-3 c =
     c .to .ensures ∙ (let s = c .before .before .before .before .before .before .before .before in
@@ -54,12 +42,5 @@ returns-3 c =
 pub keyed-spec : {M : Type 1} → statement M
 keyed-spec =
     tie.close
-    (tie.spec
-    find-among-b-requires
-    enum-known-d
-    enum-told
-    returns
-    mark-suffix-with-optional-y-consonant-requires
-    returns-2
-    to-requires
-    returns-3)
+    (tie.spec (λ c κs. search needs) (λ c. search needs) (λ c. search needs) returns mark-suffix-with-optional-y-consonant-requires
+    returns-2 (λ c κs. search needs) returns-3)

@@ -17,75 +17,6 @@ use borrow.Author.Needs.{needs}
 use Rattle.stages.proofs.mark.mark.Statement.{statement}
 use Rattle.stages.proofs.mark.mark.Tie as tie
 
-slice-aggregate-keyed : tie.Need-slice-aggregate-keyed
-slice-aggregate-keyed c = search needs
-
-keyed-requires : tie.Need-keyed-requires
-keyed-requires c κs = search needs
-
-slice-aggregate-keyed-2 : tie.Need-slice-aggregate-keyed-2
-slice-aggregate-keyed-2 c = search needs
-
-keyed-requires-2 : tie.Need-keyed-requires-2
-keyed-requires-2 c κs = search needs
-
-slice-aggregate-keyed-3 : tie.Need-slice-aggregate-keyed-3
-slice-aggregate-keyed-3 c = search needs
-
-keyed-requires-3 : tie.Need-keyed-requires-3
-keyed-requires-3 c κs = search needs
-
-slice-aggregate-keyed-4 : tie.Need-slice-aggregate-keyed-4
-slice-aggregate-keyed-4 c = search needs
-
-keyed-requires-4 : tie.Need-keyed-requires-4
-keyed-requires-4 c κs = search needs
-
-slice-aggregate-keyed-5 : tie.Need-slice-aggregate-keyed-5
-slice-aggregate-keyed-5 c = search needs
-
-keyed-requires-5 : tie.Need-keyed-requires-5
-keyed-requires-5 c κs = search needs
-
-slice-aggregate-keyed-6 : tie.Need-slice-aggregate-keyed-6
-slice-aggregate-keyed-6 c = search needs
-
-keyed-requires-6 : tie.Need-keyed-requires-6
-keyed-requires-6 c κs = search needs
-
-slice-aggregate-keyed-7 : tie.Need-slice-aggregate-keyed-7
-slice-aggregate-keyed-7 c = search needs
-
-keyed-requires-7 : tie.Need-keyed-requires-7
-keyed-requires-7 c κs = search needs
-
-slice-aggregate-keyed-8 : tie.Need-slice-aggregate-keyed-8
-slice-aggregate-keyed-8 c = search needs
-
-keyed-requires-8 : tie.Need-keyed-requires-8
-keyed-requires-8 c κs = search needs
-
-slice-aggregate-keyed-9 : tie.Need-slice-aggregate-keyed-9
-slice-aggregate-keyed-9 c = search needs
-
-keyed-requires-9 : tie.Need-keyed-requires-9
-keyed-requires-9 c κs = search needs
-
-slice-aggregate-keyed-10 : tie.Need-slice-aggregate-keyed-10
-slice-aggregate-keyed-10 c = search needs
-
-keyed-requires-10 : tie.Need-keyed-requires-10
-keyed-requires-10 c κs = search needs
-
-slice-aggregate-keyed-11 : tie.Need-slice-aggregate-keyed-11
-slice-aggregate-keyed-11 c = search needs
-
-keyed-requires-11 : tie.Need-keyed-requires-11
-keyed-requires-11 c κs = search needs
-
-mark-yken-requires : tie.Need-mark-yken-requires
-mark-yken-requires c κs = search needs
-
 -- a mark by its number
 numbered-passes : (w : List ℕ) (c : Cursor) {j k : ℕ} → j ≡ k
     → passes w c (markOf (unharmonic (numbered j)) (behind w c)) ≡ passes w c (markOf (unharmonic (numbered k)) (behind w c))
@@ -178,40 +109,8 @@ returns-13 c =
 pub mark-spec : {M : Type 1} → statement M
 mark-spec =
     tie.close
-    (tie.spec
-    slice-aggregate-keyed
-    keyed-requires
-    slice-aggregate-keyed-2
-    keyed-requires-2
-    slice-aggregate-keyed-3
-    keyed-requires-3
-    slice-aggregate-keyed-4
-    keyed-requires-4
-    slice-aggregate-keyed-5
-    keyed-requires-5
-    slice-aggregate-keyed-6
-    keyed-requires-6
-    slice-aggregate-keyed-7
-    keyed-requires-7
-    slice-aggregate-keyed-8
-    keyed-requires-8
-    slice-aggregate-keyed-9
-    keyed-requires-9
-    slice-aggregate-keyed-10
-    keyed-requires-10
-    slice-aggregate-keyed-11
-    keyed-requires-11
-    mark-yken-requires
-    returns
-    returns-2
-    returns-3
-    returns-4
-    returns-5
-    returns-6
-    returns-7
-    returns-8
-    returns-9
-    returns-10
-    returns-11
-    returns-12
-    returns-13)
+    (tie.spec (λ c. search needs) (λ c κs. search needs) (λ c. search needs) (λ c κs. search needs) (λ c. search needs)
+    (λ c κs. search needs) (λ c. search needs) (λ c κs. search needs) (λ c. search needs) (λ c κs. search needs) (λ c. search needs)
+    (λ c κs. search needs) (λ c. search needs) (λ c κs. search needs) (λ c. search needs) (λ c κs. search needs) (λ c. search needs)
+    (λ c κs. search needs) (λ c. search needs) (λ c κs. search needs) (λ c. search needs) (λ c κs. search needs) (λ c κs. search needs)
+    returns returns-2 returns-3 returns-4 returns-5 returns-6 returns-7 returns-8 returns-9 returns-10 returns-11 returns-12 returns-13)

@@ -26,10 +26,6 @@ part-part-start c =
     let r = s .args .c in
     low-length-le w r (s .pre)
 
-part-part-end : tie.Need-part-part-end
-part-part-end c =
-    search needs
-
 sub-read-back : tie.Need-sub-read-back
 sub-read-back c =
     let s = c .before .before .before in
@@ -51,10 +47,6 @@ read-back-requires-2 c κs =
     let r = s .args .c in
     omega (arith, cursor-part-le w r (s .pre), first-le w r (c .read-back .ensures))
 
-is-vowel-requires : tie.Need-is-vowel-requires
-is-vowel-requires c κs =
-    search needs
-
 returns : tie.Need-returns
 unfolding notPassed
 returns c =
@@ -70,10 +62,6 @@ add-to c =
     let r = s .args .c in
     omega (arith, cursor-length-le w r (s .pre), low-cursor-le w r (s .pre), first-le w r (c .before .before .before .before .before .before .read-back .ensures))
 
-to-requires : tie.Need-to-requires
-to-requires c κs =
-    search needs
-
 returns-2 : tie.Need-returns-2
 returns-2 c =
     let s = c .before .before .before .before .before .before .before .before .before .before .before in
@@ -81,10 +69,6 @@ returns-2 c =
     let r = s .args .c in
     c .to .ensures ∙ passes-joined w r (c .before .before .before .before .before .before .before .read-back .ensures) (c .before .before .before .before .before .before .read-back2 .ensures)
     (sym (c .before .before .before .before .before .is-vowel .ensures) ∙ not-false _ (c .before .before .before .before .if1 .left)) (c .before .before .if2 .taken)
-
-to-requires-2 : tie.Need-to-requires-2
-to-requires-2 c κs =
-    search needs
 
 returns-3 : tie.Need-returns-3
 returns-3 c =
@@ -97,17 +81,5 @@ returns-3 c =
 pub mark-suffix-with-optional-y-consonant-spec : {M : Type 1} → statement M
 mark-suffix-with-optional-y-consonant-spec =
     tie.close
-    (tie.spec
-    sub-part
-    part-part-start
-    part-part-end
-    sub-read-back
-    read-back-requires
-    read-back-requires-2
-    is-vowel-requires
-    returns
-    add-to
-    to-requires
-    returns-2
-    to-requires-2
-    returns-3)
+    (tie.spec sub-part part-part-start (λ c. search needs) sub-read-back read-back-requires read-back-requires-2 (λ c κs. search needs)
+    returns add-to (λ c κs. search needs) returns-2 (λ c κs. search needs) returns-3)

@@ -1,5 +1,5 @@
 -- `stages::mark::one_of` meets its contract: a group of one mark. Assumes nothing.
-use mathlib.Core.Path.{_≡_, sym, ap, subst, _∙_}
+use mathlib.Core.Path.{sym, ap, _∙_}
 use denote.Ref.{now}
 use borrow.Author.Tests.{not-true}
 use Rattle.utf8.specs.Behind.{behind}
@@ -11,9 +11,6 @@ use borrow.Author.Needs.{needs}
 use Rattle.stages.proofs.mark.one_of.Statement.{statement}
 use Rattle.stages.proofs.mark.one_of.Tie as tie
 
-may-end-requires : tie.Need-may-end-requires
-may-end-requires c κs = search needs
-
 returns : tie.Need-returns
 unfolding reach
 returns c =
@@ -22,9 +19,6 @@ returns c =
     let r = s .args .s .c in
     let unfit = sym (mayEnd-sees w (s .args .s) (s .pre .0) _ (c .before .may-end .ensures)) ∙ not-true _ (c .if1 .taken) in
     sym (ap (reach w r) (markOf-unfit _ _ unfit))
-
-slice-aggregate-first-of : tie.Need-slice-aggregate-first-of
-slice-aggregate-first-of c = search needs
 
 first-of-requires : tie.Need-first-of-requires
 first-of-requires c κs =
@@ -40,4 +34,4 @@ returns-2 c =
 pub one-of-spec : {M : Type 1} → statement M
 one-of-spec =
     tie.close
-    (tie.spec may-end-requires returns slice-aggregate-first-of first-of-requires returns-2)
+    (tie.spec (λ c κs. search needs) returns (λ c. search needs) first-of-requires returns-2)

@@ -1,5 +1,5 @@
 -- `stages::stage::fifth_branch` meets its contract: ymUs_ is tried from where a person's ending reaches, after its deletion. Assumes nothing.
-use mathlib.Core.Path.{_≡_, sym, ap, subst, _∙_}
+use mathlib.Core.Path.{sym, ap, subst, _∙_}
 use denote.Ref.{now}
 use mathlib.Core.Bool.{true}
 use mathlib.Core.List.{[], _∷_}
@@ -15,12 +15,8 @@ use Rattle.turkish.specs.Stage.{branch5}
 use Rattle.stages.specs.Numbered.{numbered, firstOf}
 use Rattle.stages.specs.Reach.{cutTo, triedTo}
 use Rattle.stages.proofs.Laws.Branches.{someEnd-sees, open-reach, after-fails, after-to, cut-tried, group-four, group-one}
-use borrow.Author.Needs.{needs}
 use Rattle.stages.proofs.stage.fifth_branch.Statement.{statement}
 use Rattle.stages.proofs.stage.fifth_branch.Tie as tie
-
-ends-fifth-requires : tie.Need-ends-fifth-requires
-ends-fifth-requires c κs = search needs
 
 returns : tie.Need-returns
 unfolding cutTo after run branch5 numbered
@@ -31,18 +27,9 @@ returns c =
     let none = someEnd-sees w (s .args .s) (s .pre .0) (4 ∷ 3 ∷ 2 ∷ 1 ∷ []) (c .before .ends-fifth .ensures) (not-true _ (c .if1 .taken)) in
     sym (ap (λ (o : Out). cutTo w r (after o (λ k. run (try (mark ymUs)) (drop k (behind w r))))) (sym (group-four (behind w r) 4 3 2 1) ∙ none))
 
-slice-aggregate-first-of : tie.Need-slice-aggregate-first-of
-slice-aggregate-first-of c = search needs
-
 first-of-requires : tie.Need-first-of-requires
 first-of-requires c κs =
     (c .before .before .before .before .pre .0, c .before .before .before .before .pre .1)
-
-enum-known-c : tie.Need-enum-known-c
-enum-known-c c = search needs
-
-enum-told : tie.Need-enum-told
-enum-told c = search needs
 
 returns-2 : tie.Need-returns-2
 unfolding run branch5 numbered
@@ -53,23 +40,12 @@ returns-2 c =
     after-fails w r (firstOf (4 ∷ 3 ∷ 2 ∷ 1 ∷ []) (behind w r)) _ (c .before .before .first-of .ensures) (c .enum-told .given .1)
     ∙ ap (λ (o : Out). cutTo w r (after o (λ k. run (try (mark ymUs)) (drop k (behind w r))))) (group-four (behind w r) 4 3 2 1)
 
-deleted-requires : tie.Need-deleted-requires
-deleted-requires c κs =
-    search needs
-
-slice-aggregate-try-of : tie.Need-slice-aggregate-try-of
-slice-aggregate-try-of c = search needs
-
 try-of-requires : tie.Need-try-of-requires
 try-of-requires c κs =
     let s = c .before .before .before .before .before .before .before .before .before .before in
     let w = now (s .args .w) in
     let r = s .args .s .c in
     subst (Open w) (sym (c .before .deleted .ensures)) (open-deleted w _ (open-reach w r _ (s .pre .0 .opens) (c .before .before .before .before .before .first-of .ensures) (c .before .before .before .c .given .1)))
-
-deleted-requires-2 : tie.Need-deleted-requires-2
-deleted-requires-2 c κs =
-    search needs
 
 returns-3 : tie.Need-returns-3
 unfolding run try branch5 numbered behind deleted
@@ -88,16 +64,5 @@ returns-3 c =
 pub fifth-branch-spec : {M : Type 1} → statement M
 fifth-branch-spec =
     tie.close
-    (tie.spec
-    ends-fifth-requires
-    returns
-    slice-aggregate-first-of
-    first-of-requires
-    enum-known-c
-    enum-told
-    returns-2
-    deleted-requires
-    slice-aggregate-try-of
-    try-of-requires
-    deleted-requires-2
-    returns-3)
+    (tie.spec (λ c κs. search needs) returns (λ c. search needs) first-of-requires (λ c. search needs) (λ c. search needs) returns-2
+    (λ c κs. search needs) (λ c. search needs) try-of-requires (λ c κs. search needs) returns-3)

@@ -1,5 +1,5 @@
 -- `stages::stage::first_branch` meets its contract: the group of line 314, and all from where it reaches on deleted. Assumes nothing.
-use mathlib.Core.Path.{_≡_, sym, ap, subst, _∙_}
+use mathlib.Core.Path.{sym, ap, _∙_}
 use denote.Ref.{now}
 use mathlib.Core.List.{[], _∷_}
 use borrow.Author.Tests.{not-true}
@@ -9,12 +9,8 @@ use Rattle.turkish.specs.Stage.{branch1}
 use Rattle.stages.specs.Numbered.{numbered, firstOf}
 use Rattle.stages.specs.Reach.{cutTo}
 use Rattle.stages.proofs.Laws.Branches.{someEnd-sees, group-four, cut-fails, cut-reach}
-use borrow.Author.Needs.{needs}
 use Rattle.stages.proofs.stage.first_branch.Statement.{statement}
 use Rattle.stages.proofs.stage.first_branch.Tie as tie
-
-ends-first-requires : tie.Need-ends-first-requires
-ends-first-requires c κs = search needs
 
 returns : tie.Need-returns
 unfolding cutTo branch1 numbered
@@ -25,18 +21,9 @@ returns c =
     let none = someEnd-sees w (s .args .s) (s .pre .0) (11 ∷ 9 ∷ 10 ∷ 12 ∷ []) (c .before .ends-first .ensures) (not-true _ (c .if1 .taken)) in
     sym (ap (cutTo w r) (sym (group-four (behind w r) 11 9 10 12) ∙ none))
 
-slice-aggregate-first-of : tie.Need-slice-aggregate-first-of
-slice-aggregate-first-of c = search needs
-
 first-of-requires : tie.Need-first-of-requires
 first-of-requires c κs =
     (c .before .before .before .before .pre .0, c .before .before .before .before .pre .1)
-
-enum-known-c : tie.Need-enum-known-c
-enum-known-c c = search needs
-
-enum-told : tie.Need-enum-told
-enum-told c = search needs
 
 returns-2 : tie.Need-returns-2
 unfolding branch1 numbered
@@ -46,10 +33,6 @@ returns-2 c =
     let r = s .args .s .c in
     cut-fails w r (firstOf (11 ∷ 9 ∷ 10 ∷ 12 ∷ []) (behind w r)) (c .before .before .first-of .ensures) (c .enum-told .given .1)
     ∙ ap (cutTo w r) (group-four (behind w r) 11 9 10 12)
-
-deleted-requires : tie.Need-deleted-requires
-deleted-requires c κs =
-    search needs
 
 returns-3 : tie.Need-returns-3
 unfolding branch1 numbered
@@ -63,13 +46,5 @@ returns-3 c =
 pub first-branch-spec : {M : Type 1} → statement M
 first-branch-spec =
     tie.close
-    (tie.spec
-    ends-first-requires
-    returns
-    slice-aggregate-first-of
-    first-of-requires
-    enum-known-c
-    enum-told
-    returns-2
-    deleted-requires
-    returns-3)
+    (tie.spec (λ c κs. search needs) returns (λ c. search needs) first-of-requires (λ c. search needs) (λ c. search needs) returns-2
+    (λ c κs. search needs) returns-3)

@@ -1,5 +1,5 @@
 -- `stages::stage::fourth_branch` meets its contract: what must follow nUz goes on from where that reaches. Assumes nothing.
-use mathlib.Core.Path.{_≡_, sym, ap, subst, _∙_}
+use mathlib.Core.Path.{ap, _∙_}
 use denote.Ref.{now}
 use mathlib.Core.List.{[], _∷_}
 use borrow.Author.Needs.{needs}
@@ -12,19 +12,12 @@ use Rattle.stages.specs.Numbered.{numbered, firstOf}
 use Rattle.stages.specs.Reach.{reach, cutTo}
 use Rattle.stages.proofs.Laws.Told.{hears-unasked}
 use Rattle.stages.proofs.Laws.Branches.{open-reach, seen-c, sees-made, after-fails, after-to, cut-fails, cut-reach, group-two}
-use borrow.Author.Needs.{needs}
 use Rattle.stages.proofs.stage.fourth_branch.Statement.{statement}
 use Rattle.stages.proofs.stage.fourth_branch.Tie as tie
 
 one-of-requires : tie.Need-one-of-requires
 one-of-requires c κs =
     (c .before .pre .0, c .before .pre .1)
-
-enum-known-c : tie.Need-enum-known-c
-enum-known-c c = search needs
-
-enum-told : tie.Need-enum-told
-enum-told c = search needs
 
 returns : tie.Need-returns
 unfolding run branch4 numbered
@@ -41,21 +34,12 @@ look-back-requires c κs =
     let r = s .args .s .c in
     open-reach w r _ (s .pre .0 .opens) (c .before .before .before .one-of .ensures) (c .before .c .given .1)
 
-slice-aggregate-first-of : tie.Need-slice-aggregate-first-of
-slice-aggregate-first-of c = search needs
-
 first-of-requires : tie.Need-first-of-requires
 first-of-requires c κs =
     let s = c .before .before .before .before .before .before .before in
     let w = now (s .args .w) in
     let r = s .args .s .c in
     (sees-made w _ (c .before .look-back .ensures) (open-reach w r _ (s .pre .0 .opens) (c .before .before .before .before .before .one-of .ensures) (c .before .before .before .c .given .1)), hears-unasked w (c .before .look-back .result .c))
-
-enum-known-d : tie.Need-enum-known-d
-enum-known-d c = search needs
-
-enum-told-2 : tie.Need-enum-told-2
-enum-told-2 c = search needs
 
 returns-2 : tie.Need-returns-2
 unfolding run branch4 numbered
@@ -69,10 +53,6 @@ returns-2 c =
     let group = group-two (behind w d) 9 10 in
     let goes-on = after-to w r (markOf nUz (behind w r)) (run (mark yDU or mark ysA)) (c .before .before .before .before .before .before .before .before .one-of .ensures) (c .before .before .before .before .before .before .c .given .1) in
     cut-fails w d _ is (c .enum-told2 .given .1) ∙ ap (cutTo w d) group ∙ goes-on
-
-deleted-requires : tie.Need-deleted-requires
-deleted-requires c κs =
-    search needs
 
 returns-3 : tie.Need-returns-3
 unfolding run branch4 numbered
@@ -90,16 +70,5 @@ returns-3 c =
 pub fourth-branch-spec : {M : Type 1} → statement M
 fourth-branch-spec =
     tie.close
-    (tie.spec
-    one-of-requires
-    enum-known-c
-    enum-told
-    returns
-    look-back-requires
-    slice-aggregate-first-of
-    first-of-requires
-    enum-known-d
-    enum-told-2
-    returns-2
-    deleted-requires
-    returns-3)
+    (tie.spec one-of-requires (λ c. search needs) (λ c. search needs) returns look-back-requires (λ c. search needs) first-of-requires
+    (λ c. search needs) (λ c. search needs) returns-2 (λ c κs. search needs) returns-3)

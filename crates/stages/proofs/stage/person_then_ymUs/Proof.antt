@@ -1,5 +1,5 @@
 -- `stages::stage::person_then_ymUs` meets its contract: ymUs_ goes on from where a person's ending, or nothing, reaches. Assumes nothing.
-use mathlib.Core.Path.{_≡_, sym, ap, subst, _∙_}
+use mathlib.Core.Path.{sym, ap, _∙_}
 use denote.Ref.{now}
 use mathlib.Core.List.{[], _∷_}
 use lib.ListN.{drop}
@@ -14,9 +14,6 @@ use Rattle.stages.proofs.Laws.Branches.{open-tried, seen-c, sees-made, 
 use borrow.Author.Needs.{needs}
 use Rattle.stages.proofs.stage.person_then_ymUs.Statement.{statement}
 use Rattle.stages.proofs.stage.person_then_ymUs.Tie as tie
-
-slice-aggregate-try-of : tie.Need-slice-aggregate-try-of
-slice-aggregate-try-of c = search needs
 
 try-of-requires : tie.Need-try-of-requires
 try-of-requires c κs =
@@ -46,4 +43,4 @@ returns c =
 pub person-then-ymUs-spec : {M : Type 1} → statement M
 person-then-ymUs-spec =
     tie.close
-    (tie.spec slice-aggregate-try-of try-of-requires look-back-requires one-of-requires returns)
+    (tie.spec (λ c. search needs) try-of-requires look-back-requires one-of-requires returns)

@@ -1,5 +1,5 @@
 -- `stages::stage::second_branch` meets its contract: what follows cAsInA goes on from where that reaches. Assumes nothing.
-use mathlib.Core.Path.{_≡_, sym, ap, subst, _∙_}
+use mathlib.Core.Path.{_∙_}
 use denote.Ref.{now}
 use borrow.Author.Needs.{needs}
 use Rattle.utf8.specs.Behind.{behind}
@@ -8,19 +8,12 @@ use Rattle.turkish.specs.Marks.{cAsInA, ymUs}
 use Rattle.turkish.specs.Stage.{person, branch2}
 use Rattle.stages.specs.Numbered.{numbered}
 use Rattle.stages.proofs.Laws.Branches.{open-reach, after-fails, after-to, cut-fails, cut-reach}
-use borrow.Author.Needs.{needs}
 use Rattle.stages.proofs.stage.second_branch.Statement.{statement}
 use Rattle.stages.proofs.stage.second_branch.Tie as tie
 
 one-of-requires : tie.Need-one-of-requires
 one-of-requires c κs =
     (c .before .pre .0, c .before .pre .1)
-
-enum-known-c : tie.Need-enum-known-c
-enum-known-c c = search needs
-
-enum-told : tie.Need-enum-told
-enum-told c = search needs
 
 returns : tie.Need-returns
 unfolding run branch2 numbered
@@ -37,12 +30,6 @@ person-then-ymUs-requires c κs =
     let r = s .args .s .c in
     open-reach w r _ (s .pre .0 .opens) (c .before .before .before .one-of .ensures) (c .before .c .given .1)
 
-enum-known-d : tie.Need-enum-known-d
-enum-known-d c = search needs
-
-enum-told-2 : tie.Need-enum-told-2
-enum-told-2 c = search needs
-
 returns-2 : tie.Need-returns-2
 unfolding run branch2 numbered
 returns-2 c =
@@ -51,10 +38,6 @@ returns-2 c =
     let r = s .args .s .c in
     cut-fails w _ _ (c .before .before .person-then-ymUs .ensures) (c .enum-told2 .given .1)
     ∙ after-to w r (markOf cAsInA (behind w r)) (run (person then mark ymUs)) (c .before .before .before .before .before .before .one-of .ensures) (c .before .before .before .before .c .given .1)
-
-deleted-requires : tie.Need-deleted-requires
-deleted-requires c κs =
-    search needs
 
 returns-3 : tie.Need-returns-3
 unfolding run branch2 numbered
@@ -68,14 +51,5 @@ returns-3 c =
 pub second-branch-spec : {M : Type 1} → statement M
 second-branch-spec =
     tie.close
-    (tie.spec
-    one-of-requires
-    enum-known-c
-    enum-told
-    returns
-    person-then-ymUs-requires
-    enum-known-d
-    enum-told-2
-    returns-2
-    deleted-requires
-    returns-3)
+    (tie.spec one-of-requires (λ c. search needs) (λ c. search needs) returns person-then-ymUs-requires (λ c. search needs)
+    (λ c. search needs) returns-2 (λ c κs. search needs) returns-3)

@@ -16,9 +16,6 @@ look-back-requires : tie.Need-look-back-requires
 look-back-requires c κs =
     open-whole (now (c .before .args .w))
 
-ends-any-requires : tie.Need-ends-any-requires
-ends-any-requires c κs = search needs
-
 returns : tie.Need-returns
 returns c =
     let w = now (c .before .before .before .before .args .w) in
@@ -32,9 +29,6 @@ first-branch-requires : tie.Need-first-branch-requires
 first-branch-requires c κs =
     let w = now (c .before .before .before .before .before .args .w) in (sees-made w (whole w) (c .before .before .before .look-back .ensures) (open-whole w), c .told-at-end .ensures)
 
-enum-known-c : tie.Need-enum-known-c
-enum-known-c c = search needs
-
 returns-2 : tie.Need-returns-2
 unfolding run branches
 returns-2 c =
@@ -43,15 +37,9 @@ returns-2 c =
     outcome-first w _ (branch1-keeps (chars w)) (at-end w at branch1 (c .before .before .before .first-branch .ensures)) (c .before .c .given .1)
     (refl)
 
-enum-told : tie.Need-enum-told
-enum-told c = search needs
-
 second-branch-requires : tie.Need-second-branch-requires
 second-branch-requires c κs =
     let w = now (c .before .before .before .before .before .before .before .before .args .w) in (sees-made w (whole w) (c .before .before .before .before .before .before .look-back .ensures) (open-whole w), c .before .before .before .told-at-end .ensures)
-
-enum-known-c-2 : tie.Need-enum-known-c-2
-enum-known-c-2 c = search needs
 
 returns-3 : tie.Need-returns-3
 unfolding run branches
@@ -61,15 +49,9 @@ returns-3 c =
     outcome-first w _ (branch2-keeps (chars w)) (at-end w at branch2 (c .before .before .before .second-branch .ensures)) (c .before .c2 .given .1)
     (first-passed _ (cut-failed w (whole w) _ (at-end w at branch1 (c .before .before .before .before .before .before .first-branch .ensures)) (c .before .before .before .before .enum-told .given .1)))
 
-enum-told-2 : tie.Need-enum-told-2
-enum-told-2 c = search needs
-
 third-branch-requires : tie.Need-third-branch-requires
 third-branch-requires c κs =
     let w = now (c .before .before .before .before .before .before .before .before .before .before .before .args .w) in (sees-made w (whole w) (c .before .before .before .before .before .before .before .before .before .look-back .ensures) (open-whole w), c .before .before .before .before .before .before .told-at-end .ensures)
-
-enum-known-c-3 : tie.Need-enum-known-c-3
-enum-known-c-3 c = search needs
 
 returns-4 : tie.Need-returns-4
 unfolding run branches
@@ -80,15 +62,9 @@ returns-4 c =
     (first-passed _ (cut-failed w (whole w) _ (at-end w at branch1 (c .before .before .before .before .before .before .before .before .before .first-branch .ensures)) (c .before .before .before .before .before .before .before .enum-told .given .1))
     ∙ first-passed _ (cut-failed w (whole w) _ (at-end w at branch2 (c .before .before .before .before .before .before .second-branch .ensures)) (c .before .before .before .before .enum-told2 .given .1)))
 
-enum-told-3 : tie.Need-enum-told-3
-enum-told-3 c = search needs
-
 fourth-branch-requires : tie.Need-fourth-branch-requires
 fourth-branch-requires c κs =
     let w = now (c .before .before .before .before .before .before .before .before .before .before .before .before .before .before .args .w) in (sees-made w (whole w) (c .before .before .before .before .before .before .before .before .before .before .before .before .look-back .ensures) (open-whole w), c .before .before .before .before .before .before .before .before .before .told-at-end .ensures)
-
-enum-known-c-4 : tie.Need-enum-known-c-4
-enum-known-c-4 c = search needs
 
 returns-5 : tie.Need-returns-5
 unfolding run branches
@@ -100,15 +76,9 @@ returns-5 c =
     ∙ first-passed _ (cut-failed w (whole w) _ (at-end w at branch2 (c .before .before .before .before .before .before .before .before .before .second-branch .ensures)) (c .before .before .before .before .before .before .before .enum-told2 .given .1))
     ∙ first-passed _ (cut-failed w (whole w) _ (at-end w at branch3 (c .before .before .before .before .before .before .third-branch .ensures)) (c .before .before .before .before .enum-told3 .given .1)))
 
-enum-told-4 : tie.Need-enum-told-4
-enum-told-4 c = search needs
-
 fifth-branch-requires : tie.Need-fifth-branch-requires
 fifth-branch-requires c κs =
     let w = now (c .before .before .before .before .before .before .before .before .before .before .before .before .before .before .before .before .before .args .w) in (sees-made w (whole w) (c .before .before .before .before .before .before .before .before .before .before .before .before .before .before .before .look-back .ensures) (open-whole w), c .before .before .before .before .before .before .before .before .before .before .before .before .told-at-end .ensures)
-
-enum-known-c-5 : tie.Need-enum-known-c-5
-enum-known-c-5 c = search needs
 
 returns-6 : tie.Need-returns-6
 unfolding run branches
@@ -121,15 +91,9 @@ returns-6 c =
     ∙ first-passed _ (cut-failed w (whole w) _ (at-end w at branch3 (c .before .before .before .before .before .before .before .before .before .third-branch .ensures)) (c .before .before .before .before .before .before .before .enum-told3 .given .1))
     ∙ first-passed _ (cut-failed w (whole w) _ (at-end w at branch4 (c .before .before .before .before .before .before .fourth-branch .ensures)) (c .before .before .before .before .enum-told4 .given .1)))
 
-enum-told-5 : tie.Need-enum-told-5
-enum-told-5 c = search needs
-
 sixth-branch-requires : tie.Need-sixth-branch-requires
 sixth-branch-requires c κs =
     let w = now (c .before .before .before .before .before .before .before .before .before .before .before .before .before .before .before .before .before .before .before .before .args .w) in (sees-made w (whole w) (c .before .before .before .before .before .before .before .before .before .before .before .before .before .before .before .before .before .before .look-back .ensures) (open-whole w), c .before .before .before .before .before .before .before .before .before .before .before .before .before .before .before .told-at-end .ensures)
-
-enum-known-c-6 : tie.Need-enum-known-c-6
-enum-known-c-6 c = search needs
 
 returns-7 : tie.Need-returns-7
 unfolding run branches
@@ -142,9 +106,6 @@ returns-7 c =
     ∙ first-passed _ (cut-failed w (whole w) _ (at-end w at branch3 (c .before .before .before .before .before .before .before .before .before .before .before .before .third-branch .ensures)) (c .before .before .before .before .before .before .before .before .before .before .enum-told3 .given .1))
     ∙ first-passed _ (cut-failed w (whole w) _ (at-end w at branch4 (c .before .before .before .before .before .before .before .before .before .fourth-branch .ensures)) (c .before .before .before .before .before .before .before .enum-told4 .given .1))
     ∙ first-passed _ (cut-failed w (whole w) _ (at-end w at branch5 (c .before .before .before .before .before .before .fifth-branch .ensures)) (c .before .before .before .before .enum-told5 .given .1)))
-
-enum-told-6 : tie.Need-enum-told-6
-enum-told-6 c = search needs
 
 returns-8 : tie.Need-returns-8
 unfolding run branches
@@ -162,33 +123,7 @@ returns-8 c =
 pub stem-nominal-verb-suffixes-spec : {M : Type 1} → statement M
 stem-nominal-verb-suffixes-spec =
     tie.close
-    (tie.spec
-    look-back-requires
-    ends-any-requires
-    returns
-    told-at-end-requires
-    first-branch-requires
-    enum-known-c
-    returns-2
-    enum-told
-    second-branch-requires
-    enum-known-c-2
-    returns-3
-    enum-told-2
-    third-branch-requires
-    enum-known-c-3
-    returns-4
-    enum-told-3
-    fourth-branch-requires
-    enum-known-c-4
-    returns-5
-    enum-told-4
-    fifth-branch-requires
-    enum-known-c-5
-    returns-6
-    enum-told-5
-    sixth-branch-requires
-    enum-known-c-6
-    returns-7
-    enum-told-6
-    returns-8)
+    (tie.spec look-back-requires (λ c κs. search needs) returns told-at-end-requires first-branch-requires (λ c. search needs) returns-2
+    (λ c. search needs) second-branch-requires (λ c. search needs) returns-3 (λ c. search needs) third-branch-requires (λ c. search needs)
+    returns-4 (λ c. search needs) fourth-branch-requires (λ c. search needs) returns-5 (λ c. search needs) fifth-branch-requires
+    (λ c. search needs) returns-6 (λ c. search needs) sixth-branch-requires (λ c. search needs) returns-7 (λ c. search needs) returns-8)

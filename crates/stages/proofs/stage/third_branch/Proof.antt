@@ -1,5 +1,5 @@
 -- `stages::stage::third_branch` meets its contract: what may follow lAr is tried from where that reaches, after its deletion. Assumes nothing.
-use mathlib.Core.Path.{_≡_, sym, ap, subst, _∙_}
+use mathlib.Core.Path.{sym, ap, subst, _∙_}
 use denote.Ref.{now}
 use mathlib.Core.Bool.{true}
 use mathlib.Core.List.{[], _∷_}
@@ -13,19 +13,12 @@ use Rattle.turkish.specs.Stage.{branch3}
 use Rattle.stages.specs.Numbered.{numbered, firstOf}
 use Rattle.stages.specs.Reach.{cutTo, triedTo}
 use Rattle.stages.proofs.Laws.Branches.{open-reach, after-fails, after-to, cut-tried, cut-unset, group-four}
-use borrow.Author.Needs.{needs}
 use Rattle.stages.proofs.stage.third_branch.Statement.{statement}
 use Rattle.stages.proofs.stage.third_branch.Tie as tie
 
 one-of-requires : tie.Need-one-of-requires
 one-of-requires c κs =
     (c .before .pre .0, c .before .pre .1)
-
-enum-known-c : tie.Need-enum-known-c
-enum-known-c c = search needs
-
-enum-told : tie.Need-enum-told
-enum-told c = search needs
 
 returns : tie.Need-returns
 unfolding run branch3 numbered
@@ -35,23 +28,12 @@ returns c =
     let r = s .args .s .c in
     after-fails w r (markOf lAr (behind w r)) _ (c .before .before .one-of .ensures) (c .enum-told .given .1)
 
-deleted-requires : tie.Need-deleted-requires
-deleted-requires c κs =
-    search needs
-
-slice-aggregate-try-of : tie.Need-slice-aggregate-try-of
-slice-aggregate-try-of c = search needs
-
 try-of-requires : tie.Need-try-of-requires
 try-of-requires c κs =
     let s = c .before .before .before .before .before .before .before in
     let w = now (s .args .w) in
     let r = s .args .s .c in
     subst (Open w) (sym (c .before .deleted .ensures)) (open-deleted w _ (open-reach w r _ (s .pre .0 .opens) (c .before .before .before .before .before .one-of .ensures) (c .before .before .before .c .given .1)))
-
-deleted-requires-2 : tie.Need-deleted-requires-2
-deleted-requires-2 c κs =
-    search needs
 
 returns-2 : tie.Need-returns-2
 unfolding run try branch3 numbered behind deleted
@@ -71,13 +53,5 @@ returns-2 c =
 pub third-branch-spec : {M : Type 1} → statement M
 third-branch-spec =
     tie.close
-    (tie.spec
-    one-of-requires
-    enum-known-c
-    enum-told
-    returns
-    deleted-requires
-    slice-aggregate-try-of
-    try-of-requires
-    deleted-requires-2
-    returns-2)
+    (tie.spec one-of-requires (λ c. search needs) (λ c. search needs) returns (λ c κs. search needs) (λ c. search needs) try-of-requires
+    (λ c κs. search needs) returns-2)

@@ -7,10 +7,6 @@ use Rattle.stages.proofs.Laws.Told.{hears-unasked, hears-told}
 use Rattle.stages.proofs.stage.told_at_end.Statement.{statement}
 use Rattle.stages.proofs.stage.told_at_end.Tie as tie
 
-ends-harmonic-requires : tie.Need-ends-harmonic-requires
-ends-harmonic-requires c κs =
-    search needs
-
 returns : tie.Need-returns
 returns c =
     let s = c .before .before .before in hears-unasked (now (s .args .w)) (s .args .s .c)
@@ -24,4 +20,5 @@ returns-2 c =
     let s = c .before .before .before .before in subst (Hears (now (s .args .w)) (s .args .s .c)) (sym (c .hear .ensures)) (hears-told (now (s .args .w)) (s .args .s .c))
 
 pub told-at-end-spec : {M : Type 1} → statement M
-told-at-end-spec = tie.close (tie.spec ends-harmonic-requires returns hear-requires returns-2)
+told-at-end-spec = tie.close
+    (tie.spec (λ c κs. search needs) returns hear-requires returns-2)

@@ -1,5 +1,5 @@
 -- `stages::stage::try_of` meets its contract: the group is tried from what is seen before the record. Assumes nothing.
-use mathlib.Core.Path.{_≡_, sym, ap, subst, _∙_}
+use mathlib.Core.Path.{ap, _∙_}
 use denote.Ref.{now}
 use Rattle.utf8.specs.declared.cursor.Cursor.{Cursor}
 use Rattle.utf8.specs.Behind.{behind}
@@ -22,12 +22,6 @@ first-of-requires c κs =
     let r = s .args .c in
     (sees-made w r (c .look-back .ensures) (s .pre), hears-unasked w (c .look-back .result .c))
 
-enum-known-d : tie.Need-enum-known-d
-enum-known-d c = search needs
-
-enum-told : tie.Need-enum-told
-enum-told c = search needs
-
 returns : tie.Need-returns
 returns c =
     let s = c .before .before .before .before .before .before in
@@ -49,4 +43,4 @@ returns-2 c =
 pub try-of-spec : {M : Type 1} → statement M
 try-of-spec =
     tie.close
-    (tie.spec look-back-requires first-of-requires enum-known-d enum-told returns returns-2)
+    (tie.spec look-back-requires first-of-requires (λ c. search needs) (λ c. search needs) returns returns-2)
