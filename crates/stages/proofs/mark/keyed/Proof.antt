@@ -10,34 +10,25 @@ use Rattle.stages.proofs.mark.keyed.Tie as tie
 
 returns : tie.Need-returns
 unfolding notPassed
-returns c =
-    let s = c .before .before .before .before .before in
-    let w = now (s .args .w) in
-    let keys = rows (s .args .width) (now (s .args .keys)) in
-    keyed-nothing keys (s .args .joins) w (s .args .s .c) (c .before .before .find-among-b .ensures) (c .enum-told .given .1)
+returns c = keyed-nothing _ _ _ _ (c .before .before .find-among-b .ensures) (c .enum-told .given .1)
 
 mark-suffix-with-optional-y-consonant-requires :
     tie.Need-mark-suffix-with-optional-y-consonant-requires
 mark-suffix-with-optional-y-consonant-requires c κs =
-    let s = c .before .before .before .before .before .before .before in
-    let w = now (s .args .w) in
-    let keys = rows (s .args .width) (now (s .args .keys)) in
-    keyed-open keys (s .args .joins) w (s .args .s .c) (c .before .before .before .before .find-among-b .ensures) (c .before .before .d .given .1) (s .pre .0 .opens)
+    let d = c .before .before in
+    let f = d .before .before in
+    let s = f .before .before .before in
+    keyed-open _ (s .args .joins) _ _ (f .find-among-b .ensures) (d .d .given .1) (s .pre .0 .opens)
 
 returns-2 : tie.Need-returns-2
 returns-2 c =
-    let s = c .before .before .before .before .before .before .before .before in
-    let w = now (s .args .w) in
-    let keys = rows (s .args .width) (now (s .args .keys)) in
-    keyed-joined keys (s .args .joins) w (s .args .s .c) (c .before .before .before .before .before .find-among-b .ensures) (c .before .before .before .d .given .1) (c .before .if1 .taken)
-    (c .mark-suffix-with-optional-y-consonant .ensures)
+    let d = c .before .before .before in
+    keyed-joined _ _ _ _ (d .before .before .find-among-b .ensures) (d .d .given .1) (c .before .if1 .taken) (c .mark-suffix-with-optional-y-consonant .ensures)
 
 returns-3 : tie.Need-returns-3
 returns-3 c =
-    c .to .ensures ∙ (let s = c .before .before .before .before .before .before .before .before in
-    let w = now (s .args .w) in
-    let keys = rows (s .args .width) (now (s .args .keys)) in
-    keyed-alone keys (s .args .joins) w (s .args .s .c) (c .before .before .before .before .before .find-among-b .ensures) (c .before .before .before .d .given .1) (c .before .if1 .left))
+    let d = c .before .before .before in
+    c .to .ensures ∙ keyed-alone _ _ _ _ (d .before .before .find-among-b .ensures) (d .d .given .1) (c .before .if1 .left)
 
 pub keyed-spec : {M : Type 1} → statement M
 keyed-spec =

@@ -24,63 +24,51 @@ numbered-passes w c e = ap (λ (n : ℕ). passes w c (markOf (unharmonic (number
 
 returns : tie.Need-returns
 unfolding numbered unharmonic keyedBy yUm marked fromEnd text rows rowsWithin row upToZero
-returns c =
-    c .keyed .ensures ∙ numbered-passes _ _ (sym (c .before .before .match .keys1))
+returns c = c .keyed .ensures ∙ numbered-passes _ _ (sym (c .before .before .match .keys1))
 
 returns-2 : tie.Need-returns-2
 unfolding numbered unharmonic keyedBy sUn marked fromEnd text rows rowsWithin row upToZero
-returns-2 c =
-    c .keyed2 .ensures ∙ numbered-passes _ _ (sym (c .before .before .match .keys2))
+returns-2 c = c .keyed2 .ensures ∙ numbered-passes _ _ (sym (c .before .before .match .keys2))
 
 returns-3 : tie.Need-returns-3
 unfolding numbered unharmonic keyedBy yUz marked fromEnd text rows rowsWithin row upToZero
-returns-3 c =
-    c .keyed3 .ensures ∙ numbered-passes _ _ (sym (c .before .before .match .keys3))
+returns-3 c = c .keyed3 .ensures ∙ numbered-passes _ _ (sym (c .before .before .match .keys3))
 
 returns-4 : tie.Need-returns-4
 unfolding numbered unharmonic keyedBy sUnUz marked fromEnd text rows rowsWithin row upToZero
-returns-4 c =
-    c .keyed4 .ensures ∙ numbered-passes _ _ (sym (c .before .before .match .keys4))
+returns-4 c = c .keyed4 .ensures ∙ numbered-passes _ _ (sym (c .before .before .match .keys4))
 
 returns-5 : tie.Need-returns-5
 unfolding numbered unharmonic keyedBy lAr marked fromEnd text rows rowsWithin row upToZero
-returns-5 c =
-    c .keyed5 .ensures ∙ numbered-passes _ _ (sym (c .before .before .match .keys5))
+returns-5 c = c .keyed5 .ensures ∙ numbered-passes _ _ (sym (c .before .before .match .keys5))
 
 returns-6 : tie.Need-returns-6
 unfolding numbered unharmonic keyedBy nUz marked fromEnd text rows rowsWithin row upToZero
-returns-6 c =
-    c .keyed6 .ensures ∙ numbered-passes _ _ (sym (c .before .before .match .keys6))
+returns-6 c = c .keyed6 .ensures ∙ numbered-passes _ _ (sym (c .before .before .match .keys6))
 
 returns-7 : tie.Need-returns-7
 unfolding numbered unharmonic keyedBy DUr marked fromEnd text rows rowsWithin row upToZero
-returns-7 c =
-    c .keyed7 .ensures ∙ numbered-passes _ _ (sym (c .before .before .match .keys7))
+returns-7 c = c .keyed7 .ensures ∙ numbered-passes _ _ (sym (c .before .before .match .keys7))
 
 returns-8 : tie.Need-returns-8
 unfolding numbered unharmonic keyedBy cAsInA marked fromEnd text rows rowsWithin row upToZero
-returns-8 c =
-    c .keyed8 .ensures ∙ numbered-passes _ _ (sym (c .before .before .match .keys8))
+returns-8 c = c .keyed8 .ensures ∙ numbered-passes _ _ (sym (c .before .before .match .keys8))
 
 returns-9 : tie.Need-returns-9
 unfolding numbered unharmonic keyedBy yDU marked fromEnd text rows rowsWithin row upToZero
-returns-9 c =
-    c .keyed9 .ensures ∙ numbered-passes _ _ (sym (c .before .before .match .keys9))
+returns-9 c = c .keyed9 .ensures ∙ numbered-passes _ _ (sym (c .before .before .match .keys9))
 
 returns-10 : tie.Need-returns-10
 unfolding numbered unharmonic keyedBy ysA marked fromEnd text rows rowsWithin row upToZero
-returns-10 c =
-    c .keyed10 .ensures ∙ numbered-passes _ _ (sym (c .before .before .match .keys10))
+returns-10 c = c .keyed10 .ensures ∙ numbered-passes _ _ (sym (c .before .before .match .keys10))
 
 returns-11 : tie.Need-returns-11
 unfolding numbered unharmonic keyedBy ymUs marked fromEnd text rows rowsWithin row upToZero
-returns-11 c =
-    c .keyed11 .ensures ∙ numbered-passes _ _ (sym (c .before .before .match .keys11))
+returns-11 c = c .keyed11 .ensures ∙ numbered-passes _ _ (sym (c .before .before .match .keys11))
 
 returns-12 : tie.Need-returns-12
 unfolding numbered unharmonic yken marked
-returns-12 c =
-    c .mark-yken .ensures ∙ numbered-passes _ _ (sym (c .before .match .keys12))
+returns-12 c = c .mark-yken .ensures ∙ numbered-passes _ _ (sym (c .before .match .keys12))
 
 returns-13 : tie.Need-returns-13
 unfolding numbered notPassed

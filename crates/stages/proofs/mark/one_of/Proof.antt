@@ -15,21 +15,14 @@ returns : tie.Need-returns
 unfolding reach
 returns c =
     let s = c .before .before .before in
-    let w = now (s .args .w) in
-    let r = s .args .s .c in
-    let unfit = sym (mayEnd-sees w (s .args .s) (s .pre .0) _ (c .before .may-end .ensures)) ∙ not-true _ (c .if1 .taken) in
-    sym (ap (reach w r) (markOf-unfit _ _ unfit))
+    let unfit = sym (mayEnd-sees _ (s .args .s) (s .pre .0) _ (c .before .may-end .ensures)) ∙ not-true _ (c .if1 .taken) in
+    sym (ap (reach _ _) (markOf-unfit _ _ unfit))
 
 first-of-requires : tie.Need-first-of-requires
-first-of-requires c κs =
-    (c .before .before .before .before .pre .0, c .before .before .before .before .pre .1)
+first-of-requires c κs = let s = c .before .before .before .before in (s .pre .0, s .pre .1)
 
 returns-2 : tie.Need-returns-2
-returns-2 c =
-    let s = c .before .before .before .before .before in
-    let w = now (s .args .w) in
-    let r = s .args .s .c in
-    c .first-of .ensures ∙ ap (reach w r) (group-one (behind w r) (s .args .kind))
+returns-2 c = c .first-of .ensures ∙ ap (reach _ _) (group-one _ _)
 
 pub one-of-spec : {M : Type 1} → statement M
 one-of-spec =
