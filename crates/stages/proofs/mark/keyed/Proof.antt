@@ -1,7 +1,5 @@
 -- `stages::mark::keyed` meets its contract: the search's answer taken apart, and an optional y before the key found. Assumes nothing.
 use mathlib.Core.Path.{_∙_}
-use denote.Ref.{now}
-use Rattle.stages.specs.Keys.{rows}
 use Rattle.stages.specs.Passed.{notPassed}
 use Rattle.stages.proofs.Laws.Marks.{keyed-nothing, keyed-open, keyed-joined, keyed-alone}
 use borrow.Author.Needs.{needs}

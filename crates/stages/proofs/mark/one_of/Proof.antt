@@ -1,8 +1,6 @@
 -- `stages::mark::one_of` meets its contract: a group of one mark. Assumes nothing.
 use mathlib.Core.Path.{sym, ap, _∙_}
-use denote.Ref.{now}
 use borrow.Author.Tests.{not-true}
-use Rattle.utf8.specs.Behind.{behind}
 use Rattle.stages.specs.Reach.{reach}
 use Rattle.stages.proofs.Laws.Ends.{markOf-unfit}
 use Rattle.stages.proofs.Laws.Marks.{mayEnd-sees}

@@ -72,15 +72,5 @@ returns c =
 pub look-back-spec : {M : Type 1} → statement M
 look-back-spec =
     tie.close
-    (tie.spec
-    sub-part
-    part-part-start
-    (λ c. search needs)
-    sub-read-back
-    read-back-requires
-    read-back-requires-2
-    read-back-requires-3
-    add-t9
-    add-t11
-    add-t12
-    returns)
+    (tie.spec sub-part part-part-start (λ c. search needs) sub-read-back read-back-requires read-back-requires-2 read-back-requires-3
+    add-t9 add-t11 add-t12 returns)
