@@ -9,6 +9,7 @@ use Rattle.turkish.specs.Harmony.{harmony}
 use Rattle.stages.specs.declared.harmony.Told.{Told}
 use Rattle.stages.specs.Told.{toldAt, Hears}
 
+-- what is known: whether it was asked for, and whether it holds
 abbrev told : Bool → Bool → Told
 told a b = record { asked = a; holds = b }
 

@@ -31,6 +31,11 @@ backBy-add w r n m =
     let part = drop low w in
     ap (λ (c : ℕ). moveTo r (low + c)) (ap (λ (c : ℕ). back part c m) (add-sub-cancel-left low (back part (r .cursor - low) n)) ∙ back-add part (r .cursor - low) n m)
 
+-- the record moved to the place n characters back is the record n characters back
+pub moveTo-backBy : (w : List ℕ) (r : Cursor) (n : ℕ) → moveTo r (backBy w r n .cursor) ≡ backBy w r n
+unfolding backBy moveTo
+moveTo-backBy w r n = refl
+
 -- no characters back is the record itself, where limit_backward is not past it
 pub backBy-zero : (w : List ℕ) (r : Cursor) → Open w r → backBy w r 0 ≡ r
 unfolding backBy moveTo back
