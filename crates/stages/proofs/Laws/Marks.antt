@@ -113,10 +113,10 @@ passes-not w c fail e m = refl
 passes-not w c (took k f) e m = absurd (false≢true (sym m ∙ ap (λ (x : Passed). x .moved) e))
 
 -- what the first takes, the group does
-first-took : (w : List ℕ) (c : Cursor) (o q : Out) {r : Cursor} → To r ≡ reach w c o → To r ≡ reach w c (first o q)
+reach-first : (w : List ℕ) (c : Cursor) (o q : Out) {r : Cursor} → To r ≡ reach w c o → To r ≡ reach w c (first o q)
 unfolding first reach
-first-took w c fail q e = let z : _≡_ {A = ℕ} 0 1 = cc in absurd (omega arith)
-first-took w c (took k f) q e = e
+reach-first w c fail q e = let z : _≡_ {A = ℕ} 0 1 = cc in absurd (omega arith)
+reach-first w c (took k f) q e = e
 
 module _ (w : List ℕ) (c : Cursor) (group : List ℕ) (i : ℕ) (inside : i < length group) where
   -- the mark tried, and the group from the next on
@@ -145,7 +145,7 @@ module _ (w : List ℕ) (c : Cursor) (group : List ℕ) (i : ℕ) (inside : i < 
         → To (moveTo c (p .at)) ≡ reach w c (firstOf (drop i group) (behind w c))
     unfolding asking
     firstOf-took m h =
-        first-took w c _ _ (reach-passes w c _ is m ∙ ap (reach w c) (sym (markOf-unharmonic (numbered (getD group i 0)) (behind w c) ∙ rw h)))
+        reach-first w c _ _ (reach-passes w c _ is m ∙ ap (reach w c) (sym (markOf-unharmonic (numbered (getD group i 0)) (behind w c) ∙ rw h)))
         ∙ ap (reach w c) (sym firstOf-at)
 
     -- and fails where it does not

@@ -1,5 +1,5 @@
--- `mark_yken` meets its contract: the steps of the lent record decide it, by the laws of Laws/Yken. On each way k has those steps, and
--- b, v, j, p and l the answers on a vowel, a character, the y, the last step and `ken`, as far as they are known. Assumes nothing.
+-- `stages::mark::mark_yken` meets its contract: the steps of the lent record decide it, by the laws of Laws/Yken. On each way k has those
+-- steps, and b, v, j, p and l the answers on a vowel, a character, the y, the last step and `ken`, as far as known. Assumes nothing.
 use mathlib.Core.Path.{sym, ap, _∙_}
 use mathlib.Core.Bool.{true, false}
 use native.Mathlib.Omega.{arith}

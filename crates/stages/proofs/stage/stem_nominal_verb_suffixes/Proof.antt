@@ -14,14 +14,17 @@ use Rattle.stages.proofs.Laws.Branches.{whole, open-whole, sees-made, s
 use Rattle.stages.proofs.stage.stem_nominal_verb_suffixes.Statement.{statement}
 use Rattle.stages.proofs.stage.stem_nominal_verb_suffixes.Tie as tie
 
--- ---- what is known before each branch: what is seen at the word's end, and what is left of the stage ----
+-- ---- what is left of the stage ----
 
+-- the word, once its end is seen
 abbrev word : tie.After-look-back → List ℕ
 word c = now (c .before .before .args .w)
 
+-- where the branches before q have failed, the stage is q
 abbrev Left : tie.After-look-back → Command → Type 0
 Left c q = run branches (chars (word c)) ≡ run q (chars (word c))
 
+-- the place where the word's end is seen, from before each branch
 abbrev end1 : tie.After-told-at-end → tie.After-look-back
 end1 c = c .before .before .before
 
@@ -40,30 +43,36 @@ end5 c = end4 (c .before .before .before)
 abbrev end6 : tie.After-enum-told5 → tie.After-look-back
 end6 c = end5 (c .before .before .before)
 
+-- before the first branch, all of the stage is left
 left1 : (c : tie.After-told-at-end) → Left (end1 c) (branch1 or branch2 or branch3 or branch4 or branch5 or branch6)
 unfolding branches
 left1 c = refl
 
+-- where the first fails, those from the second on
 left2 : (c : tie.After-enum-told) → Left (end2 c) (branch2 or branch3 or branch4 or branch5 or branch6)
 left2 c =
     let b = c .before .before in
     left1 (b .before) ∙ branch-fails _ (end2 c .look-back .ensures) branch1 _ (b .first-branch .ensures) (c .enum-told .given .1)
 
+-- where that fails, those from the third on
 left3 : (c : tie.After-enum-told2) → Left (end3 c) (branch3 or branch4 or branch5 or branch6)
 left3 c =
     let b = c .before .before in
     left2 (b .before) ∙ branch-fails _ (end3 c .look-back .ensures) branch2 _ (b .second-branch .ensures) (c .enum-told2 .given .1)
 
+-- from the fourth on
 left4 : (c : tie.After-enum-told3) → Left (end4 c) (branch4 or branch5 or branch6)
 left4 c =
     let b = c .before .before in
     left3 (b .before) ∙ branch-fails _ (end4 c .look-back .ensures) branch3 _ (b .third-branch .ensures) (c .enum-told3 .given .1)
 
+-- from the fifth on
 left5 : (c : tie.After-enum-told4) → Left (end5 c) (branch5 or branch6)
 left5 c =
     let b = c .before .before in
     left4 (b .before) ∙ branch-fails _ (end5 c .look-back .ensures) branch4 _ (b .fourth-branch .ensures) (c .enum-told4 .given .1)
 
+-- and the last alone
 left6 : (c : tie.After-enum-told5) → Left (end6 c) branch6
 left6 c =
     let b = c .before .before in
