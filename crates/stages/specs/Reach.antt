@@ -1,6 +1,5 @@
 -- A command's answer as the code gives it: the record moved back over all that it takes, or that it fails. Assumes nothing.
 use Prim.Native.Nat.{ℕ}
-use mathlib.Core.Bool.{Bool, true, false}
 use mathlib.Core.List.{List}
 use Rattle.utf8.specs.declared.cursor.Cursor.{Cursor}
 use Rattle.utf8.specs.Behind.{backBy, deleted}

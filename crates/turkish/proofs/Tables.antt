@@ -15,7 +15,7 @@ use Rattle.utf8.proofs.Laws.Booleans.{and-left, and-right, and-each}
 use Rattle.turkish.specs.Letters.{text, fromEnd, starts}
 use Rattle.turkish.specs.Marks.{marked, yUm, sUn, yUz, sUnUz, lAr, nUz, DUr, cAsInA, yDU, ysA, ymUs, yken}
 use Rattle.turkish.specs.Postlude.{hardenings, hardKeys}
-use Rattle.turkish.specs.Tables.{Table, tableOf, hardTable, tables, letters, whole}
+use Rattle.turkish.specs.Tables.{Table, tables, letters, whole}
 use Rattle.turkish.specs.Calls.{bytes}
 use Rattle.turkish.proofs.Laws.Tests.{every, every-at}
 

@@ -82,7 +82,7 @@ pub mayEnd-unfit : (k : ℕ) (cs : List ℕ) → mayEnd k (getD cs 0 0) (getD cs
 mayEnd-unfit k cs = among-unfit (mayEnd k) (numbered k .keys) cs (numbered-tests k .each (getD cs 0 0) (getD cs 1 0) (getD cs 2 0))
 
 -- a test before a command that fails anyway
-asking-fail : (t : Bool) → asking t fail ≡ fail
+pub asking-fail : (t : Bool) → asking t fail ≡ fail
 unfolding asking
 asking-fail true = refl
 asking-fail false = refl

@@ -12,6 +12,7 @@ use Rattle.utf8.specs.Steps.{moveTo}
 use Rattle.utf8.specs.Behind.{behind, backBy}
 use Rattle.utf8.proofs.Laws.Steps.{stands-within}
 use Rattle.utf8.proofs.Laws.Characters.{back-add, before-back}
+use Rattle.utf8.proofs.Laws.Behind.{moveTo-backBy}
 use Rattle.turkish.specs.Letters.{starts}
 use Rattle.stages.specs.declared.seen.Seen.{Seen}
 use Rattle.stages.specs.declared.passed.Passed.{Passed}
@@ -20,7 +21,7 @@ use Rattle.stages.specs.Seen.{seenAt, Sees}
 use Rattle.stages.specs.Passed.{passedTo, notPassed}
 use Rattle.stages.specs.Search.{over}
 use Rattle.stages.proofs.Laws.Part.{partFrom-drop}
-use Rattle.stages.proofs.Laws.Search.{overPart, over-overPart, overPart-none, overPart-ends, overPart-differs, overPart-next, move-backBy}
+use Rattle.stages.proofs.Laws.Search.{overPart, over-overPart, overPart-none, overPart-ends, overPart-differs, overPart-next}
 
 module _ (w : List ℕ) (s : Seen) (sees : Sees w s) where
   -- the part before which nothing is looked at, and the place in it
@@ -38,22 +39,27 @@ module _ (w : List ℕ) (s : Seen) (sees : Sees w s) where
   unfolding seenAt behind
   seen-last = ap (λ (x : Seen). x .last) (sees .is)
 
+  -- the second character
   pub seen-second : s .second ≡ getD (before part at) 1 0
   unfolding seenAt behind
   seen-second = ap (λ (x : Seen). x .second) (sees .is)
 
+  -- and the third
   pub seen-third : s .third ≡ getD (before part at) 2 0
   unfolding seenAt behind
   seen-third = ap (λ (x : Seen). x .third) (sees .is)
 
+  -- the cursor in the part
   seen-here : s .c .cursor ≡ low + back part at 0
   unfolding back
   seen-here = let within = stands-within w (s .c) (sees .opens .within) in omega (arith, within .low)
 
+  -- the place before the last character
   seen-one : s .one ≡ low + back part at 1
   unfolding seenAt backBy moveTo
   seen-one = ap (λ (x : Seen). x .one) (sees .is)
 
+  -- and before the second
   seen-two : s .two ≡ low + back part at 2
   unfolding seenAt backBy moveTo
   seen-two = ap (λ (x : Seen). x .two) (sees .is)
@@ -61,7 +67,7 @@ module _ (w : List ℕ) (s : Seen) (sees : Sees w s) where
   -- the record before the three characters
   pub seen-three : moveTo (s .c) (s .three) ≡ backBy w (s .c) 3
   unfolding seenAt
-  seen-three = ap (moveTo (s .c)) (ap (λ (x : Seen). x .three) (sees .is)) ∙ move-backBy w (s .c) 3
+  seen-three = ap (moveTo (s .c)) (ap (λ (x : Seen). x .three) (sees .is)) ∙ moveTo-backBy w (s .c) 3
 
   -- back over a key from there is back over it three characters on
   over-back : (k : List ℕ) → over w (backBy w (s .c) 3) k ≡ overPart low part at 3 k
@@ -83,10 +89,12 @@ module _ (w : List ℕ) (s : Seen) (sees : Sees w s) where
     first-ends e = ap passedTo seen-here ∙ overPart-ends low part at 0 keys base width room (omega arith) e ∙ sym over-left
 
     module _ (a : getD keys base 0 ≡ 0 → ⊥) where
+      -- a first letter other than the last character is not passed
       pub first-differs : (getD keys base 0 ≡ s .last → ⊥) → notPassed ≡ over w (s .c) (row width (drop base keys))
       first-differs d = overPart-differs low part at 0 keys base width room (omega arith) a (λ e. d (e ∙ sym seen-last)) ∙ sym over-left
 
       module _ (a-is : getD keys base 0 ≡ s .last) where
+        -- with the same one, what is left is the key from its second letter on
         left-one : overPart low part at 1 (row (width - 1) (drop (base + 1) keys)) ≡ over w (s .c) (row width (drop base keys))
         left-one = overPart-next low part at 0 keys base width room (omega arith) a (a-is ∙ seen-last) ∙ sym over-left
 
@@ -95,15 +103,18 @@ module _ (w : List ℕ) (s : Seen) (sees : Sees w s) where
         second-none h = ap passedTo seen-one ∙ overPart-none low part at 1 keys (base + 1) (width - 1) (omega arith) ∙ left-one
 
         module _ (two : 2 ≤ width) where
+          -- the key ends before its second letter, by the 0 there
           pub second-ends : getD keys (base + 1) 0 ≡ 0 → passedTo (s .one) ≡ over w (s .c) (row width (drop base keys))
           second-ends e = ap passedTo seen-one ∙ overPart-ends low part at 1 keys (base + 1) (width - 1) (omega arith) (omega arith) e ∙ left-one
 
           module _ (b : getD keys (base + 1) 0 ≡ 0 → ⊥) where
+            -- a second letter other than the second character is not passed
             pub second-differs : (getD keys (base + 1) 0 ≡ s .second → ⊥) → notPassed ≡ over w (s .c) (row width (drop base keys))
             second-differs d =
                 overPart-differs low part at 1 keys (base + 1) (width - 1) (omega arith) (omega arith) b (λ e. d (e ∙ sym seen-second)) ∙ left-one
 
             module _ (b-is : getD keys (base + 1) 0 ≡ s .second) where
+              -- with the same one, what is left is the key from its third letter on
               left-two : overPart low part at 2 (row (width - 2) (drop (base + 2) keys)) ≡ over w (s .c) (row width (drop base keys))
               left-two =
                   let m : width - 2 ≡ width - 1 - 1 = omega arith in
@@ -117,10 +128,12 @@ module _ (w : List ℕ) (s : Seen) (sees : Sees w s) where
               third-none h = ap passedTo seen-two ∙ overPart-none low part at 2 keys (base + 2) (width - 2) (omega arith) ∙ left-two
 
               module _ (three : 3 ≤ width) where
+                -- the key ends before its third letter, by the 0 there
                 pub third-ends : getD keys (base + 2) 0 ≡ 0 → passedTo (s .two) ≡ over w (s .c) (row width (drop base keys))
                 third-ends e = ap passedTo seen-two ∙ overPart-ends low part at 2 keys (base + 2) (width - 2) (omega arith) (omega arith) e ∙ left-two
 
                 module _ (d : getD keys (base + 2) 0 ≡ 0 → ⊥) where
+                  -- a third letter other than the third character is not passed
                   pub third-differs : (getD keys (base + 2) 0 ≡ s .third → ⊥) → notPassed ≡ over w (s .c) (row width (drop base keys))
                   third-differs n =
                       overPart-differs low part at 2 keys (base + 2) (width - 2) (omega arith) (omega arith) d (λ e. n (e ∙ sym seen-third)) ∙ left-two

@@ -23,6 +23,7 @@ unfolding row upToZero
 row-cons n c cs = refl
 
 module _ (keys : List ℕ) (j m : ℕ) (room : 0 < m) (inside : j < length keys) where
+  -- a key by its first letter, within the table's numbers
   row-at : row m (drop j keys) ≡ cond (eqb (getD keys j 0) 0) [] (getD keys j 0 ∷ row (m - 1) (drop (j + 1) keys))
   row-at =
       let e : m ≡ suc (m - 1) = omega arith in

@@ -14,6 +14,7 @@ use Rattle.stages.specs.declared.walk.LastVowel.{LastVowel}
 use Rattle.stages.specs.LastVowel.{toVowel, lastVowelOf}
 use Rattle.stages.proofs.Laws.Walk.{lastVowel-skips, lastVowel-stops}
 
+-- an answer of the walk
 abbrev found : ℕ → ℕ → LastVowel
 found v at = record { ch = v; at = at }
 
@@ -50,6 +51,7 @@ lastVowelOf-none w at e = rw (e, before-zero w)
 
 -- ---- what it gives ----
 
+-- the characters past the last vowel's are those before it
 drop-toVowel : (cs : List ℕ) → drop (toVowel cs) cs ≡ beforeLastVowel cs
 unfolding toVowel beforeLastVowel
 drop-toVowel [] = refl
@@ -59,17 +61,19 @@ drop-toVowel (c ∷ cs) = go (vowel c) (drop-toVowel cs)
     go true h = refl
     go false h = h
 
--- of an answer l of the walk from place c: its vowel is the last one, its place lies before c, and before its place stands what is
--- before the last vowel
+-- an answer l of the walk from place c
 module _ (w : List ℕ) (c : ℕ) (l : LastVowel) (e : l ≡ lastVowelOf w c) where
+  -- its vowel is the last one
   pub last-ch : l .ch ≡ lastVowel (before w c)
   unfolding lastVowelOf
   last-ch = ap (λ (x : LastVowel). x .ch) e
 
+  -- its place does not lie past c
   pub last-at-le : l .at ≤ c
   unfolding lastVowelOf
   last-at-le = rw e (back-le w c (toVowel (before w c)))
 
+  -- before its place stands what is before the last vowel
   pub last-beforeLastVowel : before w (l .at) ≡ beforeLastVowel (before w c)
   unfolding lastVowelOf
   last-beforeLastVowel = rw e (before-back w c (toVowel (before w c)) ∙ drop-toVowel (before w c))

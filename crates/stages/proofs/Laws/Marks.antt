@@ -12,13 +12,12 @@ use borrow.Author.Tests.{ne-eqb}
 use Rattle.utf8.specs.declared.cursor.Cursor.{Cursor}
 use Rattle.utf8.specs.Steps.{moveTo}
 use Rattle.utf8.specs.Behind.{behind, backBy, Open}
-use Rattle.utf8.proofs.Laws.Behind.{behind-backBy, backBy-add, open-backBy}
+use Rattle.utf8.proofs.Laws.Behind.{behind-backBy, backBy-add, moveTo-backBy, open-backBy}
 use Rattle.turkish.specs.Letters.{starts}
 use Rattle.turkish.specs.Harmony.{harmony}
-use Rattle.turkish.specs.Grammar.{Out, fail, took, more, after, first, asking, among, optionalY, Mark, markOf}
+use Rattle.turkish.specs.Grammar.{Out, fail, took, more, after, first, asking, among, optionalY, markOf}
 use Rattle.stages.specs.declared.among.Among.{Among}
 use Rattle.stages.specs.declared.among.Among.the-variants.{Key, Nothing}
-use Rattle.stages.specs.declared.marked.Marked.{Marked}
 use Rattle.stages.specs.declared.marked.Marked.the-variants.{To, Fails}
 use Rattle.stages.specs.declared.passed.Passed.{Passed}
 use Rattle.stages.specs.declared.seen.Seen.{Seen}
@@ -28,8 +27,7 @@ use Rattle.stages.specs.Numbered.{numbered, tabled, unharmonic, keyedBy,
 use Rattle.stages.specs.Search.{foundFrom, found}
 use Rattle.stages.specs.Seen.{seenAt, Sees}
 use Rattle.stages.specs.Ends.{mayEnd}
-use Rattle.stages.proofs.Laws.Search.{move-backBy}
-use Rattle.stages.proofs.Laws.Ends.{markOf-unharmonic}
+use Rattle.stages.proofs.Laws.Ends.{asking-fail, markOf-unharmonic}
 
 -- ---- a key found, as the grammar's ----
 
@@ -39,6 +37,7 @@ record Finds (ks : List (List ℕ)) (w : List ℕ) (c d : Cursor) : Type 0 where
   takes : among ks (behind w c) ≡ took taken true
   there : d ≡ backBy w c taken
 
+-- a key found is the first that the grammar takes
 foundFrom-finds : (i : ℕ) (ks : List (List ℕ)) (w : List ℕ) (c : Cursor) {j : ℕ} {d : Cursor} → Key j d ≡ foundFrom i ks w c → Finds ks w c d
 unfolding foundFrom among
 foundFrom-finds i [] w c e = let z : _≡_ {A = ℕ} 0 1 = cc in absurd (omega arith)
@@ -49,6 +48,7 @@ foundFrom-finds i (k ∷ ks) w c {j} {d} e = go (starts k (behind w c)) refl e (
     go true t q rest = record { taken = length k; takes = rw t; there = cc }
     go false t q rest = let r = rest q in record { taken = r .taken; takes = rw t (r .takes); there = r .there }
 
+-- where none is found the grammar's search fails
 foundFrom-none : (i : ℕ) (ks : List (List ℕ)) (w : List ℕ) (c : Cursor) → Nothing ≡ foundFrom i ks w c → among ks (behind w c) ≡ fail
 unfolding foundFrom among
 foundFrom-none i [] w c e = refl
@@ -74,6 +74,7 @@ module _ (ks : List (List ℕ)) (joins : Bool) (w : List ℕ) (c : Cursor) {a : 
   keyed-nothing e = rw (foundFrom-none 0 ks w c (sym e ∙ is))
 
   module _ {j : ℕ} {d : Cursor} (e : a ≡ Key j d) where
+    -- the search's answer taken apart
     finds : Finds ks w c d
     unfolding found
     finds = foundFrom-finds 0 ks w c (sym e ∙ is)
@@ -104,7 +105,7 @@ module _ (ks : List (List ℕ)) (joins : Bool) (w : List ℕ) (c : Cursor) {a : 
 reach-passes : (w : List ℕ) (c : Cursor) (o : Out) {p : Passed} → p ≡ passes w c o → p .moved ≡ true → To (moveTo c (p .at)) ≡ reach w c o
 unfolding passes reach passedTo notPassed
 reach-passes w c fail e m = absurd (false≢true (sym (ap (λ (x : Passed). x .moved) e) ∙ m))
-reach-passes w c (took k f) e m = ap To (ap (λ (x : Passed). moveTo c (x .at)) e ∙ move-backBy w c k)
+reach-passes w c (took k f) e m = ap To (ap (λ (x : Passed). moveTo c (x .at)) e ∙ moveTo-backBy w c k)
 
 -- one that did not move fails
 passes-not : (w : List ℕ) (c : Cursor) (o : Out) {p : Passed} → p ≡ passes w c o → p .moved ≡ false → o ≡ fail
@@ -113,10 +114,10 @@ passes-not w c fail e m = refl
 passes-not w c (took k f) e m = absurd (false≢true (sym m ∙ ap (λ (x : Passed). x .moved) e))
 
 -- what the first takes, the group does
-first-took : (w : List ℕ) (c : Cursor) (o q : Out) {r : Cursor} → To r ≡ reach w c o → To r ≡ reach w c (first o q)
+reach-first : (w : List ℕ) (c : Cursor) (o q : Out) {r : Cursor} → To r ≡ reach w c o → To r ≡ reach w c (first o q)
 unfolding first reach
-first-took w c fail q e = let z : _≡_ {A = ℕ} 0 1 = cc in absurd (omega arith)
-first-took w c (took k f) q e = e
+reach-first w c fail q e = let z : _≡_ {A = ℕ} 0 1 = cc in absurd (omega arith)
+reach-first w c (took k f) q e = e
 
 module _ (w : List ℕ) (c : Cursor) (group : List ℕ) (i : ℕ) (inside : i < length group) where
   -- the mark tried, and the group from the next on
@@ -139,17 +140,13 @@ module _ (w : List ℕ) (c : Cursor) (group : List ℕ) (i : ℕ) (inside : i < 
         markOf-unharmonic (numbered (getD group i 0)) (behind w c)
         ∙ ap (asking (not (numbered (getD group i 0) .harmonic) || harmony (behind w c))) (passes-not w c _ is m)
         ∙ asking-fail (not (numbered (getD group i 0) .harmonic) || harmony (behind w c))
-      where
-        asking-fail : (b : Bool) → asking b fail ≡ fail
-        asking-fail true = refl
-        asking-fail false = refl
 
     -- with them it takes what they take, if it tests no harmony or harmony holds
     pub firstOf-took : p .moved ≡ true → not (numbered (getD group i 0) .harmonic) || harmony (behind w c) ≡ true
         → To (moveTo c (p .at)) ≡ reach w c (firstOf (drop i group) (behind w c))
     unfolding asking
     firstOf-took m h =
-        first-took w c _ _ (reach-passes w c _ is m ∙ ap (reach w c) (sym (markOf-unharmonic (numbered (getD group i 0)) (behind w c) ∙ rw h)))
+        reach-first w c _ _ (reach-passes w c _ is m ∙ ap (reach w c) (sym (markOf-unharmonic (numbered (getD group i 0)) (behind w c) ∙ rw h)))
         ∙ ap (reach w c) (sym firstOf-at)
 
     -- and fails where it does not
@@ -168,10 +165,11 @@ pub mayEnd-sees : (w : List ℕ) (s : Seen) → Sees w s → (k : ℕ) {b : Bool
 unfolding seenAt
 mayEnd-sees w s sees k e = e ∙ ap (λ (x : Seen). mayEnd k (x .last) (x .second) (x .third)) (sees .is)
 
--- a mark that tests no harmony agrees with any, and one that does with harmony alone
+-- a mark that tests no harmony agrees with any
 pub agrees-free : {h : Bool} (cs : List ℕ) → h ≡ false → not h || harmony cs ≡ true
 agrees-free cs e = rw e
 
+-- one that tests it agrees where harmony holds
 pub agrees-bound : {h : Bool} (cs : List ℕ) → h ≡ true → not h || harmony cs ≡ harmony cs
 agrees-bound cs e = rw e
 

@@ -1,7 +1,7 @@
 -- The optional y by the two characters that it looks at; 0 stands for none. Assumes nothing.
 use Prim.Native.Nat.{ℕ, _+_, _-_}
 use mathlib.Core.Path.{_≡_, refl, sym, ap, _∙_}
-use mathlib.Core.Bool.{true, false, cond, false≢true}
+use mathlib.Core.Bool.{true, false, cond}
 use mathlib.Core.List.{List, [], _∷_}
 use lib.ListN.{getD}
 use lib.Dec.{eqb}
@@ -17,19 +17,12 @@ use Rattle.stages.specs.Passed.{passedTo, notPassed, passes}
 use Rattle.stages.proofs.Laws.Part.{partFrom}
 use Rattle.stages.proofs.Laws.Reads.{first-ch, first-place, second-ch}
 
--- it fails where the second character back is no vowel
-pub optionalY-fails : (y : ℕ) (cs : List ℕ) → vowel (getD cs 1 0) ≡ false → optionalY y cs ≡ fail
-unfolding optionalY
-optionalY-fails y [] e = refl
-optionalY-fails y (c ∷ []) e = refl
-optionalY-fails y (c ∷ v ∷ cs) e = rw e
-
--- and else takes a y if one stands there
-pub optionalY-takes : (y : ℕ) (cs : List ℕ) → vowel (getD cs 1 0) ≡ true → optionalY y cs ≡ took (cond (eqb (getD cs 0 0) y) 1 0) true
-unfolding optionalY
-optionalY-takes y [] e = absurd (false≢true (unfold vowel vowels has any text in e))
-optionalY-takes y (c ∷ []) e = absurd (false≢true (unfold vowel vowels has any text in e))
-optionalY-takes y (c ∷ v ∷ cs) e = rw e
+-- it fails where the second character back is no vowel, and else takes a y if one stands there
+pub optionalY-getD : (y : ℕ) (cs : List ℕ) → optionalY y cs ≡ cond (vowel (getD cs 1 0)) (took (cond (eqb (getD cs 0 0) y) 1 0) true) fail
+unfolding optionalY vowel vowels has any text
+optionalY-getD y [] = refl
+optionalY-getD y (c ∷ []) = refl
+optionalY-getD y (c ∷ v ∷ cs) = refl
 
 -- ---- as the code reads the two characters ----
 
@@ -38,11 +31,16 @@ module _ (w : List ℕ) (c : Cursor) {a b : Read} (a-is : a ≡ readBack (partFr
   -- no vowel before the first: it fails
   pub passes-unjoined : vowel (b .ch) ≡ false → notPassed ≡ passes w c (optionalY 0x79 (behind w c))
   unfolding passes
-  passes-unjoined e = sym (ap (passes w c) (optionalY-fails 0x79 (behind w c) (ap vowel (sym (second-ch w c a-is b-is)) ∙ e)))
+  passes-unjoined e =
+      let none : vowel (getD (behind w c) 1 0) ≡ false = ap vowel (sym (second-ch w c a-is b-is)) ∙ e in
+      rw (optionalY-getD 0x79 (behind w c), none)
 
   module _ (e : vowel (b .ch) ≡ true) where
+    -- with a vowel before the first it fits, and takes a y
     takes : optionalY 0x79 (behind w c) ≡ took (cond (eqb (getD (behind w c) 0 0) 0x79) 1 0) true
-    takes = optionalY-takes 0x79 (behind w c) (ap vowel (sym (second-ch w c a-is b-is)) ∙ e)
+    takes =
+        let some : vowel (getD (behind w c) 1 0) ≡ true = ap vowel (sym (second-ch w c a-is b-is)) ∙ e in
+        rw (optionalY-getD 0x79 (behind w c), some)
 
     -- a y joins
     pub passes-joined : a .ch ≡ 0x79 → passedTo (c .«limit_backward» + a .at) ≡ passes w c (optionalY 0x79 (behind w c))

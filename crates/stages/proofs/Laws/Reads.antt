@@ -16,9 +16,11 @@ use Rattle.stages.specs.Seen.{seenAt}
 use Rattle.stages.proofs.Laws.Part.{partFrom, partFrom-drop}
 
 module _ (w : List ℕ) (c : Cursor) where
+  -- where the part begins before which nothing is looked at
   abbrev pub low : ℕ
   low = c .«limit_backward»
 
+  -- and the cursor in it
   abbrev pub at : ℕ
   at = c .cursor - low
 
@@ -28,14 +30,17 @@ module _ (w : List ℕ) (c : Cursor) where
     unfolding readBack behind
     first-ch = ap (λ (x : Read). x .ch) a-is ∙ ap (λ (p : List ℕ). getD (before p at) 0 0) (partFrom-drop w low)
 
+    -- its place in the part
     first-at : a .at ≡ back (drop low w) at 1
     unfolding readBack
     first-at = ap (λ (x : Read). x .at) a-is ∙ ap (λ (p : List ℕ). back p at 1) (partFrom-drop w low)
 
+    -- in the word
     pub first-place : low + a .at ≡ backBy w c 1 .cursor
     unfolding backBy moveTo
     first-place = ap (λ (n : ℕ). low + n) first-at
 
+    -- not past the cursor
     pub first-le : a .at ≤ at
     first-le = omega (arith, first-at, back-le (drop low w) at 1)
 
@@ -48,16 +53,19 @@ module _ (w : List ℕ) (c : Cursor) where
           ∙ ap (λ (n : ℕ). getD (before (drop low w) n) 0 0) first-at
           ∙ ap (λ (cs : List ℕ). getD cs 0 0) (before-back (drop low w) at 1) ∙ getD-drop 1 (before (drop low w) at) 0 0
 
+      -- its place in the part
       second-at : b .at ≡ back (drop low w) at 2
       unfolding readBack
       second-at =
           ap (λ (x : Read). x .at) b-is ∙ ap (λ (p : List ℕ). back p (a .at) 1) (partFrom-drop w low)
           ∙ ap (λ (n : ℕ). back (drop low w) n 1) first-at ∙ back-add (drop low w) at 1 1
 
+      -- in the word
       pub second-place : low + b .at ≡ backBy w c 2 .cursor
       unfolding backBy moveTo
       second-place = ap (λ (n : ℕ). low + n) second-at
 
+      -- not past the cursor
       pub second-le : b .at ≤ at
       second-le = omega (arith, second-at, back-le (drop low w) at 2)
 
@@ -70,15 +78,18 @@ module _ (w : List ℕ) (c : Cursor) where
             ∙ ap (λ (n : ℕ). getD (before (drop low w) n) 0 0) second-at
             ∙ ap (λ (cs : List ℕ). getD cs 0 0) (before-back (drop low w) at 2) ∙ getD-drop 2 (before (drop low w) at) 0 0
 
+        -- its place in the part
         third-at : d .at ≡ back (drop low w) at 3
         unfolding readBack
         third-at =
             ap (λ (x : Read). x .at) d-is ∙ ap (λ (p : List ℕ). back p (b .at) 1) (partFrom-drop w low)
             ∙ ap (λ (n : ℕ). back (drop low w) n 1) second-at ∙ back-add (drop low w) at 2 1
 
+        -- not past the cursor
         pub third-le : d .at ≤ at
         third-le = omega (arith, third-at, back-le (drop low w) at 3)
 
+        -- in the word
         third-place : low + d .at ≡ backBy w c 3 .cursor
         unfolding backBy moveTo
         third-place = ap (λ (n : ℕ). low + n) third-at

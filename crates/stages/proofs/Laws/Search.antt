@@ -2,7 +2,7 @@
 use Prim.Native.Nat.{ℕ, suc, _+_, _-_, _≤_, _<_}
 use mathlib.Core.Path.{_≡_, refl, sym, ap, _∙_}
 use mathlib.Core.Bool.{Bool, true, false, cond, _&&_, false≢true}
-use mathlib.Core.List.{List, [], _∷_}
+use mathlib.Core.List.{List, _∷_}
 use native.Mathlib.Nat.{add-zero}
 use native.Mathlib.Omega.{arith}
 use lib.ListN.{length, drop, getD, drop-of-length-le, List·getD-eq-default, length-drop}
@@ -15,9 +15,9 @@ use Rattle.utf8.specs.Steps.{moveTo}
 use Rattle.utf8.specs.Characters.{before, back}
 use Rattle.utf8.specs.Behind.{readBack, behind, backBy}
 use Rattle.utf8.proofs.Laws.Characters.{back-add, before-back}
+use Rattle.utf8.proofs.Laws.Behind.{moveTo-backBy}
 use Rattle.turkish.specs.Letters.{starts}
 use Rattle.stages.specs.declared.passed.Passed.{Passed}
-use Rattle.stages.specs.declared.among.Among.{Among}
 use Rattle.stages.specs.declared.among.Among.the-variants.{Key, Nothing}
 use Rattle.stages.specs.Keys.{row, rows}
 use Rattle.stages.specs.Passed.{passedTo, notPassed}
@@ -27,6 +27,7 @@ use Rattle.stages.proofs.Laws.Keys.{row-zero, row-ends, row-goes, rows-
 
 -- ---- back over a key, n characters from a place of the part that begins at `low` ----
 
+-- the place before the key, where it stands there
 unfoldable pub overPart : ℕ → List ℕ → ℕ → ℕ → List ℕ → Passed
 overPart low part at n k = cond (starts k (drop n (before part at))) (passedTo (low + back part at (n + length k))) notPassed
 
@@ -96,11 +97,6 @@ overPart-read low part at keys j upto p is before-end inside d e =
 
 -- ---- the search ----
 
--- the record some characters back is the record moved to that place
-pub move-backBy : (w : List ℕ) (c : Cursor) (n : ℕ) → moveTo c (backBy w c n .cursor) ≡ backBy w c n
-unfolding backBy moveTo
-move-backBy w c n = refl
-
 module _ (w : List ℕ) (c : Cursor) (keys : List ℕ) (base width i : ℕ) {p : Passed} (is : p ≡ over w c (row width (drop base keys))) (room : 0 < width)
     (inside : width ≤ length keys - base) where
   -- the next key is found if it is passed
@@ -113,7 +109,7 @@ module _ (w : List ℕ) (c : Cursor) (keys : List ℕ) (base width i : ℕ) {p :
 
       go : (t : Bool) → p ≡ cond t (passedTo (backBy w c (length k) .cursor)) notPassed
           → Key i (moveTo c (p .at)) ≡ cond t (Key i (backBy w c (length k))) (foundFrom (i + 1) (rows width (drop (base + width) keys)) w c)
-      go true q = ap (Key i) (ap (λ (x : Passed). moveTo c (x .at)) q ∙ move-backBy w c (length k))
+      go true q = ap (Key i) (ap (λ (x : Passed). moveTo c (x .at)) q ∙ moveTo-backBy w c (length k))
       go false q = absurd (false≢true (sym (ap (λ (x : Passed). x .moved) q) ∙ e))
 
   -- and else the keys past it are searched

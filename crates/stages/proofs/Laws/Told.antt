@@ -12,6 +12,7 @@ use Rattle.stages.specs.declared.seen.Seen.{Seen}
 use Rattle.stages.specs.Ends.{someEnd}
 use Rattle.stages.specs.Told.{toldAt, Hears, unasked, toldAtEnd}
 
+-- what is known: whether it was asked for, and whether it holds
 abbrev told : Bool → Bool → Told
 told a b = record { asked = a; holds = b }
 

@@ -28,6 +28,7 @@ use Rattle.turkish.specs.Grammar.{fail, took, more, after, asking, among, optio
 use Rattle.turkish.specs.Marks.{marked, yken}
 use Rattle.stages.specs.declared.passed.Passed.{Passed}
 use Rattle.stages.specs.Passed.{passedTo, notPassed, passes}
+use Rattle.stages.proofs.Laws.OptionalY.{optionalY-getD}
 use Rattle.stages.proofs.Laws.Literal.{ascii, ascii-reverseAux, lastWidth-char, literal-chars}
 
 -- ---- an ASCII literal behind an open record ----
@@ -89,16 +90,15 @@ ken = 0x6B ∷ 0x65 ∷ 0x6E ∷ []
 abbrev pub y : List ℕ
 y = 0x79 ∷ []
 
--- an optional y asks for a vowel as the second character, 0 standing for none, and takes a y
-optionalY-second : (cs : List ℕ) → optionalY 0x79 cs ≡ cond (vowel (getD cs 1 0)) (took (cond (starts y cs) 1 0) true) fail
-unfolding optionalY vowel vowels has any text starts
-optionalY-second [] = refl
-optionalY-second (c ∷ []) = refl
-optionalY-second (c ∷ v ∷ cs) = go (eqb c 0x79) refl
+-- the characters begin with a y where their first, 0 standing for none, is one
+starts-y : (cs : List ℕ) → starts y cs ≡ eqb (getD cs 0 0) 0x79
+unfolding starts
+starts-y [] = refl
+starts-y (c ∷ cs) = go (eqb c 0x79) refl
   where
-    go : (t : Bool) → eqb c 0x79 ≡ t → cond (vowel v) (took (cond t 1 0) true) fail ≡ cond (vowel v) (took (cond (starts y (c ∷ v ∷ cs)) 1 0) true) fail
-    go true e = rw (eq-eqb 0x79 c (sym (eqb-true c 0x79 e)))
-    go false e = rw (ne-eqb 0x79 c (λ f. eqb-false c 0x79 e (sym f)))
+    go : (t : Bool) → eqb c 0x79 ≡ t → eqb 0x79 c && true ≡ eqb c 0x79
+    go true e = rw (eq-eqb 0x79 c (sym (eqb-true c 0x79 e))) (sym e)
+    go false e = rw (ne-eqb 0x79 c (λ f. eqb-false c 0x79 e (sym f))) (sym e)
 
 -- yken is `ken` and then an optional y
 markOf-yken : (cs : List ℕ) → markOf yken cs ≡ cond (starts (reverse ken) cs) (more 3 true (optionalY 0x79 (drop 3 cs))) fail
@@ -189,7 +189,7 @@ module _ (w : List ℕ) (c : Cursor) (o : Open w c) (k : Over) (is : k ≡ over 
     yken-key : passes w c (markOf yken (behind w c)) ≡ cond (vowel (getD (behind w c) 4 0)) (passedTo (k .here .cursor)) notPassed
     unfolding more passes
     yken-key =
-        rw (markOf-yken (behind w c), ken-starts, optionalY-second (drop 3 (behind w c)), ← y-starts, getD-drop 3 (behind w c) 1 0, here-backBy)
+        rw (markOf-yken (behind w c), ken-starts, optionalY-getD 0x79 (drop 3 (behind w c)), ← starts-y, ← y-starts, getD-drop 3 (behind w c) 1 0, here-backBy)
         (go (vowel (getD (behind w c) 4 0)) (cond (k .joined) 1 0))
       where
         go : (t : Bool) (n : ℕ) → passes w c (more 3 true (cond t (took n true) fail)) ≡ cond t (passedTo (backBy w c (3 + n) .cursor)) notPassed

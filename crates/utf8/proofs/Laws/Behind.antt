@@ -1,12 +1,11 @@
 -- What stands before a cursor and the record some characters back: going back twice, and with limit_backward at the word's start; and
 -- that both ways, and a deletion, leave the record open. Assumes nothing.
 use Prim.Native.Nat.{ℕ, _+_, _-_, _≤_}
-use mathlib.Core.Path.{_≡_, refl, sym, ap, _∙_}
-use mathlib.Core.Bool.{true}
+use mathlib.Core.Path.{_≡_, refl, ap, _∙_}
 use mathlib.Core.List.{List}
 use native.Mathlib.Omega.{arith}
 use native.Mathlib.Nat.{add-sub-cancel-left, sub-zero, zero-add}
-use lib.ListN.{length, drop, getD}
+use lib.ListN.{length, drop}
 use Rattle.utf8.specs.declared.cursor.Cursor.{Cursor}
 use Rattle.utf8.specs.Characters.{before, back}
 use Rattle.utf8.specs.Steps.{stands, moveTo}
@@ -31,6 +30,11 @@ backBy-add w r n m =
     let low = r .«limit_backward» in
     let part = drop low w in
     ap (λ (c : ℕ). moveTo r (low + c)) (ap (λ (c : ℕ). back part c m) (add-sub-cancel-left low (back part (r .cursor - low) n)) ∙ back-add part (r .cursor - low) n m)
+
+-- the record moved to the place n characters back is the record n characters back
+pub moveTo-backBy : (w : List ℕ) (r : Cursor) (n : ℕ) → moveTo r (backBy w r n .cursor) ≡ backBy w r n
+unfolding backBy moveTo
+moveTo-backBy w r n = refl
 
 -- no characters back is the record itself, where limit_backward is not past it
 pub backBy-zero : (w : List ℕ) (r : Cursor) → Open w r → backBy w r 0 ≡ r

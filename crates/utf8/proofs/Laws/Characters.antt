@@ -93,18 +93,6 @@ before-step w (suc c) h =
     let p : 0 < lastWidth w (suc c) = lastWidth-pos w (suc c) in
     ap (λ (l : List ℕ). lastChar w (suc c) ∷ l) (beforeWithin-enough c (suc c - lastWidth w (suc c)) w (suc c - lastWidth w (suc c)) (omega arith) (omega arith))
 
--- as many characters as there is fuel for take a byte each
-length-beforeWithin-le : (f : ℕ) (w : List ℕ) (c : ℕ) → length (beforeWithin f w c) ≤ c
-unfolding beforeWithin
-length-beforeWithin-le zero w c = omega arith
-length-beforeWithin-le (suc f) w zero = omega arith
-length-beforeWithin-le (suc f) w (suc c) = omega (arith, lastWidth-pos w (suc c), length-beforeWithin-le f w (suc c - lastWidth w (suc c)))
-
--- no more characters stand before a place than bytes
-pub length-before-le : (w : List ℕ) (c : ℕ) → length (before w c) ≤ c
-unfolding before
-length-before-le w c = length-beforeWithin-le c w c
-
 -- ---- back ----
 
 -- back is never on

@@ -1,13 +1,12 @@
 -- The character that ends at a place and where it begins, by its width and by its one byte. Assumes nothing.
 use Prim.Native.Nat.{ℕ, _+_, _-_, _≤_, _<_}
-use mathlib.Core.Path.{_≡_, refl, sym, ap, _∙_}
+use mathlib.Core.Path.{_≡_, refl, sym, _∙_}
 use mathlib.Core.Bool.{true, false}
 use mathlib.Core.List.{List, [], _∷_}
 use native.Mathlib.Omega.{arith}
 use lib.ListN.{length, getD}
 use lib.Dec.{ltb}
 use borrow.Author.Tests.{lt-leb, lt-ltb}
-use Rattle.utf8.specs.declared.characters.Read.{Read}
 use Rattle.utf8.specs.Encoding.{decode}
 use Rattle.utf8.specs.Characters.{continuation, width, goesOn, lastWidth, lastChar, charAt, before, back}
 use Rattle.utf8.specs.Behind.{readBack}

@@ -1,24 +1,27 @@
-use Rattle.utf8.specs.declared.characters.Read.{Read}
-use Rattle.stages.proofs.Laws.Search.{overPart-read}
-use Rattle.stages.proofs.Laws.Part.{partFrom, length-partFrom}
-use Rattle.stages.specs.Passed.{notPassed}
-use Rattle.utf8.proofs.Laws.Characters.{back-le}
-use Rattle.utf8.specs.Behind.{readBack}
-use borrow.Author.Needs.{needs}
-use Rattle.stages.proofs.Laws.Search.{overPart, over-overPart, overPart-back, overPart-none, overPart-ends, overPart-differs, overPart-next}
-use Rattle.stages.specs.Keys.{row}
-use Rattle.utf8.proofs.Laws.Steps.{stands-within}
-use Rattle.utf8.specs.Characters.{back}
-use denote.Ref.{now}
-use lib.ListN.{length, drop}
-use native.Mathlib.Omega.{arith}
-use mathlib.Core.Path.{_≡_, refl, sym, ap, _∙_}
+-- `stages::among::key_rest` meets its contract. The loop's invariant: what is left of the key has to be passed from where the letters
+-- before it have led. The measure is what is left of the key. Assumes nothing.
 use Prim.Native.Nat.{_-_, _≤_}
+use mathlib.Core.Path.{_≡_, refl, sym, ap, _∙_}
+use native.Mathlib.Omega.{arith}
+use lib.ListN.{length, drop}
+use denote.Ref.{now}
+use borrow.Author.Needs.{needs}
+use Rattle.utf8.specs.declared.characters.Read.{Read}
+use Rattle.utf8.specs.Characters.{back}
+use Rattle.utf8.specs.Behind.{readBack}
+use Rattle.utf8.proofs.Laws.Characters.{back-le}
+use Rattle.utf8.proofs.Laws.Steps.{stands-within}
+use Rattle.stages.specs.Passed.{notPassed}
+use Rattle.stages.specs.Keys.{row}
+use Rattle.stages.proofs.Laws.Part.{partFrom, length-partFrom}
+use Rattle.stages.proofs.Laws.Search.{overPart, over-overPart, overPart-none, overPart-ends, overPart-differs, overPart-read}
 use Rattle.stages.proofs.among.key_rest.Statement.{statement}
 use Rattle.stages.proofs.among.key_rest.Tie as tie
 
 abbrev Inv-loop : tie.InvT-loop
-Inv-loop w keys from upto low part at₀ j₀ at j = (at ≤ length part) × (from ≤ j) × (j ≤ upto) × (overPart low part at 0 (row (upto - j) (drop j keys)) ≡ overPart low part at₀ 0 (row (upto - from) (drop from keys)))
+Inv-loop w keys from upto low part at₀ j₀ at j =
+    (at ≤ length part) × (from ≤ j) × (j ≤ upto)
+    × (overPart low part at 0 (row (upto - j) (drop j keys)) ≡ overPart low part at₀ 0 (row (upto - from) (drop from keys)))
 
 abbrev μ-loop : tie.MeasureT-loop
 μ-loop w keys from upto low part at₀ j₀ at j = upto - j
@@ -29,28 +32,14 @@ sub-part c = omega (arith, stands-within _ _ (c .before .before .pre .0 .within)
 part-part-start : tie.Need-part-part-start Inv-loop μ-loop
 part-part-start c = omega (arith, stands-within _ _ (c .before .before .pre .0 .within))
 
-part-part-end : tie.Need-part-part-end Inv-loop μ-loop
-part-part-end c = search needs
-
 sub-at : tie.Need-sub-at Inv-loop μ-loop
 sub-at c = let s = c .before .before .before .before in omega (arith, stands-within _ _ (s .pre .0 .within))
 
 loop-holds : tie.Need-loop-holds Inv-loop μ-loop
-loop-holds c = let s = c .before .before .before .before in
+loop-holds c =
+    let s = c .before .before .before .before in
     let within = stands-within _ _ (s .pre .0 .within) in
     (omega (arith, length-partFrom (now (s .args .w)) (s .args .c .«limit_backward»), within .low, within .high, within .end), omega arith, omega arith, refl)
-
-mul-k : tie.Need-mul-k Inv-loop μ-loop
-mul-k c = search needs
-
-shared-slice-read-k : tie.Need-shared-slice-read-k Inv-loop μ-loop
-shared-slice-read-k c = search needs
-
-add-to : tie.Need-add-to Inv-loop μ-loop
-add-to c = search needs
-
-to-requires : tie.Need-to-requires Inv-loop μ-loop
-to-requires c κs = search needs
 
 returns : tie.Need-returns Inv-loop μ-loop
 unfolding back
@@ -64,9 +53,6 @@ returns c =
     ∙ overPart-ends low (partFrom w low) (l .at) 0 keys (l .j) (s .args .upto - l .j) (omega arith) (omega arith) (c .before .if1 .taken)
     ∙ l .inv .3 ∙ sym (over-overPart w (s .args .c) (row (s .args .upto - s .args .from) (drop (s .args .from) keys)))
 
-read-back-requires : tie.Need-read-back-requires Inv-loop μ-loop
-read-back-requires c κs = search needs
-
 returns-2 : tie.Need-returns-2 Inv-loop μ-loop
 unfolding notPassed readBack
 returns-2 c =
@@ -79,12 +65,6 @@ returns-2 c =
     overPart-differs low (partFrom w low) (l .at) 0 keys (l .j) (s .args .upto - l .j) (omega arith) (omega arith)
     (c .before .before .before .if1 .left) (λ e. c .if2 .taken (read ∙ sym e))
     ∙ l .inv .3 ∙ sym (over-overPart w (s .args .c) (row (s .args .upto - s .args .from) (drop (s .args .from) keys)))
-
-add-j : tie.Need-add-j Inv-loop μ-loop
-add-j c = search needs
-
-loop-less : tie.Need-loop-less Inv-loop μ-loop
-loop-less c = omega arith
 
 loop-again : tie.Need-loop-again Inv-loop μ-loop
 unfolding readBack
@@ -103,12 +83,6 @@ loop-again c =
           (c .before .before .before .if1 .left) (c .if2 .left) ∙ l .inv .3,
     )
 
-add-to-2 : tie.Need-add-to-2 Inv-loop μ-loop
-add-to-2 c = search needs
-
-to-requires-2 : tie.Need-to-requires-2 Inv-loop μ-loop
-to-requires-2 c κs = search needs
-
 returns-3 : tie.Need-returns-3 Inv-loop μ-loop
 unfolding back
 returns-3 c =
@@ -124,24 +98,6 @@ returns-3 c =
 pub key-rest-spec : {M : Type 1} → statement M
 key-rest-spec =
     tie.close
-    (tie.spec
-    Inv-loop
-    μ-loop
-    sub-part
-    part-part-start
-    part-part-end
-    sub-at
-    loop-holds
-    mul-k
-    shared-slice-read-k
-    add-to
-    to-requires
-    returns
-    read-back-requires
-    returns-2
-    add-j
-    loop-less
-    loop-again
-    add-to-2
-    to-requires-2
-    returns-3)
+    (tie.spec Inv-loop μ-loop sub-part part-part-start (λ c. search needs) sub-at loop-holds (λ c. search needs) (λ c. search needs)
+    (λ c. search needs) (λ c κs. search needs) returns (λ c κs. search needs) returns-2 (λ c. search needs) (λ c. omega arith) loop-again
+    (λ c. search needs) (λ c κs. search needs) returns-3)

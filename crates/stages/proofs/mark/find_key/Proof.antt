@@ -16,72 +16,6 @@ use borrow.Author.Needs.{needs}
 use Rattle.stages.proofs.mark.find_key.Statement.{statement}
 use Rattle.stages.proofs.mark.find_key.Tie as tie
 
-slice-aggregate-find-among-b : tie.Need-slice-aggregate-find-among-b
-slice-aggregate-find-among-b c = search needs
-
-find-among-b-requires : tie.Need-find-among-b-requires
-find-among-b-requires c κs = search needs
-
-slice-aggregate-find-among-b-2 : tie.Need-slice-aggregate-find-among-b-2
-slice-aggregate-find-among-b-2 c = search needs
-
-find-among-b-requires-2 : tie.Need-find-among-b-requires-2
-find-among-b-requires-2 c κs = search needs
-
-slice-aggregate-find-among-b-3 : tie.Need-slice-aggregate-find-among-b-3
-slice-aggregate-find-among-b-3 c = search needs
-
-find-among-b-requires-3 : tie.Need-find-among-b-requires-3
-find-among-b-requires-3 c κs = search needs
-
-slice-aggregate-find-among-b-4 : tie.Need-slice-aggregate-find-among-b-4
-slice-aggregate-find-among-b-4 c = search needs
-
-find-among-b-requires-4 : tie.Need-find-among-b-requires-4
-find-among-b-requires-4 c κs = search needs
-
-slice-aggregate-find-among-b-5 : tie.Need-slice-aggregate-find-among-b-5
-slice-aggregate-find-among-b-5 c = search needs
-
-find-among-b-requires-5 : tie.Need-find-among-b-requires-5
-find-among-b-requires-5 c κs = search needs
-
-slice-aggregate-find-among-b-6 : tie.Need-slice-aggregate-find-among-b-6
-slice-aggregate-find-among-b-6 c = search needs
-
-find-among-b-requires-6 : tie.Need-find-among-b-requires-6
-find-among-b-requires-6 c κs = search needs
-
-slice-aggregate-find-among-b-7 : tie.Need-slice-aggregate-find-among-b-7
-slice-aggregate-find-among-b-7 c = search needs
-
-find-among-b-requires-7 : tie.Need-find-among-b-requires-7
-find-among-b-requires-7 c κs = search needs
-
-slice-aggregate-find-among-b-8 : tie.Need-slice-aggregate-find-among-b-8
-slice-aggregate-find-among-b-8 c = search needs
-
-find-among-b-requires-8 : tie.Need-find-among-b-requires-8
-find-among-b-requires-8 c κs = search needs
-
-slice-aggregate-find-among-b-9 : tie.Need-slice-aggregate-find-among-b-9
-slice-aggregate-find-among-b-9 c = search needs
-
-find-among-b-requires-9 : tie.Need-find-among-b-requires-9
-find-among-b-requires-9 c κs = search needs
-
-slice-aggregate-find-among-b-10 : tie.Need-slice-aggregate-find-among-b-10
-slice-aggregate-find-among-b-10 c = search needs
-
-find-among-b-requires-10 : tie.Need-find-among-b-requires-10
-find-among-b-requires-10 c κs = search needs
-
-slice-aggregate-find-among-b-11 : tie.Need-slice-aggregate-find-among-b-11
-slice-aggregate-find-among-b-11 c = search needs
-
-find-among-b-requires-11 : tie.Need-find-among-b-requires-11
-find-among-b-requires-11 c κs = search needs
-
 -- the search in the table of a mark by its number
 found-tabled : (w : List ℕ) (c : Cursor) {j k : ℕ} → j ≡ k → found (tabled j) w c ≡ found (tabled k) w c
 found-tabled w c e = ap (λ (n : ℕ). found (tabled n) w c) e
@@ -173,38 +107,8 @@ returns-12 c =
 pub find-key-spec : {M : Type 1} → statement M
 find-key-spec =
     tie.close
-    (tie.spec
-    slice-aggregate-find-among-b
-    find-among-b-requires
-    slice-aggregate-find-among-b-2
-    find-among-b-requires-2
-    slice-aggregate-find-among-b-3
-    find-among-b-requires-3
-    slice-aggregate-find-among-b-4
-    find-among-b-requires-4
-    slice-aggregate-find-among-b-5
-    find-among-b-requires-5
-    slice-aggregate-find-among-b-6
-    find-among-b-requires-6
-    slice-aggregate-find-among-b-7
-    find-among-b-requires-7
-    slice-aggregate-find-among-b-8
-    find-among-b-requires-8
-    slice-aggregate-find-among-b-9
-    find-among-b-requires-9
-    slice-aggregate-find-among-b-10
-    find-among-b-requires-10
-    slice-aggregate-find-among-b-11
-    find-among-b-requires-11
-    returns
-    returns-2
-    returns-3
-    returns-4
-    returns-5
-    returns-6
-    returns-7
-    returns-8
-    returns-9
-    returns-10
-    returns-11
-    returns-12)
+    (tie.spec (λ c. search needs) (λ c κs. search needs) (λ c. search needs) (λ c κs. search needs) (λ c. search needs) (λ c κs. search needs)
+    (λ c. search needs) (λ c κs. search needs) (λ c. search needs) (λ c κs. search needs) (λ c. search needs) (λ c κs. search needs)
+    (λ c. search needs) (λ c κs. search needs) (λ c. search needs) (λ c κs. search needs) (λ c. search needs) (λ c κs. search needs)
+    (λ c. search needs) (λ c κs. search needs) (λ c. search needs) (λ c κs. search needs) returns returns-2 returns-3 returns-4 returns-5 returns-6
+    returns-7 returns-8 returns-9 returns-10 returns-11 returns-12)

@@ -1,5 +1,6 @@
 -- `stages::mark::first_of` meets its contract. The loop's invariant: the first of the marks from the i-th on is the first of the group, and
--- what is known of harmony is true. The measure is what is left of the group. Assumes nothing.
+-- what is known of harmony is true. The measure is what is left of the group. In each answer l is the loop, t the place behind its test,
+-- m behind the mark, i behind the test of its answer, and h behind harmony. Assumes nothing.
 use Prim.Native.Nat.{_-_, _≤_}
 use mathlib.Core.Path.{_≡_, refl, sym, ap, subst, _∙_}
 use native.Mathlib.Omega.{arith}
@@ -27,149 +28,75 @@ abbrev μ-loop : tie.MeasureT-loop
 μ-loop w s group t₀ i₀ t i = length group - i
 
 loop-holds : tie.Need-loop-holds Inv-loop μ-loop
-loop-holds c =
-    (omega arith, c .before .before .pre .1, refl)
-
-mul-k : tie.Need-mul-k Inv-loop μ-loop
-mul-k c =
-    search needs
-
-shared-slice-read-k : tie.Need-shared-slice-read-k Inv-loop μ-loop
-shared-slice-read-k c =
-    search needs
-
-add-i : tie.Need-add-i Inv-loop μ-loop
-add-i c =
-    search needs
-
-may-end-requires : tie.Need-may-end-requires Inv-loop μ-loop
-may-end-requires c κs =
-    search needs
-
-loop-less : tie.Need-loop-less Inv-loop μ-loop
-loop-less c =
-    omega arith
+loop-holds c = (omega arith, c .before .before .pre .1, refl)
 
 loop-again : tie.Need-loop-again Inv-loop μ-loop
 loop-again c =
-    let s = c .before .before .before .before .before .before .before in
-    let w = now (s .args .w) in
-    let r = s .args .s .c in
-    let group = now (s .args .group) in
-    let l = c .before .before .before .before .loop in
-    let unfit = sym (mayEnd-sees w (s .args .s) (s .pre .0) _ (c .before .may-end .ensures)) ∙ not-true _ (c .if1 .taken) in
-    (omega arith, l .inv .1, firstOf-next w r group (l .i) (c .before .before .before .loop-test .taken) (markOf-unfit _ _ unfit) ∙ l .inv .2)
+    let t = c .before .before .before in
+    let l = t .before .loop in
+    let s = t .before .before .before .before in
+    let unfit = sym (mayEnd-sees _ (s .args .s) (s .pre .0) _ (c .before .may-end .ensures)) ∙ not-true _ (c .if1 .taken) in
+    (omega arith, l .inv .1, firstOf-next _ _ _ (l .i) (t .loop-test .taken) (markOf-unfit _ _ unfit) ∙ l .inv .2)
 
 mark-requires : tie.Need-mark-requires Inv-loop μ-loop
-mark-requires c κs =
-    c .before .before .before .before .before .before .before .pre .0
-
-loop-less-2 : tie.Need-loop-less-2 Inv-loop μ-loop
-loop-less-2 c =
-    omega arith
+mark-requires c κs = c .before .before .before .before .before .before .before .pre .0
 
 loop-again-2 : tie.Need-loop-again-2 Inv-loop μ-loop
 loop-again-2 c =
-    let s = c .before .before .before .before .before .before .before .before .before .before in
-    let w = now (s .args .w) in
-    let r = s .args .s .c in
-    let group = now (s .args .group) in
-    let l = c .before .before .before .before .before .before .before .loop in
-    let inside = c .before .before .before .before .before .before .loop-test .taken in
-    let fails = markOf-not w r group (l .i) inside (c .before .before .mark .ensures) (not-true _ (c .if2 .taken)) in
-    (omega arith, l .inv .1, firstOf-next w r group (l .i) inside fails ∙ l .inv .2)
-
-is-harmonic-requires : tie.Need-is-harmonic-requires Inv-loop μ-loop
-is-harmonic-requires c κs =
-    search needs
-
-moved-to-requires : tie.Need-moved-to-requires Inv-loop μ-loop
-moved-to-requires c κs =
-    search needs
+    let m = c .before .before in
+    let t = m .before .before .before .before in
+    let l = t .before .loop in
+    let group = now (t .before .before .before .before .args .group) in
+    let fails = markOf-not _ _ group (l .i) (t .loop-test .taken) (m .mark .ensures) (not-true _ (c .if2 .taken)) in
+    (omega arith, l .inv .1, firstOf-next _ _ _ (l .i) (t .loop-test .taken) fails ∙ l .inv .2)
 
 returns : tie.Need-returns Inv-loop μ-loop
 returns c =
-    let s = c .before .before .before .before .before .before .before .before .before .before .before .before .before in
-    let w = now (s .args .w) in
-    let r = s .args .s .c in
-    let group = now (s .args .group) in
-    let l = c .before .before .before .before .before .before .before .before .before .before .loop in
+    let i = c .before .before .before in
+    let m = i .before .before in
+    let t = m .before .before .before .before in
+    let l = t .before .loop in
     let free = sym (c .before .before .is-harmonic .ensures) ∙ not-true _ (c .before .if3 .taken) in
     ap To (c .moved-to .ensures)
-    ∙ firstOf-took w r group (l .i) (c .before .before .before .before .before .before .before .before .before .loop-test .taken) (c .before .before .before .before .before .mark .ensures) (not-false _ (c .before .before .before .if2 .left))
-    (agrees-free (behind w r) free) ∙ l .inv .2
+    ∙ firstOf-took _ _ _ (l .i) (t .loop-test .taken) (m .mark .ensures) (not-false _ (i .if2 .left)) (agrees-free _ free) ∙ l .inv .2
 
 hear-requires : tie.Need-hear-requires Inv-loop μ-loop
 hear-requires c κs =
-    (c .before .before .before .before .before .before .before .before .before .before .before .before .pre .0 .opens, c .before .before .before .before .before .before .before .before .before .loop .inv .1)
-
-moved-to-requires-2 : tie.Need-moved-to-requires-2 Inv-loop μ-loop
-moved-to-requires-2 c κs =
-    search needs
+    let t = c .before .before .before .before .before .before .before .before in
+    (t .before .before .before .before .pre .0 .opens, t .before .loop .inv .1)
 
 returns-2 : tie.Need-returns-2 Inv-loop μ-loop
 unfolding toldAt
 returns-2 c =
-    let s = c .before .before .before .before .before .before .before .before .before .before .before .before .before .before .before in
-    let w = now (s .args .w) in
-    let r = s .args .s .c in
-    let group = now (s .args .group) in
-    let l = c .before .before .before .before .before .before .before .before .before .before .before .before .loop in
-    let bound = sym (c .before .before .before .before .is-harmonic .ensures) ∙ not-false _ (c .before .before .before .if3 .left) in
-    let holds = sym (ap (λ (x : Told). x .holds) (c .before .before .hear .ensures)) ∙ c .before .if4 .taken in
+    let h = c .before .before in
+    let i = h .before .before .before in
+    let m = i .before .before in
+    let t = m .before .before .before .before in
+    let l = t .before .loop in
+    let bound = sym (h .before .before .is-harmonic .ensures) ∙ not-false _ (h .before .if3 .left) in
+    let holds = sym (ap (λ (x : Told). x .holds) (h .hear .ensures)) ∙ c .before .if4 .taken in
     ap To (c .moved-to2 .ensures)
-    ∙ firstOf-took w r group (l .i) (c .before .before .before .before .before .before .before .before .before .before .before .loop-test .taken) (c .before .before .before .before .before .before .before .mark .ensures) (not-false _ (c .before .before .before .before .before .if2 .left))
-    (agrees-bound (behind w r) bound ∙ holds) ∙ l .inv .2
-
-loop-less-3 : tie.Need-loop-less-3 Inv-loop μ-loop
-loop-less-3 c =
-    omega arith
+    ∙ firstOf-took _ _ _ (l .i) (t .loop-test .taken) (m .mark .ensures) (not-false _ (i .if2 .left)) (agrees-bound _ bound ∙ holds) ∙ l .inv .2
 
 loop-again-3 : tie.Need-loop-again-3 Inv-loop μ-loop
 unfolding toldAt
 loop-again-3 c =
-    let s = c .before .before .before .before .before .before .before .before .before .before .before .before .before .before in
-    let w = now (s .args .w) in
-    let r = s .args .s .c in
-    let group = now (s .args .group) in
-    let l = c .before .before .before .before .before .before .before .before .before .before .before .loop in
-    let bound = sym (c .before .before .before .is-harmonic .ensures) ∙ not-false _ (c .before .before .if3 .left) in
-    let discord = sym (ap (λ (x : Told). x .holds) (c .before .hear .ensures)) ∙ c .if4 .left in
-    let inside = c .before .before .before .before .before .before .before .before .before .before .loop-test .taken in
-    let fails = markOf-discord w r group (l .i) inside (c .before .before .before .before .before .before .mark .ensures) (agrees-bound (behind w r) bound ∙ discord) in
-    (omega arith, subst (Hears w r) (sym (c .before .hear .ensures)) (hears-told w r), firstOf-next w r group (l .i) inside fails ∙ l .inv .2)
+    let h = c .before in
+    let m = h .before .before .before .before .before in
+    let t = m .before .before .before .before in
+    let l = t .before .loop in
+    let bound = sym (h .before .before .is-harmonic .ensures) ∙ not-false _ (h .before .if3 .left) in
+    let discord = sym (ap (λ (x : Told). x .holds) (h .hear .ensures)) ∙ c .if4 .left in
+    let group = now (t .before .before .before .before .args .group) in
+    let fails = markOf-discord _ _ group (l .i) (t .loop-test .taken) (m .mark .ensures) (agrees-bound _ bound ∙ discord) in
+    (omega arith, subst (Hears _ _) (sym (h .hear .ensures)) (hears-told _ _), firstOf-next _ _ _ (l .i) (t .loop-test .taken) fails ∙ l .inv .2)
 
 returns-3 : tie.Need-returns-3 Inv-loop μ-loop
-returns-3 c =
-    let s = c .before .before .before .before in
-    let w = now (s .args .w) in
-    let r = s .args .s .c in
-    let group = now (s .args .group) in
-    let l = c .before .loop in
-    firstOf-end w r group (l .i) (c .loop-test .left) ∙ l .inv .2
+returns-3 c = let l = c .before .loop in firstOf-end _ _ _ (l .i) (c .loop-test .left) ∙ l .inv .2
 
 pub first-of-spec : {M : Type 1} → statement M
 first-of-spec =
     tie.close
-    (tie.spec
-    Inv-loop
-    μ-loop
-    loop-holds
-    mul-k
-    shared-slice-read-k
-    add-i
-    may-end-requires
-    loop-less
-    loop-again
-    mark-requires
-    loop-less-2
-    loop-again-2
-    is-harmonic-requires
-    moved-to-requires
-    returns
-    hear-requires
-    moved-to-requires-2
-    returns-2
-    loop-less-3
-    loop-again-3
-    returns-3)
+    (tie.spec Inv-loop μ-loop loop-holds (λ c. search needs) (λ c. search needs) (λ c. search needs) (λ c κs. search needs)
+    (λ c. omega arith) loop-again mark-requires (λ c. omega arith) loop-again-2 (λ c κs. search needs) (λ c κs. search needs) returns
+    hear-requires (λ c κs. search needs) returns-2 (λ c. omega arith) loop-again-3 returns-3)

@@ -13,24 +13,12 @@ use borrow.Author.Needs.{needs}
 use Rattle.stages.proofs.mark.mark.Statement.{statement}
 use Rattle.stages.proofs.mark.mark.Tie as tie
 
-mark-yken-requires : tie.Need-mark-yken-requires
-mark-yken-requires c κs = search needs
-
 returns : tie.Need-returns
 unfolding numbered unharmonic yken marked
 returns c =
     let s = c .before .before .before in
     c .mark-yken .ensures ∙ ap (λ (k : ℕ). passes (now (s .args .w)) (s .args .s .c) (markOf (unharmonic (numbered k)) (behind (now (s .args .w)) (s .args .s .c))))
     (sym (c .before .if1 .taken))
-
-find-key-requires : tie.Need-find-key-requires
-find-key-requires c κs = search needs
-
-enum-known-d : tie.Need-enum-known-d
-enum-known-d c = search needs
-
-enum-told : tie.Need-enum-told
-enum-told c = search needs
 
 returns-2 : tie.Need-returns-2
 unfolding notPassed unharmonic keyedBy
@@ -39,11 +27,9 @@ returns-2 c =
     let w = now (s .args .w) in
     let r = s .args .s .c in
     let m = numbered (s .args .kind) in
-    keyed-nothing (m .keys) (m .joins) w r (tabled-found w r (c .before .before .before .if1 .left) (c .before .before .find-key .ensures)) (c .enum-told .given .1)
-
-is-joining-requires : tie.Need-is-joining-requires
-is-joining-requires c κs =
-    search needs
+    let search = c .before .before in
+    let is = tabled-found w r (search .before .if1 .left) (search .find-key .ensures) in
+    keyed-nothing (m .keys) (m .joins) w r is (c .enum-told .given .1)
 
 mark-suffix-with-optional-y-consonant-requires :
     tie.Need-mark-suffix-with-optional-y-consonant-requires
@@ -52,7 +38,9 @@ mark-suffix-with-optional-y-consonant-requires c κs =
     let w = now (s .args .w) in
     let r = s .args .s .c in
     let m = numbered (s .args .kind) in
-    keyed-open (m .keys) (m .joins) w r (tabled-found w r (c .before .before .before .before .before .before .if1 .left) (c .before .before .before .before .before .find-key .ensures)) (c .before .before .before .d .given .1) (s .pre .opens)
+    let search = c .before .before .before .before .before in
+    let is = tabled-found w r (search .before .if1 .left) (search .find-key .ensures) in
+    keyed-open (m .keys) (m .joins) w r is (c .before .before .before .d .given .1) (s .pre .opens)
 
 returns-3 : tie.Need-returns-3
 unfolding unharmonic keyedBy
@@ -61,34 +49,25 @@ returns-3 c =
     let w = now (s .args .w) in
     let r = s .args .s .c in
     let m = numbered (s .args .kind) in
-    keyed-joined (m .keys) (m .joins) w r (tabled-found w r (c .before .before .before .before .before .before .before .if1 .left) (c .before .before .before .before .before .before .find-key .ensures)) (c .before .before .before .before .d .given .1)
+    let search = c .before .before .before .before .before .before in
+    let is = tabled-found w r (search .before .if1 .left) (search .find-key .ensures) in
+    keyed-joined (m .keys) (m .joins) w r is (c .before .before .before .before .d .given .1)
     (sym (c .before .before .is-joining .ensures) ∙ c .before .if2 .taken) (c .mark-suffix-with-optional-y-consonant .ensures)
-
-to-requires : tie.Need-to-requires
-to-requires c κs = search needs
 
 returns-4 : tie.Need-returns-4
 unfolding unharmonic keyedBy
 returns-4 c =
-    c .to .ensures ∙ (let s = c .before .before .before .before .before .before .before .before .before in
+    let s = c .before .before .before .before .before .before .before .before .before in
     let w = now (s .args .w) in
     let r = s .args .s .c in
     let m = numbered (s .args .kind) in
-    keyed-alone (m .keys) (m .joins) w r (tabled-found w r (c .before .before .before .before .before .before .before .if1 .left) (c .before .before .before .before .before .before .find-key .ensures)) (c .before .before .before .before .d .given .1)
-    (sym (c .before .before .is-joining .ensures) ∙ c .before .if2 .left))
+    let search = c .before .before .before .before .before .before in
+    let is = tabled-found w r (search .before .if1 .left) (search .find-key .ensures) in
+    c .to .ensures
+    ∙ keyed-alone (m .keys) (m .joins) w r is (c .before .before .before .before .d .given .1) (sym (c .before .before .is-joining .ensures) ∙ c .before .if2 .left)
 
 pub mark-spec : {M : Type 1} → statement M
 mark-spec =
     tie.close
-    (tie.spec
-    mark-yken-requires
-    returns
-    find-key-requires
-    enum-known-d
-    enum-told
-    returns-2
-    is-joining-requires
-    mark-suffix-with-optional-y-consonant-requires
-    returns-3
-    to-requires
-    returns-4)
+    (tie.spec (λ c κs. search needs) returns (λ c κs. search needs) (λ c. search needs) (λ c. search needs) returns-2 (λ c κs. search needs)
+    mark-suffix-with-optional-y-consonant-requires returns-3 (λ c κs. search needs) returns-4)

@@ -13,36 +13,16 @@ use Rattle.stages.proofs.mark.mark_suffix_with_optional_y_consonant.Sta
 use Rattle.stages.proofs.mark.mark_suffix_with_optional_y_consonant.Tie as tie
 
 sub-part : tie.Need-sub-part
-sub-part c =
-    let s = c .before in
-    let w = now (s .args .w) in
-    let r = s .args .c in
-    low-length-le w r (s .pre)
+sub-part c = low-length-le _ _ (c .before .pre)
 
 part-part-start : tie.Need-part-part-start
-part-part-start c =
-    let s = c .before in
-    let w = now (s .args .w) in
-    let r = s .args .c in
-    low-length-le w r (s .pre)
-
-part-part-end : tie.Need-part-part-end
-part-part-end c =
-    search needs
+part-part-start c = low-length-le _ _ (c .before .pre)
 
 sub-read-back : tie.Need-sub-read-back
-sub-read-back c =
-    let s = c .before .before .before in
-    let w = now (s .args .w) in
-    let r = s .args .c in
-    low-cursor-le w r (s .pre)
+sub-read-back c = low-cursor-le _ _ (c .before .before .before .pre)
 
 read-back-requires : tie.Need-read-back-requires
-read-back-requires c κs =
-    let s = c .before .before .before in
-    let w = now (s .args .w) in
-    let r = s .args .c in
-    cursor-part-le w r (s .pre)
+read-back-requires c κs = cursor-part-le _ _ (c .before .before .before .pre)
 
 read-back-requires-2 : tie.Need-read-back-requires-2
 read-back-requires-2 c κs =
@@ -51,63 +31,42 @@ read-back-requires-2 c κs =
     let r = s .args .c in
     omega (arith, cursor-part-le w r (s .pre), first-le w r (c .read-back .ensures))
 
-is-vowel-requires : tie.Need-is-vowel-requires
-is-vowel-requires c κs =
-    search needs
-
 returns : tie.Need-returns
 unfolding notPassed
 returns c =
-    let s = c .before .before .before .before .before .before .before in
-    let w = now (s .args .w) in
-    let r = s .args .c in
-    passes-unjoined w r (c .before .before .before .read-back .ensures) (c .before .before .read-back2 .ensures) (sym (c .before .is-vowel .ensures) ∙ not-true _ (c .if1 .taken))
+    let b = c .before .before in
+    let a = b .before in
+    let s = a .before .before .before .before in
+    passes-unjoined (now (s .args .w)) (s .args .c) (a .read-back .ensures) (b .read-back2 .ensures) (sym (c .before .is-vowel .ensures) ∙ not-true _ (c .if1 .taken))
 
 add-to : tie.Need-add-to
 add-to c =
-    let s = c .before .before .before .before .before .before .before .before .before .before in
+    let a = c .before .before .before .before .before .before in
+    let s = a .before .before .before .before in
     let w = now (s .args .w) in
     let r = s .args .c in
-    omega (arith, cursor-length-le w r (s .pre), low-cursor-le w r (s .pre), first-le w r (c .before .before .before .before .before .before .read-back .ensures))
-
-to-requires : tie.Need-to-requires
-to-requires c κs =
-    search needs
+    omega (arith, cursor-length-le w r (s .pre), low-cursor-le w r (s .pre), first-le w r (a .read-back .ensures))
 
 returns-2 : tie.Need-returns-2
 returns-2 c =
-    let s = c .before .before .before .before .before .before .before .before .before .before .before in
-    let w = now (s .args .w) in
-    let r = s .args .c in
-    c .to .ensures ∙ passes-joined w r (c .before .before .before .before .before .before .before .read-back .ensures) (c .before .before .before .before .before .before .read-back2 .ensures)
-    (sym (c .before .before .before .before .before .is-vowel .ensures) ∙ not-false _ (c .before .before .before .before .if1 .left)) (c .before .before .if2 .taken)
-
-to-requires-2 : tie.Need-to-requires-2
-to-requires-2 c κs =
-    search needs
+    let v = c .before .before .before .before in
+    let b = v .before .before in
+    let a = b .before in
+    let s = a .before .before .before .before in
+    c .to .ensures ∙ passes-joined (now (s .args .w)) (s .args .c) (a .read-back .ensures) (b .read-back2 .ensures)
+    (sym (v .before .is-vowel .ensures) ∙ not-false _ (v .if1 .left)) (c .before .before .if2 .taken)
 
 returns-3 : tie.Need-returns-3
 returns-3 c =
-    let s = c .before .before .before .before .before .before .before .before .before .before in
-    let w = now (s .args .w) in
-    let r = s .args .c in
-    c .to2 .ensures ∙ passes-free w r (c .before .before .before .before .before .before .read-back .ensures) (c .before .before .before .before .before .read-back2 .ensures)
-    (sym (c .before .before .before .before .is-vowel .ensures) ∙ not-false _ (c .before .before .before .if1 .left)) (s .pre) (c .before .if2 .left)
+    let v = c .before .before .before in
+    let b = v .before .before in
+    let a = b .before in
+    let s = a .before .before .before .before in
+    c .to2 .ensures ∙ passes-free (now (s .args .w)) (s .args .c) (a .read-back .ensures) (b .read-back2 .ensures)
+    (sym (v .before .is-vowel .ensures) ∙ not-false _ (v .if1 .left)) (s .pre) (c .before .if2 .left)
 
 pub mark-suffix-with-optional-y-consonant-spec : {M : Type 1} → statement M
 mark-suffix-with-optional-y-consonant-spec =
     tie.close
-    (tie.spec
-    sub-part
-    part-part-start
-    part-part-end
-    sub-read-back
-    read-back-requires
-    read-back-requires-2
-    is-vowel-requires
-    returns
-    add-to
-    to-requires
-    returns-2
-    to-requires-2
-    returns-3)
+    (tie.spec sub-part part-part-start (λ c. search needs) sub-read-back read-back-requires read-back-requires-2 (λ c κs. search needs)
+    returns add-to (λ c κs. search needs) returns-2 (λ c κs. search needs) returns-3)

@@ -1,5 +1,5 @@
--- `mark_yken` meets its contract: the steps of the lent record decide it, by the laws of Laws/Yken. On each way k has those steps, and
--- b, v, j, p and l the answers on a vowel, a character, the y, the last step and `ken`, as far as they are known. Assumes nothing.
+-- `stages::mark::mark_yken` meets its contract: the steps of the lent record decide it, by the laws of Laws/Yken. On each way k has those
+-- steps, and b, v, j, p and l the answers on a vowel, a character, the y, the last step and `ken`, as far as known. Assumes nothing.
 use mathlib.Core.Path.{sym, ap, _∙_}
 use mathlib.Core.Bool.{true, false}
 use native.Mathlib.Omega.{arith}
@@ -11,15 +11,6 @@ use Rattle.stages.specs.Passed.{notPassed}
 use Rattle.stages.proofs.Laws.Yken.{yken-keyless, yken-bytes, yken-short, yken-joined, yken-apart}
 use Rattle.stages.proofs.mark.mark_yken.Statement.{statement}
 use Rattle.stages.proofs.mark.mark_yken.Tie as tie
-
-slice-aggregate-back-over : tie.Need-slice-aggregate-back-over
-slice-aggregate-back-over c = search needs
-
-slice-aggregate-back-over-2 : tie.Need-slice-aggregate-back-over-2
-slice-aggregate-back-over-2 c = search needs
-
-back-over-requires : tie.Need-back-over-requires
-back-over-requires c κs = search needs
 
 returns : tie.Need-returns
 unfolding notPassed
@@ -50,9 +41,6 @@ char-at-requires c κs =
     let s = k .before .before .before .before in
     yken-bytes (now (s .args .w)) (s .args .c) (s .pre) (k .back-over .result) (k .back-over .ensures) (not-false _ (p .if2 .left))
 
-is-vowel-requires : tie.Need-is-vowel-requires
-is-vowel-requires c κs = search needs
-
 returns-3 : tie.Need-returns-3
 unfolding notPassed
 returns-3 c =
@@ -65,9 +53,6 @@ returns-3 c =
     let s = k .before .before .before .before in
     yken-joined (now (s .args .w)) (s .args .c) (s .pre) (k .back-over .result) (k .back-over .ensures)
     (not-false _ (l .if1 .left)) (j .if3 .taken) (not-false _ (p .if2 .left)) (v .char-at .ensures) false (sym (b .is-vowel .ensures) ∙ not-true _ (c .if4 .taken))
-
-to-requires : tie.Need-to-requires
-to-requires c κs = search needs
 
 returns-4 : tie.Need-returns-4
 unfolding notPassed
@@ -82,12 +67,6 @@ returns-4 c =
     c .to .ensures ∙ yken-joined (now (s .args .w)) (s .args .c) (s .pre) (k .back-over .result) (k .back-over .ensures)
     (not-false _ (l .if1 .left)) (j .if3 .taken) (not-false _ (p .if2 .left)) (v .char-at .ensures) true (sym (b .is-vowel .ensures) ∙ not-false _ (c .before .if4 .left))
 
-previous-char-requires : tie.Need-previous-char-requires
-previous-char-requires c κs = search needs
-
-is-vowel-requires-2 : tie.Need-is-vowel-requires-2
-is-vowel-requires-2 c κs = search needs
-
 returns-5 : tie.Need-returns-5
 unfolding notPassed
 returns-5 c =
@@ -99,9 +78,6 @@ returns-5 c =
     let s = k .before .before .before .before in
     yken-apart (now (s .args .w)) (s .args .c) (s .pre) (k .back-over .result) (k .back-over .ensures)
     (not-false _ (l .if1 .left)) (j .if3 .left) (ap (λ (x : Step). x .ch) (v .previous-char .ensures)) false (sym (b .is-vowel2 .ensures) ∙ not-true _ (c .if5 .taken))
-
-to-requires-2 : tie.Need-to-requires-2
-to-requires-2 c κs = search needs
 
 returns-6 : tie.Need-returns-6
 unfolding notPassed
@@ -118,20 +94,6 @@ returns-6 c =
 pub mark-yken-spec : {M : Type 1} → statement M
 mark-yken-spec =
     tie.close
-    (tie.spec
-    slice-aggregate-back-over
-    slice-aggregate-back-over-2
-    back-over-requires
-    returns
-    returns-2
-    sub-char-at
-    char-at-requires
-    is-vowel-requires
-    returns-3
-    to-requires
-    returns-4
-    previous-char-requires
-    is-vowel-requires-2
-    returns-5
-    to-requires-2
-    returns-6)
+    (tie.spec (λ c. search needs) (λ c. search needs) (λ c κs. search needs) returns returns-2 sub-char-at char-at-requires
+    (λ c κs. search needs) returns-3 (λ c κs. search needs) returns-4 (λ c κs. search needs) (λ c κs. search needs) returns-5
+    (λ c κs. search needs) returns-6)

@@ -1,8 +1,6 @@
 -- `stages::mark::one_of` meets its contract: a group of one mark. Assumes nothing.
-use mathlib.Core.Path.{_≡_, sym, ap, subst, _∙_}
-use denote.Ref.{now}
+use mathlib.Core.Path.{sym, ap, _∙_}
 use borrow.Author.Tests.{not-true}
-use Rattle.utf8.specs.Behind.{behind}
 use Rattle.stages.specs.Reach.{reach}
 use Rattle.stages.proofs.Laws.Ends.{markOf-unfit}
 use Rattle.stages.proofs.Laws.Marks.{mayEnd-sees}
@@ -11,33 +9,20 @@ use borrow.Author.Needs.{needs}
 use Rattle.stages.proofs.mark.one_of.Statement.{statement}
 use Rattle.stages.proofs.mark.one_of.Tie as tie
 
-may-end-requires : tie.Need-may-end-requires
-may-end-requires c κs = search needs
-
 returns : tie.Need-returns
 unfolding reach
 returns c =
     let s = c .before .before .before in
-    let w = now (s .args .w) in
-    let r = s .args .s .c in
-    let unfit = sym (mayEnd-sees w (s .args .s) (s .pre .0) _ (c .before .may-end .ensures)) ∙ not-true _ (c .if1 .taken) in
-    sym (ap (reach w r) (markOf-unfit _ _ unfit))
-
-slice-aggregate-first-of : tie.Need-slice-aggregate-first-of
-slice-aggregate-first-of c = search needs
+    let unfit = sym (mayEnd-sees _ (s .args .s) (s .pre .0) _ (c .before .may-end .ensures)) ∙ not-true _ (c .if1 .taken) in
+    sym (ap (reach _ _) (markOf-unfit _ _ unfit))
 
 first-of-requires : tie.Need-first-of-requires
-first-of-requires c κs =
-    (c .before .before .before .before .pre .0, c .before .before .before .before .pre .1)
+first-of-requires c κs = let s = c .before .before .before .before in (s .pre .0, s .pre .1)
 
 returns-2 : tie.Need-returns-2
-returns-2 c =
-    let s = c .before .before .before .before .before in
-    let w = now (s .args .w) in
-    let r = s .args .s .c in
-    c .first-of .ensures ∙ ap (reach w r) (group-one (behind w r) (s .args .kind))
+returns-2 c = c .first-of .ensures ∙ ap (reach _ _) (group-one _ _)
 
 pub one-of-spec : {M : Type 1} → statement M
 one-of-spec =
     tie.close
-    (tie.spec may-end-requires returns slice-aggregate-first-of first-of-requires returns-2)
+    (tie.spec (λ c κs. search needs) returns (λ c. search needs) first-of-requires returns-2)

@@ -1,94 +1,47 @@
 -- `stages::stage::sixth_branch` meets its contract: a person's ending or nothing and ymUs_ are tried whole from where DUr reaches, after its deletion. Assumes nothing.
-use mathlib.Core.Path.{_≡_, sym, ap, subst, _∙_}
-use denote.Ref.{now}
 use borrow.Author.Needs.{needs}
-use Rattle.utf8.specs.declared.cursor.Cursor.{Cursor}
-use Rattle.utf8.specs.Behind.{behind, deleted, Open}
-use Rattle.utf8.proofs.Laws.Behind.{open-deleted}
-use Rattle.turkish.specs.Grammar.{markOf, run, mark, _then_, try}
-use Rattle.turkish.specs.Marks.{DUr, ymUs}
+use Rattle.turkish.specs.Grammar.{run, mark, _then_, try}
+use Rattle.turkish.specs.Marks.{ymUs}
 use Rattle.turkish.specs.Stage.{person, branch6}
 use Rattle.stages.specs.Numbered.{numbered}
-use Rattle.stages.specs.Reach.{reach}
-use Rattle.stages.proofs.Laws.Branches.{open-reach, after-fails, after-to, cut-opened, cut-stays}
-use borrow.Author.Needs.{needs}
+use Rattle.stages.proofs.Laws.Branches.{open-cut, after-fails, try-reach, try-fails}
 use Rattle.stages.proofs.stage.sixth_branch.Statement.{statement}
 use Rattle.stages.proofs.stage.sixth_branch.Tie as tie
 
 one-of-requires : tie.Need-one-of-requires
-one-of-requires c κs =
-    (c .before .pre .0, c .before .pre .1)
-
-enum-known-c : tie.Need-enum-known-c
-enum-known-c c = search needs
-
-enum-told : tie.Need-enum-told
-enum-told c = search needs
+one-of-requires c κs = (c .before .pre .0, c .before .pre .1)
 
 returns : tie.Need-returns
 unfolding run branch6 numbered
-returns c =
-    let s = c .before .before .before .before in
-    let w = now (s .args .w) in
-    let r = s .args .s .c in
-    after-fails w r (markOf DUr (behind w r)) _ (c .before .before .one-of .ensures) (c .enum-told .given .1)
-
-deleted-requires : tie.Need-deleted-requires
-deleted-requires c κs =
-    search needs
+returns c = after-fails _ _ _ (c .before .before .one-of .ensures) _ (c .enum-told .given .1)
 
 person-then-ymUs-requires : tie.Need-person-then-ymUs-requires
 person-then-ymUs-requires c κs =
-    let s = c .before .before .before .before .before .before in
-    let w = now (s .args .w) in
-    let r = s .args .s .c in
-    subst (Open w) (sym (c .deleted .ensures)) (open-deleted w _ (open-reach w r _ (s .pre .0 .opens) (c .before .before .before .before .one-of .ensures) (c .before .before .c .given .1)))
-
-enum-known-e : tie.Need-enum-known-e
-enum-known-e c = search needs
-
-enum-told-2 : tie.Need-enum-told-2
-enum-told-2 c = search needs
+    let a = c .before .before in
+    let b = a .before .before in
+    open-cut _ _ _ (b .before .before .pre .0 .opens) (b .one-of .ensures) (a .c .given .1) (c .deleted .ensures)
 
 returns-2 : tie.Need-returns-2
-unfolding run try branch6 numbered behind deleted
+unfolding run try branch6 numbered
 returns-2 c =
-    let s = c .before .before .before .before .before .before .before .before .before in
-    let w = now (s .args .w) in
-    let r = s .args .s .c in
-    let d = c .before .before .before .before .before .c .given .0 .0 in
-    let is = c .before .before .person-then-ymUs .ensures ∙ ap (λ (x : Cursor). reach w x (run (person then mark ymUs) (behind w x))) (c .before .before .before .deleted .ensures) in
-    let goes-on = after-to w r (markOf DUr (behind w r)) (run (try (person then mark ymUs))) (c .before .before .before .before .before .before .before .one-of .ensures) (c .before .before .before .before .before .c .given .1) in
-    let opens = open-reach w r _ (s .pre .0 .opens) (c .before .before .before .before .before .before .before .one-of .ensures) (c .before .before .before .before .before .c .given .1) in
-    cut-stays w d (run (person then mark ymUs) (behind w d)) opens is (c .enum-told2 .given .1) (c .before .before .before .deleted .ensures) ∙ goes-on
-
-deleted-requires-2 : tie.Need-deleted-requires-2
-deleted-requires-2 c κs =
-    search needs
+    let p = c .before .before in
+    let a = p .before .before .before in
+    let b = a .before .before in
+    try-fails _ _ _ (b .one-of .ensures) (a .c .given .1) (run (person then mark ymUs)) (p .before .deleted .ensures) (b .before .before .pre .0 .opens)
+    (p .person-then-ymUs .ensures) (c .enum-told2 .given .1)
 
 returns-3 : tie.Need-returns-3
-unfolding run try branch6 numbered behind deleted
+unfolding run try branch6 numbered
 returns-3 c =
-    let s = c .before .before .before .before .before .before .before .before .before .before .before in
-    let w = now (s .args .w) in
-    let r = s .args .s .c in
-    let d = c .before .before .before .before .before .before .before .c .given .0 .0 in
-    let is = c .before .before .before .before .person-then-ymUs .ensures ∙ ap (λ (x : Cursor). reach w x (run (person then mark ymUs) (behind w x))) (c .before .before .before .before .before .deleted .ensures) in
-    let goes-on = after-to w r (markOf DUr (behind w r)) (run (try (person then mark ymUs))) (c .before .before .before .before .before .before .before .before .before .one-of .ensures) (c .before .before .before .before .before .before .before .c .given .1) in
-    cut-opened w d (run (person then mark ymUs) (behind w d)) is (c .before .before .e .given .1) (c .deleted2 .ensures) ∙ goes-on
+    let e = c .before .before in
+    let p = e .before .before in
+    let a = p .before .before .before in
+    let b = a .before .before in
+    try-reach _ _ _ (b .one-of .ensures) (a .c .given .1) (run (person then mark ymUs)) (p .before .deleted .ensures) (p .person-then-ymUs .ensures)
+    (e .e .given .1) (c .deleted2 .ensures)
 
 pub sixth-branch-spec : {M : Type 1} → statement M
 sixth-branch-spec =
     tie.close
-    (tie.spec
-    one-of-requires
-    enum-known-c
-    enum-told
-    returns
-    deleted-requires
-    person-then-ymUs-requires
-    enum-known-e
-    enum-told-2
-    returns-2
-    deleted-requires-2
-    returns-3)
+    (tie.spec one-of-requires (λ c. search needs) (λ c. search needs) returns (λ c κs. search needs) person-then-ymUs-requires
+    (λ c. search needs) (λ c. search needs) returns-2 (λ c κs. search needs) returns-3)

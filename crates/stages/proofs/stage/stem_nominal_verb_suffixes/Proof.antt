@@ -1,195 +1,154 @@
--- `stages::stage::stem_nominal_verb_suffixes` meets its contract: the first branch that is cut, each from the word's end. Assumes nothing.
-use mathlib.Core.Path.{refl, _∙_}
+-- `stages::stage::stem_nominal_verb_suffixes` meets its contract: the branches one after the other from the word's end. Assumes nothing.
+use mathlib.Core.Path.{_≡_, refl, _∙_}
+use mathlib.Core.List.{List}
+use Prim.Native.Nat.{ℕ}
 use denote.Ref.{now}
 use borrow.Author.Tests.{not-true}
-use Rattle.turkish.specs.Grammar.{run}
+use borrow.Author.Needs.{needs}
+use Rattle.turkish.specs.Grammar.{Command, _or_, run}
 use Rattle.turkish.specs.Stage.{branch1, branch2, branch3, branch4, branch5, branch6, branches}
 use Rattle.turkish.specs.Calls.{chars}
 use Rattle.turkish.proofs.Laws.Flag.{branch1-keeps, branch2-keeps, branch3-lowers, branch4-keeps, branch5-keeps, branch6-keeps}
 use Rattle.stages.proofs.Laws.Told.{hears-toldAtEnd}
 use Rattle.stages.proofs.Laws.Ends.{branches-unfit}
-use Rattle.stages.proofs.Laws.Branches.{whole, open-whole, sees-made, at-end, someEnd-whole, cut-failed, first-passed, outcome-first, outcome-last, outcome-fail}
-use borrow.Author.Needs.{needs}
+use Rattle.stages.proofs.Laws.Branches.{whole, open-whole, sees-made, someEnd-whole, branch-fails, outcome-fail, outcome-fails, outcome-last, outcome-cut}
 use Rattle.stages.proofs.stage.stem_nominal_verb_suffixes.Statement.{statement}
 use Rattle.stages.proofs.stage.stem_nominal_verb_suffixes.Tie as tie
 
-look-back-requires : tie.Need-look-back-requires
-look-back-requires c κs =
-    open-whole (now (c .before .args .w))
+-- ---- what is left of the stage ----
 
-ends-any-requires : tie.Need-ends-any-requires
-ends-any-requires c κs = search needs
+-- the word, once its end is seen
+abbrev word : tie.After-look-back → List ℕ
+word c = now (c .before .before .args .w)
+
+-- where the branches before q have failed, the stage is q
+abbrev Left : tie.After-look-back → Command → Type 0
+Left c q = run branches (chars (word c)) ≡ run q (chars (word c))
+
+-- the place where the word's end is seen, from before each branch
+abbrev end1 : tie.After-told-at-end → tie.After-look-back
+end1 c = c .before .before .before
+
+abbrev end2 : tie.After-enum-told → tie.After-look-back
+end2 c = end1 (c .before .before .before)
+
+abbrev end3 : tie.After-enum-told2 → tie.After-look-back
+end3 c = end2 (c .before .before .before)
+
+abbrev end4 : tie.After-enum-told3 → tie.After-look-back
+end4 c = end3 (c .before .before .before)
+
+abbrev end5 : tie.After-enum-told4 → tie.After-look-back
+end5 c = end4 (c .before .before .before)
+
+abbrev end6 : tie.After-enum-told5 → tie.After-look-back
+end6 c = end5 (c .before .before .before)
+
+-- before the first branch, all of the stage is left
+left1 : (c : tie.After-told-at-end) → Left (end1 c) (branch1 or branch2 or branch3 or branch4 or branch5 or branch6)
+unfolding branches
+left1 c = refl
+
+-- where the first fails, those from the second on
+left2 : (c : tie.After-enum-told) → Left (end2 c) (branch2 or branch3 or branch4 or branch5 or branch6)
+left2 c =
+    let b = c .before .before in
+    left1 (b .before) ∙ branch-fails _ (end2 c .look-back .ensures) branch1 _ (b .first-branch .ensures) (c .enum-told .given .1)
+
+-- where that fails, those from the third on
+left3 : (c : tie.After-enum-told2) → Left (end3 c) (branch3 or branch4 or branch5 or branch6)
+left3 c =
+    let b = c .before .before in
+    left2 (b .before) ∙ branch-fails _ (end3 c .look-back .ensures) branch2 _ (b .second-branch .ensures) (c .enum-told2 .given .1)
+
+-- from the fourth on
+left4 : (c : tie.After-enum-told3) → Left (end4 c) (branch4 or branch5 or branch6)
+left4 c =
+    let b = c .before .before in
+    left3 (b .before) ∙ branch-fails _ (end4 c .look-back .ensures) branch3 _ (b .third-branch .ensures) (c .enum-told3 .given .1)
+
+-- from the fifth on
+left5 : (c : tie.After-enum-told4) → Left (end5 c) (branch5 or branch6)
+left5 c =
+    let b = c .before .before in
+    left4 (b .before) ∙ branch-fails _ (end5 c .look-back .ensures) branch4 _ (b .fourth-branch .ensures) (c .enum-told4 .given .1)
+
+-- and the last alone
+left6 : (c : tie.After-enum-told5) → Left (end6 c) branch6
+left6 c =
+    let b = c .before .before in
+    left5 (b .before) ∙ branch-fails _ (end6 c .look-back .ensures) branch5 _ (b .fifth-branch .ensures) (c .enum-told5 .given .1)
+
+-- ---- the needs ----
+
+look-back-requires : tie.Need-look-back-requires
+look-back-requires c κs = open-whole (now (c .before .args .w))
 
 returns : tie.Need-returns
 returns c =
-    let w = now (c .before .before .before .before .args .w) in
-    outcome-fail w (branches-unfit (chars w) (someEnd-whole w (c .before .before .look-back .ensures) _ (c .before .ends-any .ensures) (not-true _ (c .if1 .taken))))
+    let s = c .before .before in
+    outcome-fail _ (branches-unfit _ (someEnd-whole (word s) (s .look-back .ensures) _ (c .before .ends-any .ensures) (not-true _ (c .if1 .taken))))
 
 told-at-end-requires : tie.Need-told-at-end-requires
-told-at-end-requires c κs =
-    let w = now (c .before .before .before .before .args .w) in sees-made w (whole w) (c .before .before .look-back .ensures) (open-whole w)
+told-at-end-requires c κs = let s = c .before .before in sees-made (word s) (whole (word s)) (s .look-back .ensures) (open-whole (word s))
 
 first-branch-requires : tie.Need-first-branch-requires
-first-branch-requires c κs =
-    let w = now (c .before .before .before .before .before .args .w) in (sees-made w (whole w) (c .before .before .before .look-back .ensures) (open-whole w), hears-toldAtEnd w _ (c .told-at-end .ensures))
-
-enum-known-c : tie.Need-enum-known-c
-enum-known-c c = search needs
-
-returns-2 : tie.Need-returns-2
-unfolding run branches
-returns-2 c =
-    let w = now (c .before .before .before .before .before .before .before .before .before .args .w) in
-    let at = c .before .before .before .before .before .before .before .look-back .ensures in
-    outcome-first w _ (branch1-keeps (chars w)) (at-end w at branch1 (c .before .before .before .first-branch .ensures)) (c .before .c .given .1)
-    (refl)
-
-enum-told : tie.Need-enum-told
-enum-told c = search needs
+first-branch-requires c κs = (told-at-end-requires (c .before) κs, hears-toldAtEnd (word (end1 c)) _ (c .told-at-end .ensures))
 
 second-branch-requires : tie.Need-second-branch-requires
-second-branch-requires c κs =
-    let w = now (c .before .before .before .before .before .before .before .before .args .w) in (sees-made w (whole w) (c .before .before .before .before .before .before .look-back .ensures) (open-whole w), hears-toldAtEnd w _ (c .before .before .before .told-at-end .ensures))
-
-enum-known-c-2 : tie.Need-enum-known-c-2
-enum-known-c-2 c = search needs
-
-returns-3 : tie.Need-returns-3
-unfolding run branches
-returns-3 c =
-    let w = now (c .before .before .before .before .before .before .before .before .before .before .before .before .args .w) in
-    let at = c .before .before .before .before .before .before .before .before .before .before .look-back .ensures in
-    outcome-first w _ (branch2-keeps (chars w)) (at-end w at branch2 (c .before .before .before .second-branch .ensures)) (c .before .c2 .given .1)
-    (first-passed _ (cut-failed w (whole w) _ (at-end w at branch1 (c .before .before .before .before .before .before .first-branch .ensures)) (c .before .before .before .before .enum-told .given .1)))
-
-enum-told-2 : tie.Need-enum-told-2
-enum-told-2 c = search needs
+second-branch-requires c = first-branch-requires (c .before .before .before)
 
 third-branch-requires : tie.Need-third-branch-requires
-third-branch-requires c κs =
-    let w = now (c .before .before .before .before .before .before .before .before .before .before .before .args .w) in (sees-made w (whole w) (c .before .before .before .before .before .before .before .before .before .look-back .ensures) (open-whole w), hears-toldAtEnd w _ (c .before .before .before .before .before .before .told-at-end .ensures))
-
-enum-known-c-3 : tie.Need-enum-known-c-3
-enum-known-c-3 c = search needs
-
-returns-4 : tie.Need-returns-4
-unfolding run branches
-returns-4 c =
-    let w = now (c .before .before .before .before .before .before .before .before .before .before .before .before .before .before .before .args .w) in
-    let at = c .before .before .before .before .before .before .before .before .before .before .before .before .before .look-back .ensures in
-    outcome-first w _ (branch3-lowers (chars w)) (at-end w at branch3 (c .before .before .before .third-branch .ensures)) (c .before .c3 .given .1)
-    (first-passed _ (cut-failed w (whole w) _ (at-end w at branch1 (c .before .before .before .before .before .before .before .before .before .first-branch .ensures)) (c .before .before .before .before .before .before .before .enum-told .given .1))
-    ∙ first-passed _ (cut-failed w (whole w) _ (at-end w at branch2 (c .before .before .before .before .before .before .second-branch .ensures)) (c .before .before .before .before .enum-told2 .given .1)))
-
-enum-told-3 : tie.Need-enum-told-3
-enum-told-3 c = search needs
+third-branch-requires c = second-branch-requires (c .before .before .before)
 
 fourth-branch-requires : tie.Need-fourth-branch-requires
-fourth-branch-requires c κs =
-    let w = now (c .before .before .before .before .before .before .before .before .before .before .before .before .before .before .args .w) in (sees-made w (whole w) (c .before .before .before .before .before .before .before .before .before .before .before .before .look-back .ensures) (open-whole w), hears-toldAtEnd w _ (c .before .before .before .before .before .before .before .before .before .told-at-end .ensures))
-
-enum-known-c-4 : tie.Need-enum-known-c-4
-enum-known-c-4 c = search needs
-
-returns-5 : tie.Need-returns-5
-unfolding run branches
-returns-5 c =
-    let w = now (c .before .before .before .before .before .before .before .before .before .before .before .before .before .before .before .before .before .before .args .w) in
-    let at = c .before .before .before .before .before .before .before .before .before .before .before .before .before .before .before .before .look-back .ensures in
-    outcome-first w _ (branch4-keeps (chars w)) (at-end w at branch4 (c .before .before .before .fourth-branch .ensures)) (c .before .c4 .given .1)
-    (first-passed _ (cut-failed w (whole w) _ (at-end w at branch1 (c .before .before .before .before .before .before .before .before .before .before .before .before .first-branch .ensures)) (c .before .before .before .before .before .before .before .before .before .before .enum-told .given .1))
-    ∙ first-passed _ (cut-failed w (whole w) _ (at-end w at branch2 (c .before .before .before .before .before .before .before .before .before .second-branch .ensures)) (c .before .before .before .before .before .before .before .enum-told2 .given .1))
-    ∙ first-passed _ (cut-failed w (whole w) _ (at-end w at branch3 (c .before .before .before .before .before .before .third-branch .ensures)) (c .before .before .before .before .enum-told3 .given .1)))
-
-enum-told-4 : tie.Need-enum-told-4
-enum-told-4 c = search needs
+fourth-branch-requires c = third-branch-requires (c .before .before .before)
 
 fifth-branch-requires : tie.Need-fifth-branch-requires
-fifth-branch-requires c κs =
-    let w = now (c .before .before .before .before .before .before .before .before .before .before .before .before .before .before .before .before .before .args .w) in (sees-made w (whole w) (c .before .before .before .before .before .before .before .before .before .before .before .before .before .before .before .look-back .ensures) (open-whole w), hears-toldAtEnd w _ (c .before .before .before .before .before .before .before .before .before .before .before .before .told-at-end .ensures))
-
-enum-known-c-5 : tie.Need-enum-known-c-5
-enum-known-c-5 c = search needs
-
-returns-6 : tie.Need-returns-6
-unfolding run branches
-returns-6 c =
-    let w = now (c .before .before .before .before .before .before .before .before .before .before .before .before .before .before .before .before .before .before .before .before .before .args .w) in
-    let at = c .before .before .before .before .before .before .before .before .before .before .before .before .before .before .before .before .before .before .before .look-back .ensures in
-    outcome-first w _ (branch5-keeps (chars w)) (at-end w at branch5 (c .before .before .before .fifth-branch .ensures)) (c .before .c5 .given .1)
-    (first-passed _ (cut-failed w (whole w) _ (at-end w at branch1 (c .before .before .before .before .before .before .before .before .before .before .before .before .before .before .before .first-branch .ensures)) (c .before .before .before .before .before .before .before .before .before .before .before .before .before .enum-told .given .1))
-    ∙ first-passed _ (cut-failed w (whole w) _ (at-end w at branch2 (c .before .before .before .before .before .before .before .before .before .before .before .before .second-branch .ensures)) (c .before .before .before .before .before .before .before .before .before .before .enum-told2 .given .1))
-    ∙ first-passed _ (cut-failed w (whole w) _ (at-end w at branch3 (c .before .before .before .before .before .before .before .before .before .third-branch .ensures)) (c .before .before .before .before .before .before .before .enum-told3 .given .1))
-    ∙ first-passed _ (cut-failed w (whole w) _ (at-end w at branch4 (c .before .before .before .before .before .before .fourth-branch .ensures)) (c .before .before .before .before .enum-told4 .given .1)))
-
-enum-told-5 : tie.Need-enum-told-5
-enum-told-5 c = search needs
+fifth-branch-requires c = fourth-branch-requires (c .before .before .before)
 
 sixth-branch-requires : tie.Need-sixth-branch-requires
-sixth-branch-requires c κs =
-    let w = now (c .before .before .before .before .before .before .before .before .before .before .before .before .before .before .before .before .before .before .before .before .args .w) in (sees-made w (whole w) (c .before .before .before .before .before .before .before .before .before .before .before .before .before .before .before .before .before .before .look-back .ensures) (open-whole w), hears-toldAtEnd w _ (c .before .before .before .before .before .before .before .before .before .before .before .before .before .before .before .told-at-end .ensures))
+sixth-branch-requires c = fifth-branch-requires (c .before .before .before)
 
-enum-known-c-6 : tie.Need-enum-known-c-6
-enum-known-c-6 c = search needs
+returns-2 : tie.Need-returns-2
+returns-2 c =
+    let b = c .before .before .before in
+    outcome-cut _ (end1 (b .before) .look-back .ensures) branch1 _ (branch1-keeps _) (b .first-branch .ensures) (c .before .c .given .1) (left1 (b .before))
+
+returns-3 : tie.Need-returns-3
+returns-3 c =
+    let b = c .before .before .before in
+    outcome-cut _ (end2 (b .before) .look-back .ensures) branch2 _ (branch2-keeps _) (b .second-branch .ensures) (c .before .c2 .given .1) (left2 (b .before))
+
+returns-4 : tie.Need-returns-4
+returns-4 c =
+    let b = c .before .before .before in
+    outcome-cut _ (end3 (b .before) .look-back .ensures) branch3 _ (branch3-lowers _) (b .third-branch .ensures) (c .before .c3 .given .1) (left3 (b .before))
+
+returns-5 : tie.Need-returns-5
+returns-5 c =
+    let b = c .before .before .before in
+    outcome-cut _ (end4 (b .before) .look-back .ensures) branch4 _ (branch4-keeps _) (b .fourth-branch .ensures) (c .before .c4 .given .1) (left4 (b .before))
+
+returns-6 : tie.Need-returns-6
+returns-6 c =
+    let b = c .before .before .before in
+    outcome-cut _ (end5 (b .before) .look-back .ensures) branch5 _ (branch5-keeps _) (b .fifth-branch .ensures) (c .before .c5 .given .1) (left5 (b .before))
 
 returns-7 : tie.Need-returns-7
-unfolding run branches
 returns-7 c =
-    let w = now (c .before .before .before .before .before .before .before .before .before .before .before .before .before .before .before .before .before .before .before .before .before .before .before .before .args .w) in
-    let at = c .before .before .before .before .before .before .before .before .before .before .before .before .before .before .before .before .before .before .before .before .before .before .look-back .ensures in
-    outcome-last w (branch6-keeps (chars w)) (at-end w at branch6 (c .before .before .before .sixth-branch .ensures)) (c .before .c6 .given .1)
-    (first-passed _ (cut-failed w (whole w) _ (at-end w at branch1 (c .before .before .before .before .before .before .before .before .before .before .before .before .before .before .before .before .before .before .first-branch .ensures)) (c .before .before .before .before .before .before .before .before .before .before .before .before .before .before .before .before .enum-told .given .1))
-    ∙ first-passed _ (cut-failed w (whole w) _ (at-end w at branch2 (c .before .before .before .before .before .before .before .before .before .before .before .before .before .before .before .second-branch .ensures)) (c .before .before .before .before .before .before .before .before .before .before .before .before .before .enum-told2 .given .1))
-    ∙ first-passed _ (cut-failed w (whole w) _ (at-end w at branch3 (c .before .before .before .before .before .before .before .before .before .before .before .before .third-branch .ensures)) (c .before .before .before .before .before .before .before .before .before .before .enum-told3 .given .1))
-    ∙ first-passed _ (cut-failed w (whole w) _ (at-end w at branch4 (c .before .before .before .before .before .before .before .before .before .fourth-branch .ensures)) (c .before .before .before .before .before .before .before .enum-told4 .given .1))
-    ∙ first-passed _ (cut-failed w (whole w) _ (at-end w at branch5 (c .before .before .before .before .before .before .fifth-branch .ensures)) (c .before .before .before .before .enum-told5 .given .1)))
-
-enum-told-6 : tie.Need-enum-told-6
-enum-told-6 c = search needs
+    let b = c .before .before .before in
+    outcome-last _ (end6 (b .before) .look-back .ensures) branch6 (branch6-keeps _) (b .sixth-branch .ensures) (c .before .c6 .given .1) (left6 (b .before))
 
 returns-8 : tie.Need-returns-8
-unfolding run branches
 returns-8 c =
-    let w = now (c .before .before .before .before .before .before .before .before .before .before .before .before .before .before .before .before .before .before .before .before .before .before .before .args .w) in
-    let at = c .before .before .before .before .before .before .before .before .before .before .before .before .before .before .before .before .before .before .before .before .before .look-back .ensures in
-    outcome-fail w
-    (first-passed _ (cut-failed w (whole w) _ (at-end w at branch1 (c .before .before .before .before .before .before .before .before .before .before .before .before .before .before .before .before .before .first-branch .ensures)) (c .before .before .before .before .before .before .before .before .before .before .before .before .before .before .before .enum-told .given .1))
-    ∙ first-passed _ (cut-failed w (whole w) _ (at-end w at branch2 (c .before .before .before .before .before .before .before .before .before .before .before .before .before .before .second-branch .ensures)) (c .before .before .before .before .before .before .before .before .before .before .before .before .enum-told2 .given .1))
-    ∙ first-passed _ (cut-failed w (whole w) _ (at-end w at branch3 (c .before .before .before .before .before .before .before .before .before .before .before .third-branch .ensures)) (c .before .before .before .before .before .before .before .before .before .enum-told3 .given .1))
-    ∙ first-passed _ (cut-failed w (whole w) _ (at-end w at branch4 (c .before .before .before .before .before .before .before .before .fourth-branch .ensures)) (c .before .before .before .before .before .before .enum-told4 .given .1))
-    ∙ first-passed _ (cut-failed w (whole w) _ (at-end w at branch5 (c .before .before .before .before .before .fifth-branch .ensures)) (c .before .before .before .enum-told5 .given .1))
-    ∙ cut-failed w (whole w) _ (at-end w at branch6 (c .before .before .sixth-branch .ensures)) (c .enum-told6 .given .1))
+    let b = c .before .before in
+    outcome-fails _ (end6 (b .before) .look-back .ensures) branch6 (b .sixth-branch .ensures) (c .enum-told6 .given .1) (left6 (b .before))
 
 pub stem-nominal-verb-suffixes-spec : {M : Type 1} → statement M
 stem-nominal-verb-suffixes-spec =
     tie.close
-    (tie.spec
-    look-back-requires
-    ends-any-requires
-    returns
-    told-at-end-requires
-    first-branch-requires
-    enum-known-c
-    returns-2
-    enum-told
-    second-branch-requires
-    enum-known-c-2
-    returns-3
-    enum-told-2
-    third-branch-requires
-    enum-known-c-3
-    returns-4
-    enum-told-3
-    fourth-branch-requires
-    enum-known-c-4
-    returns-5
-    enum-told-4
-    fifth-branch-requires
-    enum-known-c-5
-    returns-6
-    enum-told-5
-    sixth-branch-requires
-    enum-known-c-6
-    returns-7
-    enum-told-6
-    returns-8)
+    (tie.spec look-back-requires (λ c κs. search needs) returns told-at-end-requires first-branch-requires (λ c. search needs) returns-2
+    (λ c. search needs) second-branch-requires (λ c. search needs) returns-3 (λ c. search needs) third-branch-requires (λ c. search needs)
+    returns-4 (λ c. search needs) fourth-branch-requires (λ c. search needs) returns-5 (λ c. search needs) fifth-branch-requires
+    (λ c. search needs) returns-6 (λ c. search needs) sixth-branch-requires (λ c. search needs) returns-7 (λ c. search needs) returns-8)

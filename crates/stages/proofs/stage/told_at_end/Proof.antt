@@ -8,9 +8,6 @@ use Rattle.stages.proofs.Laws.Told.{hears-unasked}
 use Rattle.stages.proofs.stage.told_at_end.Statement.{statement}
 use Rattle.stages.proofs.stage.told_at_end.Tie as tie
 
-ends-harmonic-requires : tie.Need-ends-harmonic-requires
-ends-harmonic-requires c κs = search needs
-
 returns : tie.Need-returns
 unfolding toldAtEnd unasked
 returns c = let silent = sym (c .before .ends-harmonic .ensures) ∙ not-true _ (c .if1 .taken) in sym (rw silent)
@@ -24,4 +21,5 @@ unfolding toldAtEnd
 returns-2 c = let asked = sym (c .before .before .ends-harmonic .ensures) ∙ not-false _ (c .before .if1 .left) in c .hear .ensures ∙ sym (rw asked)
 
 pub told-at-end-spec : {M : Type 1} → statement M
-told-at-end-spec = tie.close (tie.spec ends-harmonic-requires returns hear-requires returns-2)
+told-at-end-spec = tie.close
+    (tie.spec (λ c κs. search needs) returns hear-requires returns-2)

@@ -57,10 +57,15 @@ sub-at : tie.Need-sub-at
 sub-at c = let s = c .before .before .before .before .before .before in omega (arith, lastWidth-le (now (s .args .w)) (s .args .c) (omega arith))
 
 char-at-requires : tie.Need-char-at-requires
-char-at-requires c κs = let s = c .before .before .before .before .before .before in omega (arith, lastWidth-le (now (s .args .w)) (s .args .c) (omega arith), lastWidth-pos (now (s .args .w)) (s .args .c), lastWidth-four (now (s .args .w)) (s .args .c))
+char-at-requires c κs =
+    let s = c .before .before .before .before .before .before in
+    let w = now (s .args .w) in
+    omega (arith, lastWidth-le w (s .args .c) (omega arith), lastWidth-pos w (s .args .c), lastWidth-four w (s .args .c))
 
 returns-4 : tie.Need-returns-4
-returns-4 c = let s = c .before .before .before .before .before .before .before in readBack-made (now (s .args .w)) (s .args .c) _ _ (omega arith) (c .before .last-width .ensures) (c .char-at .ensures)
+returns-4 c =
+    let s = c .before .before .before .before .before .before .before in
+    readBack-made (now (s .args .w)) (s .args .c) _ _ (omega arith) (c .before .last-width .ensures) (c .char-at .ensures)
 
 pub read-back-spec : {M : Type 1} → statement M
 read-back-spec =
