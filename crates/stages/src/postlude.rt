@@ -5,6 +5,8 @@ use crate::among::find_among_b;
 use crate::seen;
 use crate::seen::Seen;
 use crate::tables;
+use crate::vowel::Sound;
+use crate::vowel::Vowel;
 use crate::walk;
 use utf8::cursor::Cursor;
 use utf8::literal;
@@ -82,11 +84,15 @@ fn is_reserved_word(w: &[u8], n: usize) -> bool
     false
 }
 
-// The vowel that a final d or g gains after the last vowel v.
-fn gained_after(v: u32) -> u32
-    ensures { λ r. ⌜ r ≡ gained v ⌝ }
+// The vowel that a final d or g gains after the last vowel, 0 where there is none.
+fn gained_after(last: u32) -> u32
+    ensures { λ r. ⌜ r ≡ gained last ⌝ }
 {
-    match v {
+    let Sound::AVowel(v) = Vowel::of(last) else {
+        return 0;
+    };
+    let ch = v.ch;
+    match ch {
         0x61 | 0x131 => 0x131,
         0x65 | 0x69 => 0x69,
         0x6F | 0x75 => 0x75,

@@ -1,9 +1,9 @@
 -- The postlude's pieces by the tests that decide them: the reserved words, the vowel gained, the consonant hardened, what is seen from
 -- the end, the repair. Assumes nothing.
 use Prim.Native.Nat.{ℕ, _+_, _/_, _%_, _≤_, _<_}
-use mathlib.Core.Path.{_≡_, refl, _∙_}
-use mathlib.Core.Logic.{_⊎_, inl, inr}
-use mathlib.Core.Bool.{Bool, true, false, cond, _&&_, _||_, or-false}
+use mathlib.Core.Path.{_≡_, refl, _∙_, sym, ap}
+use mathlib.Core.Logic.{_⊎_, inl, inr, ⊎-elim}
+use mathlib.Core.Bool.{Bool, true, false, cond, _&&_, _||_, or-false, false≢true}
 use mathlib.Core.List.{List, [], _∷_}
 use native.Mathlib.Omega.{arith}
 use lib.ListN.{length, drop, getD}
@@ -15,7 +15,7 @@ use Rattle.utf8.specs.Steps.{standsAt}
 use Rattle.utf8.proofs.Laws.Characters.{back-le, before-back}
 use Rattle.utf8.proofs.Laws.Behind.{behind-before, backBy-back, open-start}
 use Rattle.turkish.specs.Letters.{text, fromEnd, any, has, starts}
-use Rattle.turkish.specs.Harmony.{lastVowel}
+use Rattle.turkish.specs.Harmony.{lastVowel, vowels, vowel}
 use Rattle.turkish.specs.Postlude.{reserved, gained, hardenings, hardIn, hard}
 use Rattle.turkish.proofs.PostludeRules.{gained-elim}
 use Rattle.stages.specs.declared.seen.Seen.{Seen}
@@ -75,6 +75,14 @@ gained-none v p q r s =
 -- the vowel gained is a character of two bytes at most
 gained-short : (v : ℕ) → gained v < 0x800
 gained-short v = gained-elim (λ n. n < 0x800) v (omega arith) (omega arith) (omega arith) (omega arith) (omega arith)
+
+-- nothing is gained after what is no vowel
+pub gained-vowelless : (v : ℕ) → vowel v ≡ false → 0 ≡ gained v
+unfolding vowel vowels has any text
+gained-vowelless v f =
+    let not-one : (a : ℕ) → vowel a ≡ true → v ≡ a → ⊥ = λ a t e. false≢true (sym f ∙ ap vowel e ∙ t) in
+    gained-none v (⊎-elim (not-one 0x61 refl) (not-one 0x131 refl)) (⊎-elim (not-one 0x65 refl) (not-one 0x69 refl))
+    (⊎-elim (not-one 0x6F refl) (not-one 0x75 refl)) (⊎-elim (not-one 0xF6 refl) (not-one 0xFC refl))
 
 -- ---- the consonant hardened ----
 

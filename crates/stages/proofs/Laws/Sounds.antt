@@ -81,10 +81,24 @@ pub soundOf-noVowel : (ch : ℕ) → soundOf ch ≡ NoVowel → vowel ch ≡ fal
 unfolding soundOf
 soundOf-noVowel ch e = chosen-noVowel (vowel ch) (vowelOf ch (partnersIn partnerTable ch)) e
 
+-- a vowel with any partners is its own code point
+vowelOf-ch : (v : ℕ) (ps : List ℕ) → vowelOf v ps .ch ≡ v
+unfolding vowelOf
+vowelOf-ch v [] = refl
+vowelOf-ch v (a ∷ []) = refl
+vowelOf-ch v (a ∷ b ∷ []) = refl
+vowelOf-ch v (a ∷ b ∷ c ∷ []) = refl
+vowelOf-ch v (a ∷ b ∷ c ∷ d ∷ ps) = refl
+
 -- a code point of a vowel's sound is a vowel
 pub soundOf-aVowel : (ch : ℕ) (v : Vowel) → soundOf ch ≡ AVowel v → vowel ch ≡ true
 unfolding soundOf
 soundOf-aVowel ch v e = chosen-aVowel (vowel ch) (vowelOf ch (partnersIn partnerTable ch)) v e .0
+
+-- the vowel is that code point
+pub soundOf-ch : (ch : ℕ) (v : Vowel) → soundOf ch ≡ AVowel v → v .ch ≡ ch
+unfolding soundOf
+soundOf-ch ch v e = ap (λ (u : Vowel). u .ch) (chosen-aVowel (vowel ch) (vowelOf ch (partnersIn partnerTable ch)) v e .1) ∙ vowelOf-ch ch (partnersIn partnerTable ch)
 
 -- and its partners are that vowel's
 pub soundOf-partners : (ch : ℕ) (v : Vowel) (cs : List ℕ) → soundOf ch ≡ AVowel v → any (partners v) cs ≡ any (partner ch) cs
