@@ -7,4 +7,5 @@ pub mod Starred
 pub mod Sizes
 pub mod Tables
 pub mod PostludeRules
+pub mod Source
 pub mod Laws

@@ -1,0 +1,2 @@
+-- The source, turkish.sbl's routines, equals the simple forms on which the code's contracts rest.
+pub mod Means
