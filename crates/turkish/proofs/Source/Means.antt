@@ -184,7 +184,7 @@ unfoldable pub sought : (List ℕ → Out) → List ℕ → Out
 sought f [] = f []
 sought f (c ∷ cs) = first (f (c ∷ cs)) (more 1 true (sought f cs))
 
-first-fail : (o : Out) → first o fail ≡ o
+pub first-fail : (o : Out) → first o fail ≡ o
 unfolding first
 first-fail fail = refl
 first-fail (took k f) = refl
@@ -211,3 +211,8 @@ means-gopast {d} {p} {f} x = record { on-state = λ self s. past-result (run d s
 pub means-goto : {d : Direction} {p : Command} {f : List ℕ → Out} → Means d p f → Means d (goto p) (sought (λ cs. peeked (f cs)))
 unfolding run
 means-goto x = record { on-state = means-gopast (means-test x) .on-state }
+
+-- ---- another function with the same answers ----
+
+pub means-as : {d : Direction} {p : Command} {f g : List ℕ → Out} → Means d p f → ((cs : List ℕ) → f cs ≡ g cs) → Means d p g
+means-as x e = record { on-state = λ self s. x .on-state self s ∙ ap (placed s) (e (ahead s)) }
