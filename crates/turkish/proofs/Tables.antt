@@ -17,16 +17,16 @@ use Rattle.turkish.specs.Marks.{marked, yUm, sUn, yUz, sUnUz, lAr, nUz, 
 use Rattle.turkish.specs.Postlude.{hardenings, hardKeys}
 use Rattle.turkish.specs.Tables.{Table, tables, letters, whole}
 use Rattle.turkish.specs.Calls.{bytes}
-use Rattle.turkish.proofs.Laws.Tests.{every, every-at}
+use Rattle.turkish.proofs.Laws.Tests.{every, every-at, every-getD}
 
 -- ---- the test ----
 
 -- of two keys, told from their ends, neither is the tail of the other
-neither : List ℕ → List ℕ → Bool
+unfoldable pub neither : List ℕ → List ℕ → Bool
 neither j k = not (starts j k || starts k j)
 
 -- no key is the tail of another
-apart : List (List ℕ) → Bool
+unfoldable pub apart : List (List ℕ) → Bool
 apart [] = true
 apart (k ∷ ks) = every (neither k) ks && apart ks
 
@@ -56,7 +56,7 @@ table-passes {t} m = and-each (whole (t .width) (t .keys)) (every begins (t .key
 -- ---- what it says ----
 
 -- of two keys that end one text, one is the tail of the other
-neither-both : (j k cs : List ℕ) → starts j cs ≡ true → starts k cs ≡ true → neither j k ≡ false
+pub neither-both : (j k cs : List ℕ) → starts j cs ≡ true → starts k cs ≡ true → neither j k ≡ false
 unfolding neither starts
 neither-both [] k cs p q = refl
 neither-both (j ∷ js) [] cs p q = refl
@@ -81,6 +81,13 @@ apart-one cs t (List·Memᴰ·head {x} {xs} p) (List·Memᴰ·tail n) a b =
 apart-one cs t (List·Memᴰ·tail m) (List·Memᴰ·head {x} {xs} q) a b =
     absurd (neither-ends cs x (and-left (every (neither x) xs) (apart xs) t) m (rw q at b) a)
 apart-one cs t (List·Memᴰ·tail {x} {xs} m) (List·Memᴰ·tail n) a b = apart-one cs (and-right (every (neither x) xs) (apart xs) t) m n a b
+
+-- no key of a table is the tail of another, the table told by its place in the list
+pub apart-at : (n : ℕ) → apart (getD tables n (record { width = 0; keys = [] }) .keys) ≡ true
+unfolding passes whole every apart
+apart-at n =
+    let t = getD tables n (record { width = 0; keys = [] }) in
+    and-each (whole (t .width) (t .keys)) (every begins (t .keys)) (apart (t .keys)) (every-getD passes tables n _ tables-pass refl) .2
 
 -- of each table at most one key ends a text
 pub one-key : (cs : List ℕ) {t : Table} {j k : List ℕ} → List·Memᴰ t tables → List·Memᴰ j (t .keys) → List·Memᴰ k (t .keys)

@@ -1,7 +1,9 @@
 -- The members of a list that all pass one test. Assumes nothing.
+use Prim.Native.Nat.{ℕ, zero, suc}
 use mathlib.Core.Path.{_≡_, ap, _∙_}
 use mathlib.Core.Bool.{Bool, true, _&&_}
 use mathlib.Core.List.{List, [], _∷_, List·Memᴰ, List·Memᴰ·head, List·Memᴰ·tail}
+use lib.ListN.{getD}
 use Rattle.utf8.proofs.Laws.Booleans.{and-left, and-right}
 
 module _ {A : Type 0} where
@@ -15,3 +17,10 @@ module _ {A : Type 0} where
   unfolding every
   every-at f e (List·Memᴰ·head {x} {xs} p) = ap f p ∙ and-left (f x) (every f xs) e
   every-at f e (List·Memᴰ·tail {x} {xs} m) = every-at f (and-right (f x) (every f xs) e) m
+
+  -- and so does the one at any place, and what stands for a place past the end where it does
+  pub every-getD : (f : A → Bool) (xs : List A) (n : ℕ) (d : A) → every f xs ≡ true → f d ≡ true → f (getD xs n d) ≡ true
+  unfolding every
+  every-getD f [] n d e h = h
+  every-getD f (x ∷ xs) zero d e h = and-left (f x) (every f xs) e
+  every-getD f (x ∷ xs) (suc n) d e h = every-getD f xs n d (and-right (f x) (every f xs) e) h
