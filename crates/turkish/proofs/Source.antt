@@ -2,3 +2,4 @@
 pub mod Means
 pub mod Harmony
 pub mod Marks
+pub mod Stage
