@@ -1,3 +1,4 @@
 -- The source, turkish.sbl's routines, equals the simple forms on which the code's contracts rest.
 pub mod Means
 pub mod Syllables
+pub mod Reserved

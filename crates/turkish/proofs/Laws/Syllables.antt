@@ -35,7 +35,7 @@ harmony-no cs = any-stricter (partner (lastVowel cs)) vowel (partner-vowel (last
 -- ---- keys ----
 
 -- characters that begin with a key are that key and the rest
-starts-split : (k cs : List ℕ) → starts k cs ≡ true → k ++ drop (length k) cs ≡ cs
+pub starts-split : (k cs : List ℕ) → starts k cs ≡ true → k ++ drop (length k) cs ≡ cs
 unfolding starts
 starts-split [] cs e = refl
 starts-split (k ∷ ks) [] e = absurd (false≢true e)
