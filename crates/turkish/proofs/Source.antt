@@ -3,3 +3,5 @@ pub mod Means
 pub mod Harmony
 pub mod Marks
 pub mod Stage
+pub mod Syllables
+pub mod Reserved

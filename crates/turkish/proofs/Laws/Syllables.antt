@@ -35,7 +35,7 @@ harmony-no cs = any-stricter (partner (lastVowel cs)) vowel (partner-vowel (last
 -- ---- keys ----
 
 -- characters that begin with a key are that key and the rest
-starts-split : (k cs : List ℕ) → starts k cs ≡ true → k ++ drop (length k) cs ≡ cs
+pub starts-split : (k cs : List ℕ) → starts k cs ≡ true → k ++ drop (length k) cs ≡ cs
 unfolding starts
 starts-split [] cs e = refl
 starts-split (k ∷ ks) [] e = absurd (false≢true e)
@@ -43,13 +43,13 @@ starts-split (k ∷ ks) (c ∷ cs) e =
     ap₂ _∷_ (eqb-true k c (and-left (eqb k c) (starts ks cs) e)) (starts-split ks cs (and-right (eqb k c) (starts ks cs) e))
 
 -- a character of two texts joined is one of either
-any-append : (f : ℕ → Bool) (cs ds : List ℕ) → any f (cs ++ ds) ≡ (any f cs || any f ds)
+pub any-append : (f : ℕ → Bool) (cs ds : List ℕ) → any f (cs ++ ds) ≡ (any f cs || any f ds)
 unfolding any
 any-append f [] ds = refl
 any-append f (c ∷ cs) ds = rw (any-append f cs ds) (sym (or-assoc (f c) (any f cs) (any f ds)))
 
 -- two vowels in two texts joined stand both in the first, one in each or both in the second
-moreThanOneSyllable-append : (cs ds : List ℕ)
+pub moreThanOneSyllable-append : (cs ds : List ℕ)
     → moreThanOneSyllable (cs ++ ds) ≡ (moreThanOneSyllable cs || cond (any vowel cs) (any vowel ds) (moreThanOneSyllable ds))
 unfolding moreThanOneSyllable beforeLastVowel any
 moreThanOneSyllable-append [] ds = refl
