@@ -1,2 +1,3 @@
 -- The source, turkish.sbl's routines, equals the simple forms on which the code's contracts rest.
 pub mod Means
+pub mod LastVowel
