@@ -1,3 +1,5 @@
 -- The source, turkish.sbl's routines, equals the simple forms on which the code's contracts rest.
 pub mod Means
+pub mod Settled
 pub mod LastVowel
+pub mod LastConsonant
