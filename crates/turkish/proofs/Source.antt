@@ -3,3 +3,4 @@ pub mod Means
 pub mod Settled
 pub mod LastVowel
 pub mod LastConsonant
+pub mod Postlude

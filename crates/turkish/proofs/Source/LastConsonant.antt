@@ -85,11 +85,11 @@ unfoldable pub reworked : State → List ℕ → ℕ → ℕ → ℕ → State
 reworked s t k b n = record { text = t; cursor = 0; ket = k; bra = b; flag = s .flag; strlen = s .strlen; found = n }
 
 -- the same with another text alone
-unfoldable pub standing : State → List ℕ → State
+standing : State → List ℕ → State
 standing s t = reworked s t (s .ket) (s .bra) (s .found)
 
 -- a state at the text's end is such a one
-pub standing-own : (s : State) → s .cursor ≡ 0 → s ≡ standing s (s .text)
+standing-own : (s : State) → s .cursor ≡ 0 → s ≡ standing s (s .text)
 unfolding standing reworked moveTo
 standing-own s e = ap (moveTo s) e
 

@@ -40,6 +40,7 @@ pub record Does (d : Direction) (p : Command) (f : State → Result) : Type 0 wh
 pub record Asks (d : Direction) (p : Command) (b : List ℕ → Bool) : Type 0 where
   pub means : Means d p (λ cs. takeIf (b cs) 0)
 
+-- what follows a question runs from where it was asked
 asked-result : (s : State) (b : Bool) (q : State → Result) → settled (s .cursor) (andThen (placed s (takeIf b 0)) q) ≡ cond b (settled (s .cursor) (q s)) (failed s)
 unfolding settled placed takeIf andThen moveTo
 asked-result s true q = ap (λ (r : Result). settled (s .cursor) (andThen r q)) (moved-none s)
@@ -63,6 +64,7 @@ pub does-insert : {d : Direction} (l : String) → Does d (<+ l) (λ s. done (in
 unfolding run settled
 does-insert l = record { on-state = λ self s. refl }
 
+-- the second of two runs from where the first one's question failed
 or-result : (s : State) (b : Bool) (t : State) (q : State → Result)
     → settled (s .cursor) (orElse (s .cursor) (cond b (done t) (failed s)) q) ≡ cond b (done t) (settled (s .cursor) (q s))
 unfolding settled orElse moveTo
