@@ -20,9 +20,9 @@ pub record State : Type 0 where
   pub cursor : ℕ
   pub ket : ℕ
   pub bra : ℕ
-  pub flag : Bool     -- continue_stemming_noun_suffixes
+  pub flag : Bool  -- continue_stemming_noun_suffixes
   pub strlen : ℕ
-  pub found : ℕ       -- the key that `substring` met, from 1
+  pub found : ℕ  -- the key that `substring` met, from 1
 
 -- the characters not yet passed
 unfoldable pub ahead : State → List ℕ
@@ -183,16 +183,26 @@ inserted cs s =
 unfoldable pub turned : State → State
 turned s =
     record {
-      text = reverse (ahead s); cursor = 0; ket = s .ket - s .cursor; bra = s .bra - s .cursor;
-      flag = s .flag; strlen = s .strlen; found = s .found;
+      text = reverse (ahead s);
+      cursor = 0;
+      ket = s .ket - s .cursor;
+      bra = s .bra - s .cursor;
+      flag = s .flag;
+      strlen = s .strlen;
+      found = s .found;
     }
 
 -- and afterwards the cursor stands where it stood
 unfoldable pub turnedBack : List ℕ → State → State
 turnedBack front s =
     record {
-      text = front ++ reverse (s .text); cursor = length front; ket = s .ket + length front; bra = s .bra + length front;
-      flag = s .flag; strlen = s .strlen; found = s .found;
+      text = front ++ reverse (s .text);
+      cursor = length front;
+      ket = s .ket + length front;
+      bra = s .bra + length front;
+      flag = s .flag;
+      strlen = s .strlen;
+      found = s .found;
     }
 
 -- ---- commands and their meaning ----
@@ -202,8 +212,8 @@ infix 40 <+_
 infixr 35 _or_
 infixr 30 _then_
 pub data Command : Type 0 where
-  _then_ : Command → Command → Command      -- one after the other, which turkish.sbl writes without a word
-  _or_ : Command → Command → Command        -- it binds tighter, as in Snowball
+  _then_ : Command → Command → Command  -- one after the other, which turkish.sbl writes without a word
+  _or_ : Command → Command → Command  -- it binds tighter, as in Snowball
   test : Command → Command
   not : Command → Command
   try : Command → Command
@@ -212,24 +222,24 @@ pub data Command : Type 0 where
   gopast : Command → Command
   atleast : ℕ → Command → Command
   backwards : Command → Command
-  succeed : Command                         -- turkish.sbl's `true`
+  succeed : Command  -- turkish.sbl's `true`
   next : Command
   literal : String → Command
-  grouping : String → Command               -- a character of the grouping
-  among : List String → Command             -- the longest key
-  substring : List String → Command         -- the same, and its number is kept
-  case : ℕ → Command → Command              -- where that is its number
-  ⟦ : Command                               -- turkish.sbl's `[` and `]`
+  grouping : String → Command  -- a character of the grouping
+  among : List String → Command  -- the longest key
+  substring : List String → Command  -- the same, and its number is kept
+  case : ℕ → Command → Command  -- where that is its number
+  ⟦ : Command  -- turkish.sbl's `[` and `]`
   ⟧ : Command
   delete : Command
   <-_ : String → Command
   <+_ : String → Command
-  set : Command                             -- of continue_stemming_noun_suffixes
+  set : Command  -- of continue_stemming_noun_suffixes
   unset : Command
-  strlen= : ℕ → Command                     -- `$strlen = n`
+  strlen= : ℕ → Command  -- `$strlen = n`
   strlen==limit : Command
-  routine : Command → Command               -- a routine that calls itself
-  itself : Command                          -- and its call inside it
+  routine : Command → Command  -- a routine that calls itself
+  itself : Command  -- and its call inside it
 
 -- the turns of a loop, and the calls of a routine inside itself, that the characters ahead leave room for
 unfoldable pub enough : State → ℕ

@@ -74,144 +74,144 @@ A-23 = "b" ∷ "c" ∷ "d" ∷ "ğ" ∷ []
 -- ---- routines ----
 
 unfoldable pub check-vowel-harmony : Command
-check-vowel-harmony = (                                         -- 111
-    test                                                        -- 112
-    (                                                           -- 113
-        (goto (grouping vowel)) then                            -- 114
-        (                                                       -- 115
-            (literal "a" then goto (grouping vowel1)) or        -- 116
-            (literal "e" then goto (grouping vowel2)) or        -- 117
-            (literal "ı" then goto (grouping vowel3)) or        -- 118
-            (literal "i" then goto (grouping vowel4)) or        -- 119
-            (literal "o" then goto (grouping vowel5)) or        -- 120
-            (literal "ö" then goto (grouping vowel6)) or        -- 121
-            (literal "u" then goto (grouping vowel5)) or        -- 122
-            (literal "ü" then goto (grouping vowel6))           -- 123
-        )
+check-vowel-harmony = ( -- 111
+    test  -- 112
+    ( -- 113
+    (goto (grouping vowel)) then  -- 114
+    ( -- 115
+    (literal "a" then goto (grouping vowel1)) or  -- 116
+    (literal "e" then goto (grouping vowel2)) or  -- 117
+    (literal "ı" then goto (grouping vowel3)) or  -- 118
+    (literal "i" then goto (grouping vowel4)) or  -- 119
+    (literal "o" then goto (grouping vowel5)) or  -- 120
+    (literal "ö" then goto (grouping vowel6)) or  -- 121
+    (literal "u" then goto (grouping vowel5)) or  -- 122
+    (literal "ü" then goto (grouping vowel6))  -- 123
+    )
     ))
 
 unfoldable pub mark-suffix-with-optional-y-consonant : Command
-mark-suffix-with-optional-y-consonant = (                       -- 153
-    (literal "y" then (test (grouping vowel)))                  -- 154
-    or                                                          -- 155
-    ((not (test (literal "y"))) then test (next then grouping vowel)))     -- 156
+mark-suffix-with-optional-y-consonant = ( -- 153
+    (literal "y" then (test (grouping vowel)))  -- 154
+    or  -- 155
+    ((not (test (literal "y"))) then test (next then grouping vowel)))  -- 156
 
 unfoldable pub mark-yUm : Command
-mark-yUm = (                                                    -- 246
-    check-vowel-harmony then                                    -- 247
-    among A-12 then                                             -- 248
-    (mark-suffix-with-optional-y-consonant))                    -- 249
+mark-yUm = ( -- 246
+    check-vowel-harmony then  -- 247
+    among A-12 then  -- 248
+    (mark-suffix-with-optional-y-consonant))  -- 249
 
 unfoldable pub mark-sUn : Command
-mark-sUn = (                                                    -- 252
-    check-vowel-harmony then                                    -- 253
-    among A-13)                                                 -- 254
+mark-sUn = ( -- 252
+    check-vowel-harmony then  -- 253
+    among A-13)  -- 254
 
 unfoldable pub mark-yUz : Command
-mark-yUz = (                                                    -- 257
-    check-vowel-harmony then                                    -- 258
-    among A-14 then                                             -- 259
-    (mark-suffix-with-optional-y-consonant))                    -- 260
+mark-yUz = ( -- 257
+    check-vowel-harmony then  -- 258
+    among A-14 then  -- 259
+    (mark-suffix-with-optional-y-consonant))  -- 260
 
 unfoldable pub mark-sUnUz : Command
-mark-sUnUz = (                                                  -- 263
-    among A-15)                                                 -- 264
+mark-sUnUz = ( -- 263
+    among A-15)  -- 264
 
 unfoldable pub mark-lAr : Command
-mark-lAr = (                                                    -- 267
-    check-vowel-harmony then                                    -- 268
-    among A-16)                                                 -- 269
+mark-lAr = ( -- 267
+    check-vowel-harmony then  -- 268
+    among A-16)  -- 269
 
 unfoldable pub mark-nUz : Command
-mark-nUz = (                                                    -- 272
-    check-vowel-harmony then                                    -- 273
-    among A-17)                                                 -- 274
+mark-nUz = ( -- 272
+    check-vowel-harmony then  -- 273
+    among A-17)  -- 274
 
 unfoldable pub mark-DUr : Command
-mark-DUr = (                                                    -- 277
-    check-vowel-harmony then                                    -- 278
-    among A-18)                                                 -- 279
+mark-DUr = ( -- 277
+    check-vowel-harmony then  -- 278
+    among A-18)  -- 279
 
 unfoldable pub mark-cAsInA : Command
-mark-cAsInA = (                                                 -- 282
-    among A-19)                                                 -- 283
+mark-cAsInA = ( -- 282
+    among A-19)  -- 283
 
 unfoldable pub mark-yDU : Command
-mark-yDU = (                                                    -- 286
-    check-vowel-harmony then                                    -- 287
-    among A-20 then                                             -- 288
-    (mark-suffix-with-optional-y-consonant))                    -- 292
+mark-yDU = ( -- 286
+    check-vowel-harmony then  -- 287
+    among A-20 then  -- 288
+    (mark-suffix-with-optional-y-consonant))  -- 292
 
 unfoldable pub mark-ysA : Command
-mark-ysA = (                                                    -- 296
-    among A-21 then                                             -- 297
-    (mark-suffix-with-optional-y-consonant))                    -- 298
+mark-ysA = ( -- 296
+    among A-21 then  -- 297
+    (mark-suffix-with-optional-y-consonant))  -- 298
 
 unfoldable pub mark-ymUs- : Command
-mark-ymUs- = (                                                  -- 301
-    check-vowel-harmony then                                    -- 302
-    among A-22 then                                             -- 303
-    (mark-suffix-with-optional-y-consonant))                    -- 304
+mark-ymUs- = ( -- 301
+    check-vowel-harmony then  -- 302
+    among A-22 then  -- 303
+    (mark-suffix-with-optional-y-consonant))  -- 304
 
 unfoldable pub mark-yken : Command
-mark-yken = (                                                   -- 307
-    literal "ken" then (mark-suffix-with-optional-y-consonant)) -- 308
+mark-yken = ( -- 307
+    literal "ken" then (mark-suffix-with-optional-y-consonant))  -- 308
 
 unfoldable pub stem-nominal-verb-suffixes : Command
-stem-nominal-verb-suffixes = (                                  -- 311
-    ⟦ then                                                      -- 312
-        set then                                                -- 313
-        (mark-ymUs- or mark-yDU or mark-ysA or mark-yken)       -- 314
-        or                                                      -- 315
-        (mark-cAsInA then (mark-sUnUz or mark-lAr or mark-yUm or mark-sUn or mark-yUz or succeed) then mark-ymUs-)     -- 316
-        or
-        (                                                       -- 318
-            mark-lAr then ⟧ then delete then try (⟦ then (mark-DUr or mark-yDU or mark-ysA or mark-ymUs-)) then        -- 319
-            unset                                               -- 320
-        )
-        or
-        (mark-nUz then (mark-yDU or mark-ysA))                  -- 323
-        or
-        ((mark-sUnUz or mark-yUz or mark-sUn or mark-yUm) then ⟧ then delete then try (⟦ then mark-ymUs-))             -- 325
-        or
-        (                                                       -- 327
-            mark-DUr then ⟧ then delete then try                -- 327
-            (⟦ then (mark-sUnUz or mark-lAr or mark-yUm or mark-sUn or mark-yUz or succeed) then mark-ymUs-)           -- 327
-        ) then
-    ⟧ then delete)                                              -- 328
+stem-nominal-verb-suffixes = ( -- 311
+    ⟦ then  -- 312
+    set then  -- 313
+    (mark-ymUs- or mark-yDU or mark-ysA or mark-yken)  -- 314
+    or  -- 315
+    (mark-cAsInA then (mark-sUnUz or mark-lAr or mark-yUm or mark-sUn or mark-yUz or succeed) then mark-ymUs-)  -- 316
+    or
+    ( -- 318
+    mark-lAr then ⟧ then delete then try (⟦ then (mark-DUr or mark-yDU or mark-ysA or mark-ymUs-)) then  -- 319
+    unset  -- 320
+    )
+    or
+    (mark-nUz then (mark-yDU or mark-ysA))  -- 323
+    or
+    ((mark-sUnUz or mark-yUz or mark-sUn or mark-yUm) then ⟧ then delete then try (⟦ then mark-ymUs-))  -- 325
+    or
+    ( -- 327
+    mark-DUr then ⟧ then delete then try  -- 327
+    (⟦ then (mark-sUnUz or mark-lAr or mark-yUm or mark-sUn or mark-yUz or succeed) then mark-ymUs-)  -- 327
+    ) then
+    ⟧ then delete)  -- 328
 
 unfoldable pub post-process-last-consonants : Command
-post-process-last-consonants = (                                -- 415
-    ⟦ then substring A-23 then ⟧ then                           -- 416
-        case 1 (<- "p") then                                    -- 417
-        case 2 (<- "ç") then                                    -- 418
-        case 3 (<- "t") then                                    -- 419
-        case 4 (<- "k"))                                        -- 420
+post-process-last-consonants = ( -- 415
+    ⟦ then substring A-23 then ⟧ then  -- 416
+    case 1 (<- "p") then  -- 417
+    case 2 (<- "ç") then  -- 418
+    case 3 (<- "t") then  -- 419
+    case 4 (<- "k"))  -- 420
 
 unfoldable pub append-U-to-stems-ending-with-d-or-g : Command
-append-U-to-stems-ending-with-d-or-g = (                        -- 430
-    test (literal "d" or literal "g") then                      -- 431
-    (test ((goto (grouping vowel)) then literal "a" or literal "ı") then <+ "ı")     -- 432
-    or                                                          -- 433
-    (test ((goto (grouping vowel)) then literal "e" or literal "i") then <+ "i")     -- 434
+append-U-to-stems-ending-with-d-or-g = ( -- 430
+    test (literal "d" or literal "g") then  -- 431
+    (test ((goto (grouping vowel)) then literal "a" or literal "ı") then <+ "ı")  -- 432
+    or  -- 433
+    (test ((goto (grouping vowel)) then literal "e" or literal "i") then <+ "i")  -- 434
     or
-    (test ((goto (grouping vowel)) then literal "o" or literal "u") then <+ "u")     -- 436
+    (test ((goto (grouping vowel)) then literal "o" or literal "u") then <+ "u")  -- 436
     or
-    (test ((goto (grouping vowel)) then literal "ö" or literal "ü") then <+ "ü"))    -- 438
+    (test ((goto (grouping vowel)) then literal "ö" or literal "ü") then <+ "ü"))  -- 438
 
 unfoldable pub more-than-one-syllable-word : Command
-more-than-one-syllable-word = (                                 -- 445
-    test (atleast 2 (gopast (grouping vowel))))                 -- 446
+more-than-one-syllable-word = ( -- 445
+    test (atleast 2 (gopast (grouping vowel))))  -- 446
 
 unfoldable pub is-reserved-word : Command
-is-reserved-word = (                                            -- 449
-    test (gopast (literal "ad") then (strlen= 2) then (strlen==limit))               -- 450
-    or                                                          -- 451
-    test (gopast (literal "soyad") then (strlen= 5) then (strlen==limit)))           -- 452
+is-reserved-word = ( -- 449
+    test (gopast (literal "ad") then (strlen= 2) then (strlen==limit))  -- 450
+    or  -- 451
+    test (gopast (literal "soyad") then (strlen= 5) then (strlen==limit)))  -- 452
 
 unfoldable pub postlude : Command
-postlude = (                                                    -- 455
-    not (is-reserved-word) then                                 -- 456
-    backwards (                                                 -- 457
-        «do» append-U-to-stems-ending-with-d-or-g then          -- 458
-        «do» post-process-last-consonants))                     -- 459
+postlude = ( -- 455
+    not (is-reserved-word) then  -- 456
+    backwards ( -- 457
+    «do» append-U-to-stems-ending-with-d-or-g then  -- 458
+    «do» post-process-last-consonants))  -- 459

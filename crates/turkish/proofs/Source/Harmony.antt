@@ -121,8 +121,8 @@ pub harmony-means : Means backward check-vowel-harmony (λ cs. takeIf (harmony c
 unfolding check-vowel-harmony partners walk vowels
 harmony-means =
     let lines =
-        means-or (alternative "a" vowel1) (means-or (alternative "e" vowel2) (means-or (alternative "ı" vowel3) (means-or (alternative "i" vowel4)
-        (means-or (alternative "o" vowel5) (means-or (alternative "ö" vowel6) (means-or (alternative "u" vowel5) (alternative "ü" vowel6))))))) in
+    means-or (alternative "a" vowel1) (means-or (alternative "e" vowel2) (means-or (alternative "ı" vowel3) (means-or (alternative "i" vowel4)
+    (means-or (alternative "o" vowel5) (means-or (alternative "ö" vowel6) (means-or (alternative "u" vowel5) (alternative "ü" vowel6))))))) in
     means-as (means-test (means-then (means-goto (means-grouping Source.vowel)) lines)) partners-last
 
 -- ---- the optional y ----

@@ -175,7 +175,8 @@ unfolding withFlag standing first amount flagOf
 follows-try {q} {g} self t k s x e =
     let there = standing t (amount (g t)) (length t) (length t) s in
     record {
-      more = amount (g t); at = flagOf (g t);
+      more = amount (g t);
+      at = flagOf (g t);
       runs = try-run self t k (length t) s x ∙ ap (λ (f : Bool). done (withFlag there f)) e;
       says = first-or-none (g t);
     }
@@ -190,7 +191,8 @@ follows-unset : {q : Command} {g : List ℕ → Out} (self : State → Result) (
 unfolding after first more amount flagOf run andThen
 follows-unset {q} {g} self t k s x =
     record {
-      more = amount (g t); at = flagOf (g t) && false;
+      more = amount (g t);
+      at = flagOf (g t) && false;
       runs = ap (λ (r : Result). andThen r (run backward self unset)) (try-run self t k (length t) s x);
       says = lowered (g t);
     }
