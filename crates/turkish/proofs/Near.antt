@@ -16,10 +16,11 @@ use Rattle.turkish.specs.Grammar.{Out, took, more, after, asking, among,
 use Rattle.turkish.specs.Marks.{marked, yUm, sUn, yUz, sUnUz, lAr, nUz, DUr, cAsInA, yDU, ysA, ymUs, yken}
 use Rattle.turkish.specs.Stage.{person, branch1, branch2, branch3, branch4, branch5, branch6, branches, staged, stage, kept}
 use Rattle.turkish.specs.Postlude.{reserved, gained, appends, appendU, hard, harden, postlude}
-use Rattle.turkish.specs.WordPass.{passStage, pass}
+use Rattle.turkish.specs.WordPass.{pass}
 use Rattle.turkish.specs.Fronts.{endLength, mostRemoved, Alike, reachesReserved, SameAnswers}
 use Rattle.turkish.proofs.Laws.Outcome.{Post, unfit, fits}
 use Rattle.turkish.proofs.Laws.Bounds.{longest, most, among-most, run-most, stage-most}
+use Rattle.turkish.proofs.Source.Calls.{simplePass, pass-simple, reachesReserved-simple}
 use Rattle.turkish.proofs.Laws.Vowels.{any-vowels, partner-vowel, has-last-beforeLastVowel}
 
 -- ---- alike fronts ----
@@ -155,13 +156,14 @@ postlude-near true (c ∷ x) f g a h p q =
 pub pass-near : (e f g : List ℕ) → Alike f g → endLength ≤ length e → SameAnswers (pass (e ++ f)) (pass (e ++ g))
     × (reachesReserved (e ++ f) ≡ false → reachesReserved (e ++ g) ≡ false
     → (x : List ℕ) × (pass (e ++ f) .text ≡ x ++ f) × (pass (e ++ g) .text ≡ x ++ g))
-unfolding pass passStage reachesReserved
+unfolding simplePass
 pass-near e f g a h =
     let p = moreThanOneSyllable-near e f g a in
     let k = kept-near e f g a h in
-    elim (dichotomy (moreThanOneSyllable (e ++ g))) [
+    rw (pass-simple (e ++ f), pass-simple (e ++ g), reachesReserved-simple (e ++ f), reachesReserved-simple (e ++ g))
+    (elim (dichotomy (moreThanOneSyllable (e ++ g))) [
       | inl s ↦ rw (p, s) (record { syllable = refl; yes = refl; flag = refl }, λ i j. (e, refl, refl))
       | inr s ↦
           rw (p, s, stage-near e f g a h, k .2, k .3)
           (record { syllable = refl; yes = refl; flag = refl }, postlude-near (stage (e ++ g) .flag) (k .0) f g a (k .1))
-    ]
+    ])

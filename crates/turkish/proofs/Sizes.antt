@@ -6,23 +6,25 @@ use mathlib.Core.Path.{_≡_, refl, sym, ap, _∙_}
 use mathlib.Core.Bool.{Bool, true, _&&_}
 use mathlib.Core.List.{List, [], _∷_}
 use native.Mathlib.Omega.{arith}
-use lib.ListN.{length, take, drop, length-append, take-append-drop}
-use lib.Seq.{take-append-seam}
+use lib.ListN.{length, take, drop, length-append}
+use lib.Seq.{length-take-le}
 use lib.Dec.{eqb, leb}
 use borrow.Author.Tests.{eqb-true, leb-true}
 use Rattle.utf8.specs.Encoding.{encode}
 use Rattle.utf8.proofs.Laws.Booleans.{and-left, and-right, cond-test}
 use Rattle.utf8.proofs.Laws.Encoding.{encode-one}
+use Rattle.utf8.proofs.Laws.Characters.{back-le}
 use Rattle.utf8.proofs.TextCharacters.{take-back}
 use Rattle.turkish.specs.Letters.{starts}
 use Rattle.turkish.specs.Harmony.{lastVowel, moreThanOneSyllable}
-use Rattle.turkish.specs.Stage.{stage, kept}
+use Rattle.turkish.specs.Stage.{stage, kept, keptLength}
 use Rattle.turkish.specs.Postlude.{reserved, gained, appends, appendU, Hardening, hardenings, hardIn, hard, harden, postlude}
-use Rattle.turkish.specs.WordPass.{foldChar, fold, Passed, passStage, pass}
-use Rattle.turkish.specs.Calls.{chars, bytes, accepted, keptLength, stagePart, postludeText, foldText, passText}
+use Rattle.turkish.specs.WordPass.{foldChar, fold, Passed, pass}
+use Rattle.turkish.specs.Calls.{chars, bytes, accepted, stageText, stagePart, postludeText, foldText, passText}
 use Rattle.turkish.proofs.Laws.Tests.{every}
 use Rattle.turkish.proofs.Laws.Accepted.{accepted-text, bytes-chars}
 use Rattle.turkish.proofs.Laws.Words.{bytes-cons}
+use Rattle.turkish.proofs.Source.Calls.{suffixStage-text, postludeOf-text, simplePass, pass-simple}
 use Rattle.turkish.proofs.PostludeRules.{gained-elim, postlude-one}
 
 -- ---- characters ----
@@ -110,12 +112,13 @@ postlude-size cs =
 
 -- so does the pass
 pass-size : (cs : List ℕ) → TwoMore cs (pass cs .text)
-unfolding pass passStage kept
+unfolding simplePass kept
 pass-size cs =
     let d : length (bytes (kept cs)) ≤ length (bytes cs) = bytes-drop (stage cs .removed) cs in
-    cond-test (λ (r : Passed). TwoMore cs (r .text)) (moreThanOneSyllable cs)
+    rw (pass-simple cs)
+    (cond-test (λ (r : Passed). TwoMore cs (r .text)) (moreThanOneSyllable cs)
     (λ e. cond-test (TwoMore cs) (stage cs .flag) (λ e. omega (arith, postlude-size (kept cs))) (omega arith))
-    (omega arith)
+    (omega arith))
 
 -- the fold adds none
 fold-size : (cs : List ℕ) → length (bytes (fold cs)) ≡ length (bytes cs)
@@ -128,7 +131,7 @@ fold-size (c ∷ cs) = omega (arith, length-bytes-cons c cs, length-bytes-cons (
 -- the postlude's output of n + 2 bytes is long enough
 pub postludeText-size : (w : List ℕ) → accepted w ≡ true → length (postludeText w) ≤ length w + 2
 unfolding postludeText
-postludeText-size w e = rw (bytes-chars w e) at (postlude-size (chars w))
+postludeText-size w e = rw (postludeOf-text (chars w)) (rw (bytes-chars w e) at (postlude-size (chars w)))
 
 -- and the pass's
 pub passText-size : (w : List ℕ) → accepted w ≡ true → length (passText w) ≤ length w + 2
@@ -140,15 +143,25 @@ pub foldText-size : (w : List ℕ) → accepted w ≡ true → length (foldText 
 unfolding foldText
 foldText-size w e = rw (bytes-chars w e) at (fold-size (chars w))
 
--- the part handed back is a front of the word
+-- the bytes of the characters kept are a front of the word
+pub kept-bytes : (w : List ℕ) → accepted w ≡ true → take (keptLength w) w ≡ bytes (kept (chars w))
+unfolding keptLength bytes kept chars
+kept-bytes w e = take-back w (accepted-text w e) (stage (chars w) .removed)
+
+-- the text that the stage leaves is that front
+pub stageText-kept : (w : List ℕ) → accepted w ≡ true → stageText w ≡ take (keptLength w) w
+unfolding stageText
+stageText-kept w e = rw (suffixStage-text (chars w)) (sym (kept-bytes w e))
+
+-- and has its length
+pub stageText-length : (w : List ℕ) → accepted w ≡ true → length (stageText w) ≡ keptLength w
+unfolding keptLength
+stageText-length w e = ap length (stageText-kept w e) ∙ length-take-le (keptLength w) w (back-le w (length w) (stage (chars w) .removed))
+
+-- so what is handed back is a front of the word
 pub stagePart-front : (w : List ℕ) → stagePart w ≡ take (length (stagePart w)) w
 unfolding stagePart
 stagePart-front w =
     cond-test (λ s. s ≡ take (length s) w) (accepted w)
-    (λ e. sym (rw take-append-drop at (take-append-seam (take (keptLength w) w) (drop (keptLength w) w))))
+    (λ e. stageText-kept w e ∙ ap (λ (n : ℕ). take n w) (sym (stageText-length w e)))
     refl
-
--- and holds the bytes of the characters kept
-pub kept-bytes : (w : List ℕ) → accepted w ≡ true → take (keptLength w) w ≡ bytes (kept (chars w))
-unfolding keptLength bytes kept chars
-kept-bytes w e = take-back w (accepted-text w e) (stage (chars w) .removed)

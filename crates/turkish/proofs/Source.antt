@@ -9,3 +9,5 @@ pub mod Syllables
 pub mod Reserved
 pub mod LastConsonant
 pub mod Postlude
+pub mod Calls
+pub mod Recursion

@@ -15,7 +15,7 @@ use Rattle.turkish.specs.Harmony.{moreThanOneSyllable}
 use Rattle.turkish.specs.Stage.{stage, kept}
 use Rattle.turkish.specs.Postlude.{reserved, appends, appendU, harden, postlude}
 use Rattle.turkish.specs.Tables.{Table, tables, letters}
-use Rattle.turkish.specs.Calls.{chars, bytes, limit, accepted, keptLength, stagePart, stageCall, postludeText, postludeRefusal, postludeOut, foldText, foldRefusal, foldOut, passText, passRefusal, passOut}
+use Rattle.turkish.specs.Calls.{chars, bytes, limit, accepted, stagePart, stageCall, postludeText, postludeRefusal, postludeOut, foldText, foldRefusal, foldOut, passText, passRefusal, passOut}
 use Rattle.turkish.specs.Fronts.{mostRemoved, front, Pair, reachesReserved, passGives, SameAnswers, leftEmpty, oneOf}
 use Rattle.turkish.proofs.Laws.Bounds.{stage-most, stage-yes, stage-no}
 use Rattle.turkish.proofs.Laws.Leaves.{stage-within}
@@ -23,7 +23,7 @@ use Rattle.turkish.proofs.Laws.Accepted.{accepted-iff}
 use Rattle.turkish.proofs.Fronts.{pair-fares-alike}
 use Rattle.turkish.proofs.Nothing.{left-empty}
 use Rattle.turkish.proofs.Laws.Syllables.{moreThanOneSyllable-no}
-use Rattle.turkish.proofs.Sizes.{postludeText-size, passText-size, foldText-size, stagePart-front, kept-bytes}
+use Rattle.turkish.proofs.Sizes.{postludeText-size, passText-size, foldText-size, stageText-length, stagePart-front}
 use Rattle.turkish.proofs.Tables.{one-key, key-letters, key-start}
 use Rattle.turkish.proofs.PostludeRules.{postlude-one}
 use Rattle.turkish.proofs.Starred as Starred
@@ -61,7 +61,7 @@ fronts-fare-alike = pair-fares-alike
 -- of an accepted word the suffix stage leaves nothing exactly when it is empty, siniz, sunuz, sınız or sünüz
 pub nothing-left : (w : List ℕ) → accepted w ≡ true → eqb (stageCall w .length) 0 ≡ oneOf leftEmpty w
 unfolding stageCall
-nothing-left w a = rw a (left-empty w a)
+nothing-left w a = rw (a, stageText-length w a) (left-empty w a)
 
 -- ---- words with their outcome ----
 
@@ -83,9 +83,9 @@ removes-at-most-15 w = stage-most (chars w)
 pub removes-what-is-there : (cs : List ℕ) → stage cs .removed ≤ length cs
 removes-what-is-there = stage-within
 
--- what it hands back is a front part of the word's bytes, and of an accepted word it is the characters kept
-pub keeps-a-front : (w : List ℕ) → (stagePart w ≡ take (length (stagePart w)) w) × (accepted w ≡ true → take (keptLength w) w ≡ bytes (kept (chars w)))
-keeps-a-front w = (stagePart-front w, kept-bytes w)
+-- what it hands back is a front part of the word's bytes
+pub keeps-a-front : (w : List ℕ) → stagePart w ≡ take (length (stagePart w)) w
+keeps-a-front = stagePart-front
 
 -- a yes means that something was removed; a no that nothing was, and then the flag is true
 pub yes-removes : (cs : List ℕ) → (stage cs .yes ≡ true → 0 < stage cs .removed) × (stage cs .yes ≡ false → (stage cs .removed ≡ 0) × (stage cs .flag ≡ true))

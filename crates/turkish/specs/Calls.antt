@@ -3,19 +3,17 @@
 use Prim.Native.Nat.{ℕ, _+_}
 use mathlib.Core.Bool.{Bool, false, cond}
 use mathlib.Core.List.{List, [], _++_, reverse}
-use lib.ListN.{length, take, drop}
+use lib.ListN.{length, drop}
 use lib.Dec.{ltb, eqb}
 use Rattle.utf8.specs.Encoding.{encodeAll}
 use Rattle.utf8.specs.Validity.{isText}
-use Rattle.utf8.specs.Characters.{before, back}
+use Rattle.utf8.specs.Characters.{before}
 use Rattle.turkish.specs.declared.answer.SyllableAnswer.{SyllableAnswer}
 use Rattle.turkish.specs.declared.answer.StageAnswer.{StageAnswer}
 use Rattle.turkish.specs.declared.answer.PostludeAnswer.{PostludeAnswer}
 use Rattle.turkish.specs.declared.answer.FoldAnswer.{FoldAnswer}
 use Rattle.turkish.specs.declared.answer.PassAnswer.{PassAnswer}
-use Rattle.turkish.specs.Harmony.{moreThanOneSyllable}
-use Rattle.turkish.specs.Stage.{stage}
-use Rattle.turkish.specs.Postlude.{postlude, postludeYes}
+use Rattle.turkish.specs.Answers.{syllableCheck, suffixStage, postludeOf}
 use Rattle.turkish.specs.WordPass.{fold, pass}
 
 -- ---- a word as characters ----
@@ -52,28 +50,28 @@ written s out = s ++ drop (length s) out
 -- ---- syllable check ----
 
 unfoldable pub syllableCall : List ℕ → SyllableAnswer
-syllableCall w = cond (accepted w) (record { refusal = 0; yes = moreThanOneSyllable (chars w) }) (record { refusal = refusal w; yes = false })
+syllableCall w = cond (accepted w) (record { refusal = 0; yes = syllableCheck (chars w) }) (record { refusal = refusal w; yes = false })
 
 -- ---- suffix stage ----
 
--- the place in the word before which the text kept stands
-unfoldable pub keptLength : List ℕ → ℕ
-keptLength w = back w (length w) (stage (chars w) .removed)
+-- the text that it leaves; that this is a front part of the word is a theorem
+unfoldable pub stageText : List ℕ → List ℕ
+stageText w = bytes (suffixStage (chars w) .text)
 
 -- the part of the word handed back
 unfoldable pub stagePart : List ℕ → List ℕ
-stagePart w = cond (accepted w) (take (keptLength w) w) []
+stagePart w = cond (accepted w) (stageText w) []
 
 unfoldable pub stageCall : List ℕ → StageAnswer
 stageCall w =
     cond (accepted w)
-    (record { refusal = 0; length = keptLength w; yes = stage (chars w) .yes; flag = stage (chars w) .flag })
+    (record { refusal = 0; length = length (stageText w); yes = suffixStage (chars w) .yes; flag = suffixStage (chars w) .flag })
     (record { refusal = refusal w; length = 0; yes = false; flag = false })
 
 -- ---- postlude: an output of n + 2 bytes ----
 
 unfoldable pub postludeText : List ℕ → List ℕ
-postludeText w = bytes (postlude (chars w))
+postludeText w = bytes (postludeOf (chars w) .text)
 
 unfoldable pub postludeRefusal : List ℕ → ℕ → ℕ
 postludeRefusal w room = refusalInto w (length w + 2) room
@@ -81,7 +79,7 @@ postludeRefusal w room = refusalInto w (length w + 2) room
 unfoldable pub postludeCall : List ℕ → ℕ → PostludeAnswer
 postludeCall w room =
     cond (eqb (postludeRefusal w room) 0)
-    (record { refusal = 0; length = length (postludeText w); yes = postludeYes (chars w) })
+    (record { refusal = 0; length = length (postludeText w); yes = postludeOf (chars w) .yes })
     (record { refusal = postludeRefusal w room; length = 0; yes = false })
 
 unfoldable pub postludeOut : List ℕ → List ℕ → List ℕ

@@ -10,10 +10,9 @@ use lib.Dec.{leb}
 use Rattle.utf8.specs.Encoding.{encodeAll}
 use Rattle.utf8.specs.Characters.{back}
 use Rattle.utf8.specs.Steps.{same}
-use Rattle.turkish.specs.Letters.{text, has}
-use Rattle.turkish.specs.Harmony.{vowel, lastVowel, beforeLastVowel, moreThanOneSyllable}
-use Rattle.turkish.specs.Stage.{stage, kept}
-use Rattle.turkish.specs.Postlude.{reserved}
+use Rattle.turkish.specs.Letters.{text, fromEnd, has}
+use Rattle.turkish.specs.Harmony.{vowel, lastVowel, beforeLastVowel}
+use Rattle.turkish.specs.Answers.{syllableCheck, suffixStage}
 use Rattle.turkish.specs.WordPass.{Passed}
 use Rattle.turkish.specs.Calls.{chars, accepted, passCall, passOut}
 
@@ -48,9 +47,14 @@ pub record Pair (u v : List ℕ) : Type 0 where
   pub ends : end u ≡ end v
   pub fronts : Alike (chars (front u)) (chars (front v))
 
+-- a text is one of those listed
+unfoldable pub oneOf : List (List ℕ) → List ℕ → Bool
+oneOf [] w = false
+oneOf (x ∷ xs) w = same w x || oneOf xs w
+
 -- of a word's characters the text that reaches the postlude is `ad` or `soyad`
 unfoldable pub reachesReserved : List ℕ → Bool
-reachesReserved cs = moreThanOneSyllable cs && stage cs .flag && reserved (kept cs)
+reachesReserved cs = syllableCheck cs && suffixStage cs .flag && oneOf (map fromEnd ("ad" ∷ "soyad" ∷ [])) (suffixStage cs .text)
 
 -- what a call of the pass gives: its result, the output's bytes below the length that it gives, and the three further answers
 unfoldable pub passGives : List ℕ → List ℕ → Passed
@@ -67,8 +71,3 @@ pub record SameAnswers (p q : Passed) : Type 0 where
 -- the words of which the stage leaves nothing
 unfoldable pub leftEmpty : List (List ℕ)
 leftEmpty = map (λ (s : String). encodeAll (text s)) ("" ∷ "siniz" ∷ "sunuz" ∷ "sınız" ∷ "sünüz" ∷ [])
-
--- w is one of the words
-unfoldable pub oneOf : List (List ℕ) → List ℕ → Bool
-oneOf [] w = false
-oneOf (x ∷ xs) w = same w x || oneOf xs w

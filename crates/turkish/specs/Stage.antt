@@ -3,8 +3,10 @@
 use Prim.Native.Nat.{ℕ}
 use mathlib.Core.Bool.{Bool, true, false}
 use mathlib.Core.List.{List}
-use lib.ListN.{drop}
+use lib.ListN.{length, drop}
+use Rattle.utf8.specs.Characters.{back}
 use Rattle.turkish.specs.Grammar.{Out, fail, took, Command, mark, _then_, _or_, nothing, unset, try, run}
+use Rattle.turkish.specs.Calls.{chars}
 use Rattle.turkish.specs.Marks.{yUm, sUn, yUz, sUnUz, lAr, nUz, DUr, cAsInA, yDU, ysA, ymUs, yken}
 
 -- lines 316 and 327 share this group
@@ -54,3 +56,7 @@ stage cs = staged (run branches cs)
 -- the characters that the stage keeps
 unfoldable pub kept : List ℕ → List ℕ
 kept cs = drop (stage cs .removed) cs
+
+-- the place in a word of bytes before which they stand
+unfoldable pub keptLength : List ℕ → ℕ
+keptLength w = back w (length w) (stage (chars w) .removed)

@@ -4,9 +4,7 @@ use Prim.Native.Char.{code}
 use mathlib.Core.Bool.{Bool, true, false, cond, _&&_}
 use mathlib.Core.List.{List, map}
 use lib.Dec.{eqb, leb}
-use Rattle.turkish.specs.Harmony.{moreThanOneSyllable}
-use Rattle.turkish.specs.Stage.{stage, kept}
-use Rattle.turkish.specs.Postlude.{postlude}
+use Rattle.turkish.specs.Answers.{syllableCheck, Stemmed, suffixStage, postludeOf}
 
 -- one character folded: A to Z, and Ç Ğ Ö Ş Ü; every other one stays
 unfoldable pub foldChar : ℕ → ℕ
@@ -28,11 +26,10 @@ pub record Passed : Type 0 where
   pub yes : Bool
   pub flag : Bool
 
--- the stage, and where its flag is true the postlude of what it keeps
-unfoldable pub passStage : List ℕ → Passed
-passStage cs =
-    record { text = cond (stage cs .flag) (postlude (kept cs)) (kept cs); syllable = true; yes = stage cs .yes; flag = stage cs .flag }
+-- where the stage's flag is true the postlude of the text that it leaves, else that text
+unfoldable pub passStage : Stemmed → Passed
+passStage t = record { text = cond (t .flag) (postludeOf (t .text) .text) (t .text); syllable = true; yes = t .yes; flag = t .flag }
 
 -- a word of one syllable or none is copied
 unfoldable pub pass : List ℕ → Passed
-pass cs = cond (moreThanOneSyllable cs) (passStage cs) (record { text = cs; syllable = false; yes = false; flag = true })
+pass cs = cond (syllableCheck cs) (passStage (suffixStage cs)) (record { text = cs; syllable = false; yes = false; flag = true })

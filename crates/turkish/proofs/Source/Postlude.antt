@@ -1,5 +1,4 @@
--- The source's postlude answers what the simple form answers, if its `is_reserved_word` finds the simple form's reserved words.
--- Assumes nothing.
+-- The source's postlude answers what the simple form answers. Assumes nothing.
 use Prim.Native.Nat.{ℕ}
 use mathlib.Core.Path.{_≡_, refl, sym, ap, _∙_}
 use mathlib.Core.Bool.{Bool, true, false, cond, not}
@@ -8,14 +7,9 @@ use Rattle.turkish.specs.Snowball.{State, ahead, moveTo, withStrlen, Res
 use Rattle.turkish.specs.Source as source
 use Rattle.turkish.specs.Answers.{entered, called, succeeded, left, repaired, postludeOf}
 use Rattle.turkish.specs.Postlude.{reserved, appendU, harden, postlude, postludeYes}
-use Rattle.turkish.proofs.Source.Means.{settled}
 use Rattle.turkish.proofs.Source.Settled.{negated-settled}
+use Rattle.turkish.proofs.Source.Reserved.{reserved-run}
 use Rattle.turkish.proofs.Source.LastConsonant.{reworked, append-run, harden-run}
-
--- at the text's start is_reserved_word, read forwards, succeeds on a reserved word and fails on any other, and sets nothing but strlen
-abbrev pub ReservedRuns : Type 0
-ReservedRuns = (self : State → Result) (s : State) → s .cursor ≡ 0
-    → (n : ℕ) × (settled 0 (run forward self source.is-reserved-word s) ≡ cond (reserved (reverse (s .text))) (done (withStrlen s n)) (failed (withStrlen s n)))
 
 -- what the postlude does read backwards
 repairs : Command
@@ -40,11 +34,11 @@ backwards-repairs self s =
     ap (λ (x : Result). repaired (eitherWay (turnedBack []) x)) (r .1) ∙ ap (λ (t : List ℕ). record { yes = true; text = t }) (reverse-reverse (r .0 .text) ∙ r .2)
 
 -- the source's postlude, from the text's start in any state, answers what the simple form answers
-pub postlude-answers : ReservedRuns → (s : State) → s .cursor ≡ 0
+pub postlude-answers : (s : State) → s .cursor ≡ 0
     → repaired (called forward source.postlude s) ≡ record { yes = postludeYes (reverse (s .text)); text = postlude (reverse (s .text)) }
 unfolding source.postlude called run negated andThen repaired succeeded left moveTo withStrlen postlude postludeYes repairs
-postlude-answers reserves s e =
-    let r = reserves failed s e in
+postlude-answers s e =
+    let r = reserved-run failed s e in
     let rest = run forward failed (backwards repairs) in
     ap (λ (c : ℕ). repaired (andThen (negated c (run forward failed source.is-reserved-word s)) rest)) e
     ∙ ap (λ (x : Result). repaired (andThen x rest)) (sym (negated-settled 0 (run forward failed source.is-reserved-word s)) ∙ ap (negated 0) (r .1))
@@ -57,8 +51,8 @@ postlude-answers reserves s e =
     go n false = backwards-repairs failed (withStrlen s n)
 
 -- the source's postlude of a word is the simple form's
-pub postludeOf-simple : ReservedRuns → (cs : List ℕ) → postludeOf cs ≡ record { yes = postludeYes cs; text = postlude cs }
+pub postludeOf-simple : (cs : List ℕ) → postludeOf cs ≡ record { yes = postludeYes cs; text = postlude cs }
 unfolding postludeOf entered
-postludeOf-simple reserves cs =
-    postlude-answers reserves (entered (reverse cs)) refl
+postludeOf-simple cs =
+    postlude-answers (entered (reverse cs)) refl
     ∙ ap (λ (ds : List ℕ). record { yes = postludeYes ds; text = postlude ds }) (reverse-reverse cs)

@@ -1,0 +1,87 @@
+-- What the calls and the pass give, which is what the source answers, in the words of the simple forms. The code's proofs cite these.
+-- Assumes nothing.
+use Prim.Native.Nat.{ℕ}
+use mathlib.Core.Path.{_≡_, refl, sym, ap, _∙_}
+use mathlib.Core.Bool.{Bool, true, false, cond, _&&_, _||_, or-false}
+use mathlib.Core.List.{List, [], _∷_, map}
+use lib.ListN.{length, take}
+use lib.Dec.{eqb}
+use Rattle.utf8.specs.Steps.{same}
+use Rattle.turkish.specs.Letters.{fromEnd}
+use Rattle.turkish.specs.Answers.{syllableCheck, suffixStage, postludeOf}
+use Rattle.turkish.specs.WordPass.{Passed, passStage, pass}
+use Rattle.turkish.specs.declared.answer.SyllableAnswer.{SyllableAnswer}
+use Rattle.turkish.specs.declared.answer.StageAnswer.{StageAnswer}
+use Rattle.turkish.specs.declared.answer.PostludeAnswer.{PostludeAnswer}
+use Rattle.turkish.specs.Calls.{chars, bytes, refusal, accepted, syllableCall, stageText, stagePart, stageCall, postludeText, postludeRefusal, postludeCall}
+use Rattle.turkish.specs.Fronts.{oneOf, reachesReserved}
+use Rattle.turkish.specs.Harmony.{moreThanOneSyllable}
+use Rattle.turkish.specs.Stage.{stage, kept}
+use Rattle.turkish.specs.Postlude.{reserved, postlude, postludeYes}
+use Rattle.turkish.proofs.Source.Syllables.{syllableCheck-simple}
+use Rattle.turkish.proofs.Source.Stage.{suffixStage-simple}
+use Rattle.turkish.proofs.Source.Postlude.{postludeOf-simple}
+
+-- the stage's answer and flag
+pub suffixStage-yes : (cs : List ℕ) → suffixStage cs .yes ≡ stage cs .yes
+suffixStage-yes cs = rw (suffixStage-simple cs)
+
+pub suffixStage-flag : (cs : List ℕ) → suffixStage cs .flag ≡ stage cs .flag
+suffixStage-flag cs = rw (suffixStage-simple cs)
+
+-- and its text
+pub suffixStage-text : (cs : List ℕ) → suffixStage cs .text ≡ kept cs
+suffixStage-text cs = rw (suffixStage-simple cs)
+
+-- the postlude's answer and text
+pub postludeOf-yes : (cs : List ℕ) → postludeOf cs .yes ≡ postludeYes cs
+postludeOf-yes cs = rw (postludeOf-simple cs)
+
+pub postludeOf-text : (cs : List ℕ) → postludeOf cs .text ≡ postlude cs
+postludeOf-text cs = rw (postludeOf-simple cs)
+
+-- the pass
+unfoldable pub simplePass : List ℕ → Passed
+simplePass cs =
+    cond (moreThanOneSyllable cs)
+    (record { text = cond (stage cs .flag) (postlude (kept cs)) (kept cs); syllable = true; yes = stage cs .yes; flag = stage cs .flag })
+    (record { text = cs; syllable = false; yes = false; flag = true })
+
+pub pass-simple : (cs : List ℕ) → pass cs ≡ simplePass cs
+unfolding pass passStage simplePass
+pass-simple cs = rw (syllableCheck-simple cs, suffixStage-simple cs, postludeOf-text (kept cs))
+
+-- a reserved text reaches the postlude
+pub reachesReserved-simple : (cs : List ℕ) → reachesReserved cs ≡ (moreThanOneSyllable cs && stage cs .flag && reserved (kept cs))
+unfolding reachesReserved oneOf reserved
+reachesReserved-simple cs = rw (syllableCheck-simple cs, suffixStage-simple cs, or-false (same (kept cs) (fromEnd "soyad")))
+
+-- ---- the calls ----
+
+pub syllableCall-simple : (w : List ℕ) → syllableCall w ≡ cond (accepted w) (record { refusal = 0; yes = moreThanOneSyllable (chars w) }) (record { refusal = refusal w; yes = false })
+unfolding syllableCall
+syllableCall-simple w = rw (syllableCheck-simple (chars w))
+
+pub stageText-simple : (w : List ℕ) → stageText w ≡ bytes (kept (chars w))
+unfolding stageText
+stageText-simple w = ap bytes (suffixStage-text (chars w))
+
+pub stagePart-simple : (w : List ℕ) → stagePart w ≡ cond (accepted w) (bytes (kept (chars w))) []
+unfolding stagePart
+stagePart-simple w = rw (stageText-simple w)
+
+pub stageCall-simple : (w : List ℕ) → stageCall w ≡ cond (accepted w)
+    (record { refusal = 0; length = length (bytes (kept (chars w))); yes = stage (chars w) .yes; flag = stage (chars w) .flag })
+    (record { refusal = refusal w; length = 0; yes = false; flag = false })
+unfolding stageCall
+stageCall-simple w = rw (stageText-simple w, suffixStage-yes (chars w), suffixStage-flag (chars w))
+
+pub postludeText-simple : (w : List ℕ) → postludeText w ≡ bytes (postlude (chars w))
+unfolding postludeText
+postludeText-simple w = ap bytes (postludeOf-text (chars w))
+
+pub postludeCall-simple : (w : List ℕ) (room : ℕ) → postludeCall w room ≡ cond (eqb (postludeRefusal w room) 0)
+    (record { refusal = 0; length = length (bytes (postlude (chars w))); yes = postludeYes (chars w) })
+    (record { refusal = postludeRefusal w room; length = 0; yes = false })
+unfolding postludeCall
+postludeCall-simple w room = rw (postludeText-simple w, postludeOf-yes (chars w))
