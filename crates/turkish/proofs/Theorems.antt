@@ -1,22 +1,36 @@
 -- The file to open first: what the definitions of turkish promise, in the words of the user's demands. Each theorem is proved in
 -- a line or two from the files named for what they prove. That the code gives these definitions' answers is the contracts' part.
+-- What the calls give is what turkish.sbl's commands answer (specs: Snowball, Source, Answers, Calls); the code's own contracts
+-- rest on simpler forms (Harmony, Grammar, Marks, Stage, Postlude), and that these are the same is proved here.
 -- Assumes nothing.
 use Prim.Native.Nat.{ℕ, _+_, _≤_, _<_}
 use mathlib.Core.Path.{_≡_}
 use mathlib.Core.Bool.{true, false, cond}
-use mathlib.Core.List.{List, _++_, List·Memᴰ}
+use mathlib.Core.List.{List, _++_, reverse, List·Memᴰ}
 use mathlib.Core.Logic.{_↔_}
 use lib.ListN.{length, take, getD}
 use lib.Dec.{eqb}
 use Rattle.utf8.specs.Validity.{isText}
 use Rattle.utf8.specs.Characters.{continuation}
 use Rattle.turkish.specs.Letters.{starts}
-use Rattle.turkish.specs.Harmony.{moreThanOneSyllable}
+use Rattle.turkish.specs.Snowball.{State, ahead, Result, done, failed, Direction, forward, backward, Command, routine, run}
+use Rattle.turkish.specs.Source as source
+use Rattle.turkish.specs.Answers.{called, stemmed, repaired}
+use Rattle.turkish.specs.Harmony.{harmony, moreThanOneSyllable}
+use Rattle.turkish.specs.Grammar.{optionalY, markOf}
+use Rattle.turkish.specs.Marks.{yUm, sUn, yUz, sUnUz, lAr, nUz, DUr, cAsInA, yDU, ysA, ymUs, yken}
 use Rattle.turkish.specs.Stage.{stage, kept}
-use Rattle.turkish.specs.Postlude.{reserved, appends, appendU, harden, postlude}
+use Rattle.turkish.specs.Postlude.{reserved, appends, appendU, harden, postlude, postludeYes}
 use Rattle.turkish.specs.Tables.{Table, tables, letters}
 use Rattle.turkish.specs.Calls.{chars, bytes, limit, accepted, stagePart, stageCall, postludeText, postludeRefusal, postludeOut, foldText, foldRefusal, foldOut, passText, passRefusal, passOut}
 use Rattle.turkish.specs.Fronts.{mostRemoved, front, Pair, reachesReserved, passGives, SameAnswers, leftEmpty, oneOf}
+use Rattle.turkish.proofs.Source.Means.{settled, Means, takeIf}
+use Rattle.turkish.proofs.Source.Harmony.{harmony-means, optionalY-means}
+use Rattle.turkish.proofs.Source.Marks.{yUm-means, sUn-means, yUz-means, sUnUz-means, lAr-means, nUz-means, DUr-means, cAsInA-means, yDU-means, ysA-means, ymUs-means, yken-means}
+use Rattle.turkish.proofs.Source.Stage.{stage-answers}
+use Rattle.turkish.proofs.Source.Syllables.{syllables-run}
+use Rattle.turkish.proofs.Source.Postlude.{postlude-answers}
+use Rattle.turkish.proofs.Source.Recursion.{Reads, routine-text}
 use Rattle.turkish.proofs.Laws.Bounds.{stage-most, stage-yes, stage-no}
 use Rattle.turkish.proofs.Laws.Leaves.{stage-within}
 use Rattle.turkish.proofs.Laws.Accepted.{accepted-iff}
@@ -46,6 +60,48 @@ refused-stays w out = (λ e. rw e, λ e. rw e, λ e. rw e)
 pub outputs-suffice : (w : List ℕ) → accepted w ≡ true
     → (length (postludeText w) ≤ length w + 2) × (length (passText w) ≤ length w + 2) × (length (foldText w) ≡ length w)
 outputs-suffice w a = (postludeText-size w a, passText-size w a, foldText-size w a)
+
+-- ---- demand 2: turkish.sbl, and the simple forms that the code's contracts rest on ----
+
+-- in whatever state it is entered at the text's end, the suffix stage leaves the simple form's text, answer and flag
+pub stage-of-source : (s : State) → s .cursor ≡ 0
+    → stemmed (called backward source.stem-nominal-verb-suffixes s) ≡ record { yes = stage (s .text) .yes; text = kept (s .text); flag = stage (s .text) .flag }
+stage-of-source = stage-answers
+
+-- at the text's start, the syllable check answers the simple form's and changes nothing
+pub syllables-of-source : (s : State) → settled (s .cursor) (called forward source.more-than-one-syllable-word s)
+    ≡ cond (moreThanOneSyllable (reverse (ahead s))) (done s) (failed s)
+unfolding called
+syllables-of-source s = syllables-run failed s
+
+-- and the postlude leaves the simple form's text and answer
+pub postlude-of-source : (s : State) → s .cursor ≡ 0
+    → repaired (called forward source.postlude s) ≡ record { yes = postludeYes (reverse (s .text)); text = postlude (reverse (s .text)) }
+postlude-of-source = postlude-answers
+
+-- harmony takes nothing, and succeeds where the simple form finds it
+pub harmony-of-source : Means backward source.check-vowel-harmony (λ cs. takeIf (harmony cs) 0)
+harmony-of-source = harmony-means
+
+-- the optional y
+pub optional-y-of-source : Means backward source.mark-suffix-with-optional-y-consonant (optionalY 0x79)
+optional-y-of-source = optionalY-means
+
+-- the twelve marks
+pub marks-of-source : Means backward source.mark-yUm (markOf yUm) × Means backward source.mark-sUn (markOf sUn)
+    × Means backward source.mark-yUz (markOf yUz) × Means backward source.mark-sUnUz (markOf sUnUz)
+    × Means backward source.mark-lAr (markOf lAr) × Means backward source.mark-nUz (markOf nUz)
+    × Means backward source.mark-DUr (markOf DUr) × Means backward source.mark-cAsInA (markOf cAsInA)
+    × Means backward source.mark-yDU (markOf yDU) × Means backward source.mark-ysA (markOf ysA)
+    × Means backward source.mark-ymUs- (markOf ymUs) × Means backward source.mark-yken (markOf yken)
+marks-of-source =
+    (yUm-means, sUn-means, yUz-means, sUnUz-means, lAr-means, nUz-means, DUr-means, cAsInA-means, yDU-means, ysA-means, ymUs-means, yken-means)
+
+-- a routine that calls itself is its own text with itself called in it, where each call has read something: how deep the definition
+-- goes does not matter
+pub self-calls : (d : Direction) (self : State → Result) (p : Command) → Reads (λ again. run d again p)
+    → (s : State) → run d self (routine p) s ≡ run d (run d self (routine p)) p s
+self-calls = routine-text
 
 -- ---- demand 3 ----
 
