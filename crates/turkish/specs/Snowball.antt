@@ -3,7 +3,8 @@
 -- command in turkish.rs. Assumes nothing.
 use Prim.Native.Nat.{ℕ, zero, suc, _+_, _-_}
 use Prim.Native.String.{String}
-use mathlib.Core.Bool.{Bool, true, false, cond}
+use mathlib.Core.Bool.{Bool, true, false, cond, _&&_}
+use mathlib.Core.Bool as Bool
 use mathlib.Core.List.{List, [], _∷_, _++_, map, reverse}
 use lib.ListN.{length, take, drop}
 use lib.Dec.{eqb, ltb, leb}
@@ -117,14 +118,14 @@ pub record Key : Type 0 where
   pub number : ℕ
   pub size : ℕ
 
--- the longer of two; the first of equal ones
-unfoldable pub longer : Key → Key → Key
-longer j k = cond (ltb (j .size) (k .size)) k j
+-- the longer of one, if it fits, and another; the first of equal ones
+unfoldable pub longer : Bool → Key → Key → Key
+longer b j k = cond (b && Bool.not (ltb (j .size) (k .size))) j k
 
 -- the longest key that fits, the keys being numbered from i
 unfoldable pub longest : ℕ → List (List ℕ) → List ℕ → Key
 longest i [] cs = record { number = 0; size = 0 }
-longest i (k ∷ ks) cs = cond (starts k cs) (longer (record { number = i; size = length k }) (longest (i + 1) ks cs)) (longest (i + 1) ks cs)
+longest i (k ∷ ks) cs = longer (starts k cs) (record { number = i; size = length k }) (longest (i + 1) ks cs)
 
 unfoldable pub keyAhead : Direction → List String → State → Key
 keyAhead d keys s = longest 1 (map (letters d) keys) (ahead s)

@@ -28,7 +28,7 @@ use Rattle.turkish.proofs.Source.Harmony.{harmony-means, optionalY-mean
 
 -- where one key fits, none of those that stand apart from it does
 none-longer : (i : ℕ) (j cs : List ℕ) (ks : List (List ℕ)) → every (neither j) ks ≡ true → starts j cs ≡ true → longest i ks cs ≡ record { number = 0; size = 0 }
-unfolding longest every
+unfolding longest longer every
 none-longer i j cs [] t a = refl
 none-longer i j cs (k ∷ ks) t a =
     go (starts k cs) refl (none-longer (i + 1) j cs ks (and-right (neither j k) (every (neither j) ks) t) a)
