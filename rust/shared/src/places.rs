@@ -15,6 +15,18 @@ pub fn stemlist() -> PathBuf {
     named("FANNAVY_STEMLIST", linked)
 }
 
+/// The folder of rust-stemmers 1.2.0: the variable FANNAVY_ORACLE_SOURCE, or where .ci/run looks.
+pub fn oracle_source() -> PathBuf {
+    let beside = concat!(env!("CARGO_MANIFEST_DIR"), "/../../../shared/docs/src");
+    named("FANNAVY_ORACLE_SOURCE", beside)
+}
+
+/// The definition's transcription of turkish.sbl.
+pub fn transcription() -> PathBuf {
+    let turkish = concat!(env!("CARGO_MANIFEST_DIR"), "/../../crates/turkish");
+    PathBuf::from(turkish).join("specs/Source.antt")
+}
+
 fn named(variable: &str, otherwise: &str) -> PathBuf {
     env::var_os(variable).unwrap_or(otherwise.into()).into()
 }

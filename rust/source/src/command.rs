@@ -1,0 +1,215 @@
+//! The commands of a routine as a tree, and how they are read: `or` binds tighter than `then`, and a
+//! word with an argument tighter than both.
+
+use crate::tokens::{Place, Symbol, Token};
+
+pub struct Node {
+    pub command: Command,
+    pub place: Place,
+}
+
+pub enum Command {
+    Then(Vec<Node>),
+    /// A whole chain, at its first `or`.
+    Or(Vec<Node>),
+    Parenthesis(Box<Node>),
+    Test(Box<Node>),
+    Not(Box<Node>),
+    Try(Box<Node>),
+    Do(Box<Node>),
+    Goto(Box<Node>),
+    Gopast(Box<Node>),
+    Atleast(usize, Box<Node>),
+    Backwards(Box<Node>),
+    Case(usize, Box<Node>),
+    Literal(String),
+    Grouping(String),
+    Among(String),
+    Substring(String),
+    Replace(String),
+    Insert(String),
+    Strlen(usize),
+    StrlenIsLimit,
+    SliceStart,
+    SliceEnd,
+    Delete,
+    Set,
+    Unset,
+    Succeed,
+    Next,
+    Call(String),
+}
+
+impl Node {
+    /// The commands directly inside.
+    pub fn inside(&self) -> &[Node] {
+        use Command::*;
+        match &self.command {
+            Then(nodes) | Or(nodes) => nodes,
+            Parenthesis(node)
+            | Test(node)
+            | Not(node)
+            | Try(node)
+            | Do(node)
+            | Goto(node)
+            | Gopast(node)
+            | Atleast(_, node)
+            | Backwards(node)
+            | Case(_, node) => std::slice::from_ref(node),
+            _ => &[],
+        }
+    }
+
+    fn is_text(&self) -> bool {
+        matches!(self.command, Command::Literal(_) | Command::Grouping(_))
+    }
+}
+
+/// Reads all of the tokens as one command; the error is a message.
+pub fn read(tokens: &[Token]) -> Result<Node, String> {
+    let mut reader = Reader { tokens };
+    let node = reader.sequence()?;
+    match reader.tokens.first() {
+        Some(token) => Err(token.wrong("neither `then` nor `or` nor the end stands here")),
+        None => Ok(node),
+    }
+}
+
+// What is not yet read.
+struct Reader<'a> {
+    tokens: &'a [Token],
+}
+
+impl<'a> Reader<'a> {
+    fn sequence(&mut self) -> Result<Node, String> {
+        self.chain("then", Command::Then, Reader::alternatives)
+    }
+
+    fn alternatives(&mut self) -> Result<Node, String> {
+        self.chain("or", Command::Or, Reader::command)
+    }
+
+    // One or more of `part` with the word between them; the place is that of the first word.
+    fn chain(
+        &mut self,
+        word: &str,
+        all: fn(Vec<Node>) -> Command,
+        part: fn(&mut Reader<'a>) -> Result<Node, String>,
+    ) -> Result<Node, String> {
+        let mut nodes = vec![part(self)?];
+        let mut place = None;
+        while let Some(token) = self.tokens.first().filter(|t| t.word() == Some(word)) {
+            self.tokens = &self.tokens[1..];
+            nodes.push(part(self)?);
+            place.get_or_insert(token.place);
+        }
+        match place {
+            Some(place) => Ok(Node {
+                command: all(nodes),
+                place,
+            }),
+            None => Ok(nodes.remove(0)),
+        }
+    }
+
+    fn command(&mut self) -> Result<Node, String> {
+        let token = self.take()?;
+        let command = match token.word().unwrap_or_default() {
+            "test" => Command::Test(self.argument()?),
+            "not" => Command::Not(self.argument()?),
+            "try" => Command::Try(self.argument()?),
+            "«do»" => Command::Do(self.argument()?),
+            "goto" => Command::Goto(self.argument()?),
+            "gopast" => Command::Gopast(self.argument()?),
+            "atleast" => Command::Atleast(self.number()?, self.argument()?),
+            "backwards" => Command::Backwards(self.argument()?),
+            "case" => Command::Case(self.number()?, self.argument()?),
+            "literal" => Command::Literal(self.text()?),
+            "grouping" => Command::Grouping(self.name()?),
+            "among" => Command::Among(self.name()?),
+            "substring" => Command::Substring(self.name()?),
+            "<-" => Command::Replace(self.text()?),
+            "<+" => Command::Insert(self.text()?),
+            "strlen=" => Command::Strlen(self.number()?),
+            _ => return self.atom(token),
+        };
+        Ok(Node {
+            command,
+            place: token.place,
+        })
+    }
+
+    // A literal or a grouping needs its parentheses here, where turkish.sbl has none.
+    fn argument(&mut self) -> Result<Box<Node>, String> {
+        let token = self.take()?;
+        let node = self.atom(token)?;
+        match node.command {
+            Command::Parenthesis(inside) if inside.is_text() => Ok(inside),
+            _ => Ok(Box::new(node)),
+        }
+    }
+
+    // A parenthesis, or a word without an argument.
+    fn atom(&mut self, token: &Token) -> Result<Node, String> {
+        let command = match &token.symbol {
+            Symbol::Open => return self.parenthesis(token.place),
+            Symbol::Close | Symbol::Text(_) => return Err(token.wrong("no command stands here")),
+            Symbol::Word(word) => match word.as_str() {
+                "⟦" => Command::SliceStart,
+                "⟧" => Command::SliceEnd,
+                "delete" => Command::Delete,
+                "set" => Command::Set,
+                "unset" => Command::Unset,
+                "succeed" => Command::Succeed,
+                "next" => Command::Next,
+                "strlen==limit" => Command::StrlenIsLimit,
+                name => Command::Call(name.to_string()),
+            },
+        };
+        Ok(Node {
+            command,
+            place: token.place,
+        })
+    }
+
+    fn parenthesis(&mut self, place: Place) -> Result<Node, String> {
+        let inside = self.sequence()?;
+        let end = self.take()?;
+        if end.symbol != Symbol::Close {
+            return Err(end.wrong("neither `then` nor `or` nor `)` stands here"));
+        }
+        Ok(Node {
+            command: Command::Parenthesis(Box::new(inside)),
+            place,
+        })
+    }
+
+    fn take(&mut self) -> Result<&'a Token, String> {
+        let (first, rest) = self
+            .tokens
+            .split_first()
+            .ok_or("Source.antt: a routine breaks off")?;
+        self.tokens = rest;
+        Ok(first)
+    }
+
+    fn text(&mut self) -> Result<String, String> {
+        let token = self.take()?;
+        match &token.symbol {
+            Symbol::Text(text) => Ok(text.clone()),
+            _ => Err(token.wrong("no text stands here")),
+        }
+    }
+
+    fn name(&mut self) -> Result<String, String> {
+        let token = self.take()?;
+        let name = token.word().ok_or(token.wrong("no name stands here"))?;
+        Ok(name.to_string())
+    }
+
+    fn number(&mut self) -> Result<usize, String> {
+        let token = self.take()?;
+        let number = token.word().and_then(|word| word.parse().ok());
+        number.ok_or(token.wrong("no number stands here"))
+    }
+}
