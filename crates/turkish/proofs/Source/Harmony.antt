@@ -14,19 +14,15 @@ use Rattle.turkish.specs.Grammar.{Out, fail, took, more, after, first, o
 use Rattle.turkish.specs.Snowball.{isIn, isLeft, Direction, backward, letters, Command, _then_, _or_, test, not, goto, next, literal, grouping}
 use Rattle.turkish.specs.Source.{vowel1, vowel2, vowel3, vowel4, vowel5, vowel6, check-vowel-harmony, mark-suffix-with-optional-y-consonant}
 use Rattle.turkish.specs.Source as Source
-use Rattle.turkish.proofs.Source.Means.{Means, means-as, means-then, means-or, means-test, means-not, means-next, means-literal, means-grouping, means-goto, takeIf, peeked, denied, sought, first-fail}
+use Rattle.turkish.proofs.Laws.Tests.{eqb-comm}
+use Rattle.turkish.proofs.Source.Means.{Means, means-as, means-then, means-or, means-test, means-not, means-next, means-literal, means-grouping, means-goto, takeIf, peeked, peeked-more, denied, sought, first-fail}
+use Rattle.turkish.proofs.Source.LastVowel.{beforeLastVowel-none, lastVowel-vowel, means-test-goto-vowel}
 
 -- ---- a walk to a character of a grouping ----
 
 -- the walk of goto: nothing is taken where a character of the grouping stands
 unfoldable pub walk : List ℕ → List ℕ → Out
 walk g cs = sought (λ cs. peeked (takeIf (isIn g cs) 1)) cs
-
--- what is taken at first counts for nothing in a test
-peeked-more : (k : ℕ) (f : Bool) (o : Out) → peeked (more k f o) ≡ peeked o
-unfolding peeked more
-peeked-more k f fail = refl
-peeked-more k f (took j g) = refl
 
 -- it succeeds where one stands anywhere ahead
 peeked-walk : (g cs : List ℕ) → peeked (walk g cs) ≡ takeIf (any (has g) cs) 0
@@ -38,23 +34,6 @@ peeked-walk g (c ∷ cs) = go (has g c) (peeked-more 1 true (walk g cs) ∙ peek
         → peeked (first (peeked (cond t (took 1 true) fail)) (more 1 true (walk g cs))) ≡ cond (t || any (has g) cs) (took 0 true) fail
     go true r = refl
     go false r = r
-
--- what is tested after a first character is tested behind it
-peeked-after : (o : Out) (c : ℕ) (cs : List ℕ) (q : List ℕ → Out)
-    → peeked (after (more 1 true o) (λ k. q (drop k (c ∷ cs)))) ≡ peeked (after o (λ k. q (drop k cs)))
-unfolding after more
-peeked-after fail c cs q = refl
-peeked-after (took k f) c cs q =
-    let e : 1 + k ≡ suc k = omega arith in
-    peeked-more (1 + k) f (q (drop (1 + k) (c ∷ cs)))
-    ∙ ap (λ (n : ℕ). peeked (q (drop n (c ∷ cs)))) e
-    ∙ sym (peeked-more k f (q (drop k cs)))
-
--- after a walk past a character that is not in the grouping
-after-walk : (g : List ℕ) (c : ℕ) (cs : List ℕ) (q : List ℕ → Out) → has g c ≡ false
-    → peeked (after (walk g (c ∷ cs)) (λ k. q (drop k (c ∷ cs)))) ≡ peeked (after (walk g cs) (λ k. q (drop k cs)))
-unfolding walk sought isIn takeIf peeked first
-after-walk g c cs q e = rw e (peeked-after (walk g cs) c cs q)
 
 -- ---- harmony ----
 
@@ -99,17 +78,14 @@ partners-vowel cs c h =
     (partner-else (text vowel1) cs ⊹ partner-else (text vowel2) cs ⊹ partner-else (text vowel3) cs ⊹ partner-else (text vowel4) cs
     ⊹ partner-else (text vowel5) cs ⊹ partner-else (text vowel6) cs ⊹ partner-else (text vowel5) cs ⊹ partner-there (text vowel6) cs ⊹ none) h
 
--- from any place: at the last vowel
-partners-last : (cs : List ℕ) → peeked (after (walk vowels cs) (λ k. partners (drop k cs))) ≡ takeIf (harmony cs) 0
-unfolding walk sought isIn takeIf peeked first after harmony lastVowel beforeLastVowel any vowel has
-partners-last [] = refl
-partners-last (c ∷ cs) = go (vowel c) refl (partners-last cs)
+-- and behind a walk to the last vowel, that there is harmony
+partners-last : (cs : List ℕ) → cond (any vowel cs) (peeked (partners (lastVowel cs ∷ beforeLastVowel cs))) fail ≡ takeIf (harmony cs) 0
+unfolding harmony takeIf any
+partners-last cs = go (any vowel cs) refl
   where
-    go : (t : Bool) → vowel c ≡ t → peeked (after (walk vowels cs) (λ k. partners (drop k cs))) ≡ takeIf (harmony cs) 0
-        → peeked (after (walk vowels (c ∷ cs)) (λ k. partners (drop k (c ∷ cs))))
-        ≡ takeIf (any (partner (cond t c (lastVowel cs))) (cond t cs (beforeLastVowel cs))) 0
-    go true e r = rw e (peeked-more 0 true (partners (c ∷ cs)) ∙ partners-vowel cs c e)
-    go false e r = after-walk vowels c cs partners e ∙ r
+    go : (t : Bool) → any vowel cs ≡ t → cond t (peeked (partners (lastVowel cs ∷ beforeLastVowel cs))) fail ≡ takeIf (harmony cs) 0
+    go true e = partners-vowel (beforeLastVowel cs) (lastVowel cs) (lastVowel-vowel cs e)
+    go false e = rw (beforeLastVowel-none cs e)
 
 -- a line of the source, from 116 to 123
 alternative : (v g : String) → Means backward (literal v then goto (grouping g)) (partnerAhead v g)
@@ -118,22 +94,14 @@ alternative v g = means-then (means-literal v) (means-goto (means-grouping g))
 
 -- check_vowel_harmony takes nothing and succeeds where there is harmony
 pub harmony-means : Means backward check-vowel-harmony (λ cs. takeIf (harmony cs) 0)
-unfolding check-vowel-harmony partners walk vowels
+unfolding check-vowel-harmony partners
 harmony-means =
     let lines =
     means-or (alternative "a" vowel1) (means-or (alternative "e" vowel2) (means-or (alternative "ı" vowel3) (means-or (alternative "i" vowel4)
     (means-or (alternative "o" vowel5) (means-or (alternative "ö" vowel6) (means-or (alternative "u" vowel5) (alternative "ü" vowel6))))))) in
-    means-as (means-test (means-then (means-goto (means-grouping Source.vowel)) lines)) partners-last
+    means-as (means-test-goto-vowel lines) partners-last
 
 -- ---- the optional y ----
-
--- a test for equality asks the same both ways round
-eqb-swap : (a b : ℕ) → eqb a b ≡ eqb b a
-eqb-swap a b = go (eqb b a) refl
-  where
-    go : (t : Bool) → eqb b a ≡ t → eqb a b ≡ t
-    go true e = eq-eqb a b (sym (eqb-true b a e))
-    go false e = ne-eqb a b (λ q. false≢true (sym e ∙ eq-eqb b a (sym q)))
 
 -- lines 154 and 156
 unfoldable pub joint : List ℕ → Out
@@ -151,7 +119,7 @@ joint-same (c ∷ []) = go (eqb 0x79 c) refl
     go : (t : Bool) → eqb 0x79 c ≡ t → joint (c ∷ []) ≡ fail
     go true e = rw e
     go false e = rw e
-joint-same (c ∷ v ∷ cs) = go (eqb 0x79 c) (has vowels v) refl (eqb-swap c 0x79) refl
+joint-same (c ∷ v ∷ cs) = go (eqb 0x79 c) (has vowels v) refl (eqb-comm c 0x79) refl
   where
     go : (t u : Bool) → eqb 0x79 c ≡ t → eqb c 0x79 ≡ eqb 0x79 c → has vowels v ≡ u → joint (c ∷ v ∷ cs) ≡ optionalY 0x79 (c ∷ v ∷ cs)
     go true true e s h = rw (s, e, h)

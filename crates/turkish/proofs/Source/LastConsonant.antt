@@ -17,6 +17,7 @@ use Rattle.turkish.specs.Source as source
 use Rattle.turkish.specs.Harmony.{vowels, vowel, lastVowel, beforeLastVowel}
 use Rattle.turkish.specs.Grammar.{Out, fail, first}
 use Rattle.turkish.specs.Postlude.{gained, appends, appendU, hardenings, hardIn, hard, harden}
+use Rattle.turkish.proofs.Laws.Tests.{eqb-comm}
 use Rattle.turkish.proofs.Source.Means.{placed, peeked, takeIf, means-or, means-test, means-literal}
 use Rattle.turkish.proofs.Source.LastVowel.{lastVowel-none, means-test-goto-vowel}
 use Rattle.turkish.proofs.Source.Settled.{carriedOut-settled, Does, Asks, does-behind, does-insert, does-insert-or}
@@ -30,14 +31,6 @@ is-or-other P k c p h = go (eqb k c) refl
     go : (t : Bool) → eqb k c ≡ t → P c
     go true e = subst P (eqb-true k c e) p
     go false e = h e
-
--- it is no matter which of two numbers is held against the other
-eqb-comm : (a b : ℕ) → eqb a b ≡ eqb b a
-eqb-comm a b = go (eqb a b) refl
-  where
-    go : (t : Bool) → eqb a b ≡ t → t ≡ eqb b a
-    go true e = sym (eq-eqb b a (sym (eqb-true a b e)))
-    go false e = sym (ne-eqb b a (λ p. eqb-false a b e (sym p)))
 
 -- a look for one of two letters at a character
 peeked-letters : (m n : ℕ) (i j : ℕ) (c : ℕ) (cs : List ℕ)

@@ -12,7 +12,7 @@ use Rattle.turkish.specs.Snowball.{ahead, isIn, Direction, Command, _the
 use Rattle.turkish.specs.Source as source
 use Rattle.turkish.specs.Harmony.{vowels, vowel, lastVowel, beforeLastVowel}
 use Rattle.turkish.specs.Grammar.{Out, fail, took, more, after, first}
-use Rattle.turkish.proofs.Source.Means.{placed, Means, peeked, takeIf, sought, means-then, means-test, means-grouping, means-goto}
+use Rattle.turkish.proofs.Source.Means.{placed, Means, peeked, peeked-more, takeIf, sought, means-then, means-test, means-grouping, means-goto}
 
 -- the walk to the last vowel over the characters ahead
 unfoldable pub soughtVowel : List ℕ → Out
@@ -39,7 +39,25 @@ lastVowel-none (c ∷ cs) e =
     let no = or-no (vowel c) (any vowel cs) .0 e in
     rw (no .0, lastVowel-none cs (no .1))
 
--- with one it stops before the last vowel
+-- nor anything before it
+pub beforeLastVowel-none : (cs : List ℕ) → any vowel cs ≡ false → beforeLastVowel cs ≡ []
+unfolding any beforeLastVowel
+beforeLastVowel-none [] e = refl
+beforeLastVowel-none (c ∷ cs) e =
+    let no = or-no (vowel c) (any vowel cs) .0 e in
+    rw (no .0, beforeLastVowel-none cs (no .1))
+
+-- with one, the last vowel is a vowel
+pub lastVowel-vowel : (cs : List ℕ) → any vowel cs ≡ true → vowel (lastVowel cs) ≡ true
+unfolding any lastVowel
+lastVowel-vowel [] e = absurd (false≢true e)
+lastVowel-vowel (c ∷ cs) e = go (vowel c) refl e (lastVowel-vowel cs)
+  where
+    go : (t : Bool) → vowel c ≡ t → t || any vowel cs ≡ true → (any vowel cs ≡ true → vowel (lastVowel cs) ≡ true) → vowel (cond t c (lastVowel cs)) ≡ true
+    go true v e h = v
+    go false v e h = h e
+
+-- and the walk stops before it
 pub soughtVowel-some : (cs : List ℕ) → any vowel cs ≡ true → (k : ℕ) × (soughtVowel cs ≡ took k true) × (drop k cs ≡ lastVowel cs ∷ beforeLastVowel cs)
 unfolding soughtVowel sought peeked takeIf isIn any vowel vowels lastVowel beforeLastVowel first more
 soughtVowel-some [] e = absurd (false≢true e)
@@ -54,12 +72,6 @@ soughtVowel-some (c ∷ cs) e = go (vowel c) refl e (soughtVowel-some cs)
         let k : ℕ = r .0 in
         let n : 1 + k ≡ suc k = omega arith in
         (suc k, ap (more 1 true) (r .1) ∙ ap (λ j. took j true) n, r .2)
-
--- a look that goes on from a place sees what it sees there
-peeked-more : (k : ℕ) (f : Bool) (o : Out) → peeked (more k f o) ≡ peeked o
-unfolding peeked more
-peeked-more k f fail = refl
-peeked-more k f (took j g) = refl
 
 -- a look that begins with the walk sees the last vowel and what stands before it, and fails where there is no vowel
 pub peeked-soughtVowel : (f : List ℕ → Out) (cs : List ℕ)

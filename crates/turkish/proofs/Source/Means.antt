@@ -122,6 +122,12 @@ unfoldable pub denied : Out → Out
 denied fail = took 0 true
 denied (took k f) = fail
 
+-- what is taken at first counts for nothing in a test
+pub peeked-more : (k : ℕ) (f : Bool) (o : Out) → peeked (more k f o) ≡ peeked o
+unfolding peeked more
+peeked-more k f fail = refl
+peeked-more k f (took j g) = refl
+
 test-result : (s : State) (r : Result) (o : Out) → settled (s .cursor) r ≡ placed s o → settled (s .cursor) (tested (s .cursor) r) ≡ placed s (peeked o)
 unfolding settled placed tested peeked moveTo
 test-result s (done t) fail e = done-failed e
