@@ -1,18 +1,15 @@
 -- What the calls and the pass give, which is what the source answers, in the words of the simple forms. The code's proofs cite these.
 -- Assumes nothing.
 use Prim.Native.Nat.{ℕ}
-use mathlib.Core.Path.{_≡_, refl, sym, ap, _∙_}
-use mathlib.Core.Bool.{Bool, true, false, cond, _&&_, _||_, or-false}
-use mathlib.Core.List.{List, [], _∷_, map}
-use lib.ListN.{length, take}
+use mathlib.Core.Path.{_≡_, ap}
+use mathlib.Core.Bool.{true, false, cond, _&&_, or-false}
+use mathlib.Core.List.{List, []}
+use lib.ListN.{length}
 use lib.Dec.{eqb}
 use Rattle.utf8.specs.Steps.{same}
 use Rattle.turkish.specs.Letters.{fromEnd}
 use Rattle.turkish.specs.Answers.{syllableCheck, suffixStage, postludeOf}
 use Rattle.turkish.specs.WordPass.{Passed, passStage, pass}
-use Rattle.turkish.specs.declared.answer.SyllableAnswer.{SyllableAnswer}
-use Rattle.turkish.specs.declared.answer.StageAnswer.{StageAnswer}
-use Rattle.turkish.specs.declared.answer.PostludeAnswer.{PostludeAnswer}
 use Rattle.turkish.specs.Calls.{chars, bytes, refusal, accepted, syllableCall, stageText, stagePart, stageCall, postludeText, postludeRefusal, postludeCall}
 use Rattle.turkish.specs.Fronts.{oneOf, reachesReserved}
 use Rattle.turkish.specs.Harmony.{moreThanOneSyllable}

@@ -1,17 +1,16 @@
 -- check_vowel_harmony and mark_suffix_with_optional_y_consonant are the simple forms of Harmony and Grammar. Assumes nothing.
-use Prim.Native.Nat.{ℕ, suc, _+_}
+use Prim.Native.Nat.{ℕ}
 use Prim.Native.String.{String}
-use mathlib.Core.Path.{_≡_, refl, sym, ap, _∙_}
+use mathlib.Core.Path.{_≡_, refl, ap, _∙_}
 use mathlib.Core.Bool.{Bool, true, false, cond, _||_, false≢true}
 use mathlib.Core.List.{List, [], _∷_}
-use native.Mathlib.Omega.{arith}
 use lib.ListN.{length, drop}
 use lib.Dec.{eqb}
-use borrow.Author.Tests.{eqb-true, eq-eqb, ne-eqb}
+use borrow.Author.Tests.{eqb-true}
 use Rattle.turkish.specs.Letters.{text, fromEnd, any, has, starts}
 use Rattle.turkish.specs.Harmony.{vowels, vowel, partnerTable, partnersIn, partner, lastVowel, beforeLastVowel, harmony}
 use Rattle.turkish.specs.Grammar.{Out, fail, took, more, after, first, optionalY}
-use Rattle.turkish.specs.Snowball.{isIn, isLeft, Direction, backward, letters, Command, _then_, _or_, test, not, goto, next, literal, grouping}
+use Rattle.turkish.specs.Snowball.{isIn, isLeft, backward, letters, _then_, _or_, test, not, goto, next, literal, grouping}
 use Rattle.turkish.specs.Source.{vowel1, vowel2, vowel3, vowel4, vowel5, vowel6, check-vowel-harmony, mark-suffix-with-optional-y-consonant}
 use Rattle.turkish.specs.Source as Source
 use Rattle.turkish.proofs.Laws.Tests.{eqb-comm}

@@ -10,7 +10,7 @@ use mathlib.Core.List.{List, [], _∷_}
 use native.Mathlib.Omega.{arith}
 use lib.ListN.{length}
 use lib.Dec.{eqb}
-use borrow.Author.Tests.{eqb-true, eqb-false, eq-eqb, ne-eqb}
+use borrow.Author.Tests.{eqb-true}
 use Rattle.turkish.specs.Letters.{text, fromEnd, any, has, starts}
 use Rattle.turkish.specs.Snowball.{State, ahead, place, moveTo, withSlice, withFound, Result, done, failed, andThen, carriedOut, readIf, isIn, backward, letters, longer, longest, keyAhead, fits, withText, sliceFrom, inserted, _then_, _or_, test, goto, literal, grouping, run}
 use Rattle.turkish.specs.Source as source

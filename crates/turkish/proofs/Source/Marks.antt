@@ -3,9 +3,9 @@
 use Prim.Native.Nat.{ℕ, _+_, _<_}
 use Prim.Native.String.{String}
 use mathlib.Core.Path.{_≡_, refl, sym, ap, _∙_}
-use mathlib.Core.Bool.{Bool, true, false, cond, _&&_, _||_}
+use mathlib.Core.Bool.{Bool, true, false, cond}
 use mathlib.Core.Bool as Bool
-use mathlib.Core.List.{List, [], _∷_, map, List·Memᴰ, List·Memᴰ·head, List·Memᴰ·tail}
+use mathlib.Core.List.{List, [], _∷_, map}
 use native.Mathlib.Omega.{arith}
 use lib.ListN.{length, drop}
 use lib.Dec.{ltb}
@@ -15,7 +15,7 @@ use Rattle.turkish.specs.Letters.{fromEnd, starts}
 use Rattle.turkish.specs.Harmony.{harmony}
 use Rattle.turkish.specs.Grammar.{Out, fail, took, more, after, asking, among, optionalY, markOf}
 use Rattle.turkish.specs.Marks.{marked, yUm, sUn, yUz, sUnUz, lAr, nUz, DUr, cAsInA, yDU, ysA, ymUs, yken}
-use Rattle.turkish.specs.Snowball.{Key, longer, longest, fits, backward, letters, Command, _then_}
+use Rattle.turkish.specs.Snowball.{longer, longest, fits, backward, letters, Command, _then_}
 use Rattle.turkish.specs.Snowball as Snowball
 use Rattle.turkish.specs.Source.{A-12, A-13, A-14, A-15, A-16, A-17, A-18, A-19, A-20, A-21, A-22, check-vowel-harmony, mark-suffix-with-optional-y-consonant, mark-yUm, mark-sUn, mark-yUz, mark-sUnUz, mark-lAr, mark-nUz, mark-DUr, mark-cAsInA, mark-yDU, mark-ysA, mark-ymUs-, mark-yken}
 use Rattle.turkish.proofs.Laws.Tests.{every}

@@ -9,7 +9,7 @@ use native.Mathlib.Omega.{arith}
 use lib.ListN.{length, drop}
 use lib.Seq.{drop-drop}
 use Rattle.turkish.specs.Letters.{text, starts}
-use Rattle.turkish.specs.Snowball.{State, ahead, moveTo, Result, done, failed, andThen, orElse, tested, negated, readIf, isLeft, isIn, Direction, letters, Key, longest, keyAhead, fits, goPast, Command, _then_, _or_, test, not, goto, gopast, succeed, next, literal, grouping, among, enough, run}
+use Rattle.turkish.specs.Snowball.{State, ahead, moveTo, Result, done, failed, andThen, orElse, tested, negated, readIf, isLeft, isIn, Direction, letters, longest, keyAhead, fits, goPast, Command, _then_, _or_, test, not, goto, gopast, succeed, next, literal, grouping, among, enough, run}
 use Rattle.turkish.specs.Answers.{succeeded, left}
 use Rattle.turkish.specs.Grammar.{Out, fail, took, more, after, first}
 

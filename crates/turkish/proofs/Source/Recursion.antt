@@ -2,7 +2,6 @@
 -- definition goes, and the routine is its own text with itself called in it. Assumes nothing.
 use Prim.Native.Nat.{ℕ, zero, suc, _<_}
 use mathlib.Core.Path.{_≡_}
-use mathlib.Core.List.{List}
 use native.Mathlib.Omega.{arith}
 use lib.ListN.{length}
 use Rattle.turkish.specs.Snowball.{State, ahead, Result, deep, Direction, Command, routine, enough, run}

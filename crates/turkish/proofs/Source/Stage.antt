@@ -14,7 +14,7 @@ use Rattle.turkish.specs.Grammar as Grammar
 use Rattle.turkish.specs.Stage.{person, branch1, branch2, branch3, branch4, branch5, branch6, branches, staged, stage, kept}
 use Rattle.turkish.specs.Snowball.{State, ahead, place, moveTo, withSlice, withFlag, withText, Result, done, failed, andThen, orElse, placeAfter, sliceFrom, backward, Command, _then_, _or_, try, succeed, ⟦, ⟧, delete, set, unset, run}
 use Rattle.turkish.specs.Source.{mark-yUm, mark-sUn, mark-yUz, mark-sUnUz, mark-lAr, mark-nUz, mark-DUr, mark-cAsInA, mark-yDU, mark-ysA, mark-ymUs-, mark-yken, stem-nominal-verb-suffixes}
-use Rattle.turkish.specs.Answers.{entered, called, succeeded, left, Stemmed, stemmed, suffixStage}
+use Rattle.turkish.specs.Answers.{entered, called, succeeded, left, stemmed, suffixStage}
 use Rattle.turkish.proofs.Laws.Outcome.{Flagged, unfit, fits}
 use Rattle.turkish.proofs.Laws.Flag.{branch1-keeps, branch2-keeps, branch3-lowers, branch4-keeps, branch5-keeps, branch6-keeps}
 use Rattle.turkish.proofs.Source.Means.{Means, means-then, means-or, means-succeed, settled, placed, done-failed, done-state, failed-state}
