@@ -13,7 +13,7 @@ ghost use lib.ListN.{length};
 ghost use Rattle.turkish.specs.Letters.{has};
 ghost use Rattle.turkish.specs.Harmony.{moreThanOneSyllable};
 ghost use Rattle.turkish.specs.Calls.{chars, accepted, passText};
-ghost use Rattle.stages.specs.Reach.{outcomeOf};
+ghost use Rattle.stages.specs.Outcome.{outcomeOf};
 ghost use Rattle.stages.specs.Repairs.{repairText};
 ghost use Rattle.listing.specs.Listing.{tab, lineRefusal, answers, fields, refusedLine, listLine};
 ghost use Rattle.listing.specs.Put.{put, lineRoom};

@@ -12,7 +12,7 @@ use Rattle.turkish.proofs.Laws.Accepted.{accepted-iff}
 use Rattle.turkish.proofs.Sizes.{passText-size}
 use Rattle.stages.specs.declared.stage.Outcome.{Outcome}
 use Rattle.stages.specs.declared.postlude.Repair.{Repair}
-use Rattle.stages.specs.Reach.{outcomeOf}
+use Rattle.stages.specs.Outcome.{outcomeOf}
 use Rattle.stages.specs.Repairs.{repairText, repairOf}
 use Rattle.words.proofs.Laws.WordCalls.{kept-le}
 use Rattle.words.proofs.Laws.RepairCalls.{pass-short, pass-kept, pass-repaired}

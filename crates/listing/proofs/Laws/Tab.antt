@@ -10,7 +10,7 @@ use lib.Seq.{drop-cons}
 use lib.Dec.{eqb}
 use borrow.Author.Tests.{eq-eqb, ne-eqb}
 use Rattle.turkish.specs.Letters.{has}
-use Rattle.stages.proofs.Laws.Walk.{any-skips, any-stops, any-none}
+use Rattle.letters.proofs.Laws.Walk.{any-skips, any-stops, any-none}
 use Rattle.listing.specs.Listing.{tab}
 
 module _ (w : List ℕ) (i : ℕ) where

@@ -13,7 +13,7 @@ use Rattle.utf8.specs.Steps.{same, standsAt}
 use Rattle.utf8.proofs.Laws.Booleans.{and-left, and-right, and-false}
 use Rattle.utf8.proofs.Laws.Steps.{standsAt-cons}
 use Rattle.utf8.proofs.Laws.Characters.{before-zero, before-step}
-use Rattle.stages.proofs.Laws.Literal.{ascii, ascii-reverseAux, lastWidth-byte, lastChar-byte, lastWidth-char}
+use Rattle.marks.proofs.Laws.Literal.{ascii, ascii-reverseAux, lastWidth-byte, lastChar-byte, lastWidth-char}
 
 -- ---- one character ----
 

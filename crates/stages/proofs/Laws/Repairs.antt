@@ -18,11 +18,11 @@ use Rattle.turkish.specs.Letters.{text, fromEnd, any, has, starts}
 use Rattle.turkish.specs.Harmony.{lastVowel, vowels, vowel}
 use Rattle.turkish.specs.Postlude.{reserved, gained, hardenings, hardIn, hard}
 use Rattle.turkish.proofs.PostludeRules.{gained-elim}
-use Rattle.stages.specs.declared.seen.Seen.{Seen}
+use Rattle.letters.specs.declared.seen.Seen.{Seen}
 use Rattle.stages.specs.declared.postlude.Repair.{Repair}
-use Rattle.stages.specs.Seen.{seenAt, Sees}
+use Rattle.letters.specs.Seen.{seenAt, Sees}
 use Rattle.stages.specs.Repairs.{ending, unchanged, followed, appended, hardened, repairOf}
-use Rattle.stages.proofs.Laws.Literal.{ascii}
+use Rattle.marks.proofs.Laws.Literal.{ascii}
 use Rattle.stages.proofs.Laws.LiteralWhole.{same-standsAt}
 
 -- ---- a choice ----

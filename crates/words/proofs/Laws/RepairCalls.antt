@@ -25,7 +25,7 @@ use Rattle.turkish.proofs.Laws.Words.{text-back}
 use Rattle.turkish.proofs.Sizes.{kept-bytes}
 use Rattle.stages.specs.declared.stage.Outcome.{Outcome}
 use Rattle.stages.specs.declared.postlude.Repair.{Repair}
-use Rattle.stages.specs.Reach.{outcomeOf}
+use Rattle.stages.specs.Outcome.{outcomeOf}
 use Rattle.stages.specs.Repairs.{repairText, repairOf}
 use Rattle.stages.proofs.RepairText.{repair-text, repair-answer, repair-size}
 use Rattle.words.proofs.Laws.Refusals.{into-accepted, into-room}
