@@ -1,14 +1,14 @@
 // What a host program links: thin calls under C's convention, each with its contract by the library's own definitions. None asks
 // anything of its caller beyond what the signature says.
+use texts::fold;
+use texts::pass;
+use texts::postlude;
 use turkish::answer::FoldAnswer;
 use turkish::answer::PassAnswer;
 use turkish::answer::PostludeAnswer;
 use turkish::answer::StageAnswer;
 use turkish::answer::SyllableAnswer;
 use words::check;
-use words::fold;
-use words::pass;
-use words::postlude;
 use words::stage;
 use words::syllable;
 ghost use mathlib.Core.Path.{_≡_};

@@ -12,7 +12,8 @@ use Rattle.turkish.specs.Stage.{person, branch1, branch2, branch3, branch4, bra
 use Rattle.turkish.specs.Postlude.{reserved, gained, appendU, hard, harden, postlude}
 use Rattle.turkish.specs.WordPass.{passStage, pass}
 use Rattle.turkish.specs.Calls.{chars, bytes, limit, refusal, accepted, keptLength, passText}
-use Rattle.listing.specs.Listing.{tab, lf, lineRefusal, yesNo, oneZero, answers, fields, listLine, unclosed, linesFrom, listAll, listing}
+use Rattle.lines.specs.Line.{tab, lf, lineRefusal, yesNo, oneZero, answers, fields, listLine}
+use Rattle.listing.specs.Listing.{unclosed, linesFrom, listAll, listing}
 
 -- the input lines `evler` and `siniz` give document 01's two lines; the second ends in two tabs
 pub example-lines : listing (text "evler\nsiniz\n") ≡ text "evler\tY\tY\t0\tev\tev\nsiniz\tY\tY\t1\t\t\n"
