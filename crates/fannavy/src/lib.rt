@@ -13,7 +13,7 @@ use words::stage;
 use words::syllable;
 ghost use mathlib.Core.Path.{_≡_};
 ghost use lib.ListN.{length};
-ghost use Rattle.utf8.specs.Validity.{isText};
+ghost use Rattle.encoding.specs.Validity.{isText};
 ghost use Rattle.turkish.specs.Calls.{syllableCall, stageCall, postludeCall, postludeOut, foldCall, foldOut, passCall, passOut};
 
 // Whether the bytes are UTF-8. Takes any slice.

@@ -1,8 +1,8 @@
 -- Document 01's two lines of `stemlist`, by computation over the definitions. Assumes nothing.
 use mathlib.Core.Path.{_≡_, refl}
-use Rattle.utf8.specs.Encoding.{encode, encodeAll, decode}
-use Rattle.utf8.specs.Validity.{table37, due, refused, leadIn, lead, next, accepts, isText}
-use Rattle.utf8.specs.Characters.{continuation, width, goesOn, lastWidth, charAt, lastChar, beforeWithin, before, back as placeBack}
+use Rattle.encoding.specs.Encoding.{encode, encodeAll, decode, continuation}
+use Rattle.encoding.specs.Validity.{table37, due, refused, leadIn, lead, next, accepts, isText}
+use Rattle.utf8.specs.Characters.{width, goesOn, lastWidth, charAt, lastChar, beforeWithin, before, back as placeBack}
 use Rattle.utf8.specs.Steps.{same}
 use Rattle.turkish.specs.Letters.{text, fromEnd, any, has, starts}
 use Rattle.turkish.specs.Harmony.{vowels, vowel, partnerTable, partnersIn, partner, lastVowel, beforeLastVowel, harmony, moreThanOneSyllable}

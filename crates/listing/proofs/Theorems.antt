@@ -5,7 +5,7 @@ use mathlib.Core.Path.{_≡_}
 use mathlib.Core.Bool.{true, false}
 use mathlib.Core.List.{List, [], _∷_, _++_, flatten}
 use lib.ListN.{length, take, drop}
-use Rattle.utf8.specs.Validity.{isText}
+use Rattle.encoding.specs.Validity.{isText}
 use Rattle.turkish.specs.Letters.{text, has}
 use Rattle.turkish.specs.Calls.{limit, accepted}
 use Rattle.lines.specs.Line.{tab, lf, fields, listLine}

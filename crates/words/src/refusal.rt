@@ -1,5 +1,5 @@
 // Why a call refuses a word, as document 01's number; 0 where it does not.
-use utf8::validity;
+use encoding::validity;
 ghost use mathlib.Core.Path.{_≡_};
 ghost use Rattle.turkish.specs.Calls.{refusal, refusalInto};
 

@@ -9,7 +9,7 @@ use mathlib.Mathlib.Data.Bool.Basic.{or-eq-false-eq-eq-false-and-eq-false as or-
 use lib.ListN.{getD}
 use lib.Dec.{eqb}
 use borrow.Author.Tests.{eqb-true}
-use Rattle.utf8.proofs.Laws.Booleans.{and-left, and-right, or-either, cond-cases, cond-test, cond-both}
+use Rattle.encoding.proofs.Laws.Booleans.{and-left, and-right, or-either, cond-cases, cond-test, cond-both}
 use Rattle.turkish.specs.Letters.{text, fromEnd, any, has, starts}
 use Rattle.turkish.specs.Harmony.{harmony}
 use Rattle.turkish.specs.Grammar.{Out, fail, after, first, asking, among, Mark, markOf, run}

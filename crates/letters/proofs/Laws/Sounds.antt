@@ -8,7 +8,7 @@ use native.Mathlib.Omega.{arith}
 use lib.ListN.{length}
 use lib.Dec.{eqb, leb}
 use borrow.Author.Tests.{eqb-true, leb-true, ne-eqb}
-use Rattle.utf8.proofs.Laws.Booleans.{and-left, and-right}
+use Rattle.encoding.proofs.Laws.Booleans.{and-left, and-right}
 use Rattle.turkish.specs.Letters.{text, any, has}
 use Rattle.turkish.specs.Harmony.{vowels, vowel, partnersIn, partnerTable, partner}
 use Rattle.letters.specs.declared.vowel.Vowel.{Vowel}

@@ -5,7 +5,7 @@ use mathlib.Core.Bool.{Bool, true, false, false≢true}
 use mathlib.Core.List.{List, [], _∷_}
 use Rattle.utf8.specs.declared.cursor.Cursor.{Cursor}
 use Rattle.utf8.specs.Behind.{behind}
-use Rattle.utf8.proofs.Laws.Booleans.{cond-both}
+use Rattle.encoding.proofs.Laws.Booleans.{cond-both}
 use Rattle.turkish.specs.Harmony.{harmony}
 use Rattle.letters.specs.declared.harmony.Told.{Told}
 use Rattle.letters.specs.declared.seen.Seen.{Seen}

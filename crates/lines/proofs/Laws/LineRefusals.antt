@@ -8,7 +8,7 @@ use native.Mathlib.Omega.{arith}
 use lib.ListN.{length}
 use lib.Dec.{eqb, ltb, eqb·suc-zero}
 use borrow.Author.Tests.{eq-eqb, ne-eqb}
-use Rattle.utf8.specs.Validity.{isText}
+use Rattle.encoding.specs.Validity.{isText}
 use Rattle.turkish.specs.Letters.{has}
 use Rattle.turkish.specs.Calls.{limit, refusal, accepted}
 use Rattle.lines.specs.Line.{tab, lineRefusal, fields, refusedLine, listLine}

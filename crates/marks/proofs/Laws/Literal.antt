@@ -8,10 +8,10 @@ use native.Mathlib.Omega.{arith}
 use lib.ListN.{length, take, drop, getD, length-take, length-drop, length-reverse}
 use lib.Dec.{leb, ltb, eqb, leb·zero, leb·suc-zero, leb·suc-suc}
 use borrow.Author.Tests.{ltb-true, ltb-false, lt-leb, eqb-true, eqb-false, eq-eqb, ne-eqb}
-use Rattle.utf8.specs.Encoding.{decode}
-use Rattle.utf8.specs.Characters.{continuation, goesOn, lastWidth, lastChar, charAt, before}
+use Rattle.encoding.specs.Encoding.{decode, continuation}
+use Rattle.utf8.specs.Characters.{goesOn, lastWidth, lastChar, charAt, before}
 use Rattle.utf8.specs.Steps.{same, standsAt}
-use Rattle.utf8.proofs.Laws.Booleans.{and-left, and-right, and-false}
+use Rattle.encoding.proofs.Laws.Booleans.{and-left, and-right, and-false}
 use Rattle.utf8.proofs.Laws.Widths.{width-one}
 use Rattle.utf8.proofs.Laws.CharAt.{charAt-one}
 use Rattle.utf8.proofs.Laws.Steps.{standsAt-cons}

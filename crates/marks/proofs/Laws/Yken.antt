@@ -15,7 +15,7 @@ use Rattle.utf8.specs.declared.step.Step.{Step}
 use Rattle.utf8.specs.Characters.{lastWidth, lastChar, charAt, before, back}
 use Rattle.utf8.specs.Steps.{moveTo, previousChar, eqSB}
 use Rattle.utf8.specs.Behind.{behind, backBy, Open}
-use Rattle.utf8.proofs.Laws.Booleans.{and-left, and-right}
+use Rattle.encoding.proofs.Laws.Booleans.{and-left, and-right}
 use Rattle.utf8.proofs.Laws.Characters.{before-zero, before-step}
 use Rattle.utf8.proofs.Laws.Steps.{stands-within, eqSB-moved}
 use Rattle.utf8.proofs.Laws.Behind.{behind-backBy, backBy-add, backBy-zero, open-backBy}

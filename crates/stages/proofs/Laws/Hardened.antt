@@ -9,7 +9,7 @@ use borrow.Author.Tests.{eqb-true, eq-eqb, ne-eqb}
 use Rattle.utf8.specs.declared.cursor.Cursor.{Cursor}
 use Rattle.utf8.specs.Characters.{lastWidth, lastChar, before, back}
 use Rattle.utf8.specs.Behind.{backBy}
-use Rattle.utf8.proofs.Laws.Booleans.{and-left}
+use Rattle.encoding.proofs.Laws.Booleans.{and-left}
 use Rattle.utf8.proofs.Laws.Characters.{before-zero, before-step}
 use Rattle.utf8.proofs.Laws.Behind.{behind-before, backBy-back}
 use Rattle.turkish.specs.Letters.{text, fromEnd, starts}

@@ -9,7 +9,7 @@ use native.Mathlib.Omega.{arith}
 use lib.ListN.{length, drop, getD}
 use lib.Dec.{eqb}
 use borrow.Author.Tests.{lt-ltb, le-ltb, eq-eqb, ne-eqb}
-use Rattle.utf8.proofs.Laws.Booleans.{cond-both}
+use Rattle.encoding.proofs.Laws.Booleans.{cond-both}
 use Rattle.utf8.specs.Characters.{before}
 use Rattle.utf8.specs.Steps.{standsAt}
 use Rattle.utf8.proofs.Laws.Characters.{back-le, before-back}

@@ -5,7 +5,7 @@ use mathlib.Core.Path.{_≡_, refl}
 use mathlib.Core.Bool.{true, _&&_}
 use lib.Dec.{eqb, leb}
 use borrow.Author.Tests.{leb-true, le-leb, eqb-true}
-use Rattle.utf8.proofs.Laws.Booleans.{and-left, and-right, cond-test}
+use Rattle.encoding.proofs.Laws.Booleans.{and-left, and-right, cond-test}
 use Rattle.texts.specs.FoldBytes.{foldByte}
 
 -- A to Z

@@ -8,10 +8,10 @@ use native.Mathlib.Omega.{arith}
 use lib.ListN.{length, getD}
 use lib.Dec.{eqb, leb}
 use borrow.Author.Tests.{leb-true, le-leb, eqb-true, eqb-false}
-use Rattle.utf8.specs.Encoding.{encode, encodeAll}
-use Rattle.utf8.specs.Text.{TextOf}
-use Rattle.utf8.proofs.Laws.Booleans.{and-left, and-right, cond-cases}
-use Rattle.utf8.proofs.Laws.Encoding.{encode-elim, encode-one}
+use Rattle.encoding.specs.Encoding.{encode, encodeAll}
+use Rattle.encoding.specs.Text.{TextOf}
+use Rattle.encoding.proofs.Laws.Booleans.{and-left, and-right, cond-cases}
+use Rattle.encoding.proofs.Laws.Encoding.{encode-elim, encode-one}
 use Rattle.utf8.proofs.TextCharacters.{before-text}
 use Rattle.turkish.specs.WordPass.{foldChar, fold}
 use Rattle.turkish.specs.Calls.{chars, bytes, foldText}

@@ -10,7 +10,7 @@ use native.Mathlib.Nat.{le-refl}
 use native.Mathlib.Omega.{arith}
 use borrow.Author.Tests.{ne-eqb}
 use Rattle.utf8.specs.Characters.{before}
-use Rattle.utf8.specs.Text.{TextOf}
+use Rattle.encoding.specs.Text.{TextOf}
 use Rattle.utf8.proofs.Laws.Characters.{back-le, before-back}
 use Rattle.turkish.specs.declared.answer.PostludeAnswer.{PostludeAnswer}
 use Rattle.turkish.specs.declared.answer.PassAnswer.{PassAnswer}

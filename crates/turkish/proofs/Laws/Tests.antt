@@ -2,7 +2,7 @@
 use mathlib.Core.Path.{_≡_, ap, _∙_}
 use mathlib.Core.Bool.{Bool, true, _&&_}
 use mathlib.Core.List.{List, [], _∷_, List·Memᴰ, List·Memᴰ·head, List·Memᴰ·tail}
-use Rattle.utf8.proofs.Laws.Booleans.{and-left, and-right}
+use Rattle.encoding.proofs.Laws.Booleans.{and-left, and-right}
 
 module _ {A : Type 0} where
   -- every member passes
