@@ -1,6 +1,6 @@
 // What a host program links: thin calls under C's convention, each with its contract by the library's own definitions. None asks
 // anything of its caller beyond what the signature says.
-use texts::fold;
+use folding::fold;
 use texts::pass;
 use texts::postlude;
 use turkish::answer::FoldAnswer;

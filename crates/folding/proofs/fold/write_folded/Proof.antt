@@ -1,4 +1,4 @@
--- `texts::fold::write_folded` meets its contract. The loop's invariant: the first i folded bytes stand at the output's front, the rest
+-- `folding::fold::write_folded` meets its contract. The loop's invariant: the first i folded bytes stand at the output's front, the rest
 -- of it is as it was, and `before` is the byte before place i. The measure is what is left of the word. Assumes nothing.
 use Prim.Native.Nat.{_-_, _≤_}
 use mathlib.Core.Path.{_≡_, refl, _∙_}
@@ -7,11 +7,11 @@ use native.Mathlib.Omega.{arith}
 use native.Mathlib.Numerals.{add-one}
 use lib.ListN.{length, take, drop, getD, length-set}
 use borrow.Author.Needs.{needs}
-use Rattle.texts.specs.FoldBytes.{foldBytes}
-use Rattle.texts.proofs.Laws.FoldBytes.{length-foldBytes}
-use Rattle.texts.proofs.Laws.Writing.{store-folded, stored-all}
-use Rattle.texts.proofs.fold.write_folded.Statement.{statement}
-use Rattle.texts.proofs.fold.write_folded.Tie as tie
+use Rattle.folding.specs.FoldBytes.{foldBytes}
+use Rattle.folding.proofs.Laws.FoldBytes.{length-foldBytes}
+use Rattle.folding.proofs.Laws.Stored.{store-folded, stored-all}
+use Rattle.folding.proofs.fold.write_folded.Statement.{statement}
+use Rattle.folding.proofs.fold.write_folded.Tie as tie
 
 abbrev Inv-loop : tie.InvT-loop
 Inv-loop w out₀ before₀ i₀ out before i =

@@ -6,7 +6,7 @@ use mathlib.Core.Bool.{true, _&&_}
 use lib.Dec.{eqb, leb}
 use borrow.Author.Tests.{leb-true, le-leb, eqb-true}
 use Rattle.encoding.proofs.Laws.Booleans.{and-left, and-right, cond-test}
-use Rattle.texts.specs.FoldBytes.{foldByte}
+use Rattle.folding.specs.FoldBytes.{foldByte}
 
 -- A to Z
 pub foldByte-capital : (p b : ℕ) → 0x41 ≤ b → b ≤ 0x5A → b + 0x20 ≡ foldByte p b

@@ -1,11 +1,11 @@
--- `texts::fold::fold_byte` meets its contract. Where both bytes are known the definition computes; elsewhere the byte stays.
+-- `folding::fold::fold_byte` meets its contract. Where both bytes are known the definition computes; elsewhere the byte stays.
 -- Assumes nothing.
 use native.Mathlib.Omega.{arith}
 use borrow.Author.Needs.{needs}
-use Rattle.texts.specs.FoldBytes.{foldByte}
-use Rattle.texts.proofs.Laws.FoldByte.{foldByte-capital, foldByte-stays}
-use Rattle.texts.proofs.fold.fold_byte.Statement.{statement}
-use Rattle.texts.proofs.fold.fold_byte.Tie as tie
+use Rattle.folding.specs.FoldBytes.{foldByte}
+use Rattle.folding.proofs.Laws.FoldByte.{foldByte-capital, foldByte-stays}
+use Rattle.folding.proofs.fold.fold_byte.Statement.{statement}
+use Rattle.folding.proofs.fold.fold_byte.Tie as tie
 
 returns : tie.Need-returns
 returns c = foldByte-stays _ _ (λ h k. omega arith) (λ h. (λ e. omega arith, λ e. omega arith, λ e. omega arith)) (λ h e. omega arith) (λ h e. omega arith)

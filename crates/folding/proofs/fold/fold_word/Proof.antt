@@ -1,10 +1,10 @@
--- `texts::fold::fold_word` meets its contract: the number that it finds decides, and the folded bytes are the folded text's.
+-- `folding::fold::fold_word` meets its contract: the number that it finds decides, and the folded bytes are the folded text's.
 -- Assumes nothing.
 use borrow.Author.Needs.{needs}
 use Rattle.words.proofs.Laws.Refusals.{into-room}
-use Rattle.texts.proofs.Laws.FoldCall.{foldCall-foldOut-refused, foldCall-foldOut-given}
-use Rattle.texts.proofs.fold.fold_word.Statement.{statement}
-use Rattle.texts.proofs.fold.fold_word.Tie as tie
+use Rattle.folding.proofs.Laws.FoldCall.{foldCall-foldOut-refused, foldCall-foldOut-given}
+use Rattle.folding.proofs.fold.fold_word.Statement.{statement}
+use Rattle.folding.proofs.fold.fold_word.Tie as tie
 
 refusal-into-requires : tie.Need-refusal-into-requires
 refusal-into-requires c κs = search needs

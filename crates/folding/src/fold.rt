@@ -6,7 +6,7 @@ ghost use mathlib.Core.Path.{_≡_};
 ghost use Prim.Native.Nat.{_≤_};
 ghost use lib.ListN.{length};
 ghost use Rattle.turkish.specs.Calls.{written, foldCall, foldOut};
-ghost use Rattle.texts.specs.FoldBytes.{foldByte, foldBytes};
+ghost use Rattle.folding.specs.FoldBytes.{foldByte, foldBytes};
 
 // A byte folded, after the byte `before`: A to Z, and the second bytes of Ç Ö Ü, Ğ and Ş.
 fn fold_byte(before: u8, b: u8) -> u8

@@ -15,8 +15,8 @@ use Rattle.encoding.proofs.Laws.Encoding.{encode-elim, encode-one}
 use Rattle.utf8.proofs.TextCharacters.{before-text}
 use Rattle.turkish.specs.WordPass.{foldChar, fold}
 use Rattle.turkish.specs.Calls.{chars, bytes, foldText}
-use Rattle.texts.specs.FoldBytes.{foldByte, foldBytes}
-use Rattle.texts.proofs.Laws.FoldByte.{foldByte-capital, foldByte-stays}
+use Rattle.folding.specs.FoldBytes.{foldByte, foldBytes}
+use Rattle.folding.proofs.Laws.FoldByte.{foldByte-capital, foldByte-stays}
 
 -- ---- one byte ----
 

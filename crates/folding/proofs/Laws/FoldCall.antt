@@ -8,9 +8,9 @@ use borrow.Author.Tests.{ne-eqb}
 use Rattle.turkish.specs.Calls.{written, refusalInto, foldRefusal, foldCall, foldOut}
 use Rattle.turkish.proofs.Laws.Accepted.{accepted-text}
 use Rattle.turkish.proofs.Sizes.{foldText-size}
-use Rattle.texts.specs.FoldBytes.{foldBytes}
+use Rattle.folding.specs.FoldBytes.{foldBytes}
 use Rattle.words.proofs.Laws.Refusals.{into-accepted}
-use Rattle.texts.proofs.Laws.FoldBytes.{foldBytes-text}
+use Rattle.folding.proofs.Laws.FoldBytes.{foldBytes-text}
 
 module _ (w out : List ℕ) (n : ℕ) (e : n ≡ refusalInto w (length w) (length out)) where
   -- a refused call gives its number and leaves the output
