@@ -1,19 +1,19 @@
 // What a host program links: thin calls under C's convention, each with its contract by the library's own definitions. None asks
 // anything of its caller beyond what the signature says.
+use folding::fold;
+use texts::pass;
+use texts::postlude;
 use turkish::answer::FoldAnswer;
 use turkish::answer::PassAnswer;
 use turkish::answer::PostludeAnswer;
 use turkish::answer::StageAnswer;
 use turkish::answer::SyllableAnswer;
 use words::check;
-use words::fold;
-use words::pass;
-use words::postlude;
 use words::stage;
 use words::syllable;
 ghost use mathlib.Core.Path.{_≡_};
 ghost use lib.ListN.{length};
-ghost use Rattle.utf8.specs.Validity.{isText};
+ghost use Rattle.encoding.specs.Validity.{isText};
 ghost use Rattle.turkish.specs.Calls.{syllableCall, stageCall, postludeCall, postludeOut, foldCall, foldOut, passCall, passOut};
 
 // Whether the bytes are UTF-8. Takes any slice.

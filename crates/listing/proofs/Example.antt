@@ -1,8 +1,8 @@
 -- Document 01's two lines of `stemlist`, by computation over the definitions. Assumes nothing.
 use mathlib.Core.Path.{_≡_, refl}
-use Rattle.utf8.specs.Encoding.{encode, encodeAll, decode}
-use Rattle.utf8.specs.Validity.{table37, due, refused, leadIn, lead, next, accepts, isText}
-use Rattle.utf8.specs.Characters.{continuation, width, goesOn, lastWidth, charAt, lastChar, beforeWithin, before, back as placeBack}
+use Rattle.encoding.specs.Encoding.{encode, encodeAll, decode, continuation}
+use Rattle.encoding.specs.Validity.{table37, due, refused, leadIn, lead, next, accepts, isText}
+use Rattle.utf8.specs.Characters.{width, goesOn, lastWidth, charAt, lastChar, beforeWithin, before, back as placeBack}
 use Rattle.utf8.specs.Steps.{same}
 use Rattle.turkish.specs.Letters.{text, fromEnd, any, has, starts}
 use Rattle.turkish.specs.Harmony.{vowels, vowel, partnerTable, partnersIn, partner, lastVowel, beforeLastVowel, harmony, moreThanOneSyllable}
@@ -12,7 +12,8 @@ use Rattle.turkish.specs.Stage.{person, branch1, branch2, branch3, branch4, bra
 use Rattle.turkish.specs.Postlude.{reserved, gained, appendU, hard, harden, postlude}
 use Rattle.turkish.specs.WordPass.{passStage, pass}
 use Rattle.turkish.specs.Calls.{chars, bytes, limit, refusal, accepted, keptLength, passText}
-use Rattle.listing.specs.Listing.{tab, lf, lineRefusal, yesNo, oneZero, answers, fields, listLine, unclosed, linesFrom, listAll, listing}
+use Rattle.lines.specs.Line.{tab, lf, lineRefusal, yesNo, oneZero, answers, fields, listLine}
+use Rattle.listing.specs.Listing.{unclosed, linesFrom, listAll, listing}
 
 -- the input lines `evler` and `siniz` give document 01's two lines; the second ends in two tabs
 pub example-lines : listing (text "evler\nsiniz\n") ≡ text "evler\tY\tY\t0\tev\tev\nsiniz\tY\tY\t1\t\t\n"

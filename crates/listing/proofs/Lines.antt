@@ -6,10 +6,11 @@ use mathlib.Core.List.{List, [], _∷_, _++_, append-assoc, append-nil}
 use lib.ListN.{length}
 use lib.Dec.{eqb}
 use borrow.Author.Tests.{eqb-true, eqb-false, eq-eqb, ne-eqb, le-ltb}
-use Rattle.utf8.specs.Validity.{isText}
+use Rattle.encoding.specs.Validity.{isText}
 use Rattle.turkish.specs.Letters.{text, any, has}
 use Rattle.turkish.specs.Calls.{limit, refusal, accepted}
-use Rattle.listing.specs.Listing.{tab, lf, lineRefusal, fields, refusedLine, listLine, unclosed, linesFrom, listAll, listing}
+use Rattle.lines.specs.Line.{tab, lf, lineRefusal, fields, refusedLine, listLine}
+use Rattle.listing.specs.Listing.{unclosed, linesFrom, listAll, listing}
 use Rattle.listing.proofs.Laws.Held.{listLine-long}
 
 -- ---- one line ----

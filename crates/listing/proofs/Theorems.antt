@@ -5,11 +5,12 @@ use mathlib.Core.Path.{_≡_}
 use mathlib.Core.Bool.{true, false}
 use mathlib.Core.List.{List, [], _∷_, _++_, flatten}
 use lib.ListN.{length, take, drop}
-use Rattle.utf8.specs.Validity.{isText}
+use Rattle.encoding.specs.Validity.{isText}
 use Rattle.turkish.specs.Letters.{text, has}
 use Rattle.turkish.specs.Calls.{limit, accepted}
-use Rattle.listing.specs.Listing.{tab, lf, fields, listLine, listing}
-use Rattle.listing.specs.Put.{lineRoom}
+use Rattle.lines.specs.Line.{tab, lf, fields, listLine}
+use Rattle.listing.specs.Listing.{listing}
+use Rattle.lines.specs.Put.{lineRoom}
 use Rattle.listing.specs.Feed.{most}
 use Rattle.listing.specs.Fed.{feeding}
 use Rattle.listing.specs.Blocks.{fedAll, Call, takenBy, writtenBy}
@@ -17,7 +18,7 @@ use Rattle.listing.proofs.Lines as Lines
 use Rattle.listing.proofs.Example.{example-lines}
 use Rattle.listing.proofs.Blocks.{blocks-listing}
 use Rattle.listing.proofs.Calls.{writtenBy-listing}
-use Rattle.listing.proofs.Laws.LineText.{listLine-size}
+use Rattle.lines.proofs.Laws.LineText.{listLine-size}
 use Rattle.listing.proofs.Laws.OneCall.{feeding-call}
 
 -- ---- words ended by LF ----

@@ -4,8 +4,8 @@ use mathlib.Core.Bool.{cond}
 use mathlib.Core.List.{List, [], _∷_}
 use lib.ListN.{length, take, drop, set}
 use lib.Dec.{eqb, ltb}
-use Rattle.listing.specs.Listing.{lf, listLine}
-use Rattle.listing.specs.Put.{put, lineRoom}
+use Rattle.lines.specs.Line.{lf, listLine}
+use Rattle.lines.specs.Put.{put, lineRoom}
 use Rattle.listing.specs.Feed.{most}
 
 -- `used` bytes of the block are taken, the first `held` bytes of `line` are held, and the first `written` bytes of `out` are written

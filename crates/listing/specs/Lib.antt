@@ -1,6 +1,5 @@
 -- What the listing is, and how it is made from blocks of input.
 pub mod Listing
-pub mod Put
 pub mod Feed
 pub mod Fed
 pub mod Blocks

@@ -1,49 +1,9 @@
 -- The listing (document 01, "stemlist"): a line for each word of the input. Assumes nothing.
-use Prim.Native.Nat.{ℕ, _+_}
-use Prim.Native.Char.{code}
-use mathlib.Core.Bool.{Bool, cond}
+use Prim.Native.Nat.{ℕ}
+use mathlib.Core.Bool.{cond}
 use mathlib.Core.List.{List, [], _∷_, _++_}
-use lib.ListN.{take}
 use lib.Dec.{eqb}
-use Rattle.turkish.specs.Letters.{has}
-use Rattle.turkish.specs.Harmony.{moreThanOneSyllable}
-use Rattle.turkish.specs.Stage.{stage}
-use Rattle.turkish.specs.Calls.{chars, refusal, keptLength, passText}
-
--- the two bytes that part the input and the output
-unfoldable pub tab : ℕ
-tab = 0x09
-
-unfoldable pub lf : ℕ
-lf = 0x0A
-
--- number 4, the list's author's, after the word's author's numbers: a tab in a line
-unfoldable pub lineRefusal : List ℕ → ℕ
-lineRefusal w = cond (eqb (refusal w) 0) (cond (has w tab) 4 0) (refusal w)
-
-unfoldable pub yesNo : Bool → ℕ
-yesNo t = cond t (code "Y") (code "N")
-
-unfoldable pub oneZero : Bool → ℕ
-oneZero t = cond t (code "1") (code "0")
-
--- syllable check, stage and flag, each between tabs
-unfoldable pub answers : Bool → Bool → Bool → List ℕ
-answers syllable stages flag = tab ∷ yesNo syllable ∷ tab ∷ yesNo stages ∷ tab ∷ oneZero flag ∷ tab ∷ []
-
--- word, syllable check, stage, flag, kept text, pass result
-unfoldable pub fields : List ℕ → List ℕ
-fields w =
-    w ++ (answers (moreThanOneSyllable (chars w)) (stage (chars w) .yes) (stage (chars w) .flag)
-    ++ (take (keptLength w) w ++ (tab ∷ (passText w ++ (lf ∷ [])))))
-
--- a refused line: `!`, one tab and the number, and nothing of the word
-unfoldable pub refusedLine : ℕ → List ℕ
-refusedLine n = code "!" ∷ tab ∷ (code "0" + n) ∷ lf ∷ []
-
--- the output line of one word
-unfoldable pub listLine : List ℕ → List ℕ
-listLine w = cond (eqb (lineRefusal w) 0) (fields w) (refusedLine (lineRefusal w))
+use Rattle.lines.specs.Line.{lf, listLine}
 
 -- the words of an input, with `line` read so far: each ended by a line feed; a last one without it counts if it is not empty
 unfoldable pub unclosed : List ℕ → List (List ℕ)

@@ -1,16 +1,19 @@
 // The step that takes a block of input: it holds the line read so far, writes the line of each word that ends in the block, and
 // stops where the output has no room for one more line.
-use crate::line;
+use lines::line;
 use words::refusal;
 ghost use mathlib.Core.Path.{_≡_};
 ghost use Prim.Native.Nat.{_+_, _≤_};
 ghost use lib.ListN.{length, take, set};
 ghost use Rattle.listing.specs.Feed.{most, lastOut};
-ghost use Rattle.listing.specs.Put.{put, lineRoom};
+ghost use Rattle.lines.specs.Put.{put, lineRoom};
 ghost use Rattle.listing.specs.Fed.{standing, heldNext, feedByte, feeding};
 
 // The bytes held of a line that is not ended: one more than the limit, since a longer line is refused whatever follows.
 pub const HELD: usize = refusal::LIMIT + 1;
+
+// Room for any output line: three times the limit, and twelve bytes.
+const LINE: usize = 3 * refusal::LIMIT + 12;
 
 // How much of the block was taken, how many bytes of the line are held, and how many bytes of the output are written.
 pub struct Progress {
@@ -75,7 +78,7 @@ pub fn feed(block: &[u8], from: usize, line: &mut [u8], held: usize, out: &mut [
     let mut h = held;
     let mut o = 0;
     while i < block.len() {
-        if out.len() - o < line::LINE {
+        if out.len() - o < LINE {
             return Progress {
                 used: i,
                 held: h,

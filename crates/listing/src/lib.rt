@@ -1,4 +1,2 @@
-// The listing of a stream of words: one word's whole output line, and the step that takes a block of input.
+// The listing of a stream of words: the step that takes a block of input, and the last line.
 pub mod feed;
-mod line;
-mod put;

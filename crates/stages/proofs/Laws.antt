@@ -1,19 +1,5 @@
 -- The laws that the functions' proofs cite, a file for each thing that they are about.
-pub mod Sounds
-pub mod Walk
-pub mod LastVowel
-pub mod Told
-pub mod Part
-pub mod Reads
-pub mod OptionalY
-pub mod Literal
 pub mod LiteralWhole
-pub mod Yken
-pub mod Keys
-pub mod Search
-pub mod KeyBefore
-pub mod Ends
-pub mod Marks
 pub mod Branches
 pub mod Hardened
 pub mod Repairs

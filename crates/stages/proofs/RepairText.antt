@@ -9,9 +9,9 @@ use lib.ListN.{length, take, drop, take-append-drop, length-append, length-drop,
 use lib.Seq.{take-append-le, drop-append-le, take-take, length-take-le}
 use lib.Dec.{ltb, eqb}
 use borrow.Author.Tests.{ltb-true, ltb-false, lt-ltb, eqb-true, eqb-false}
-use Rattle.utf8.proofs.Laws.Booleans.{cond-both}
-use Rattle.utf8.specs.Encoding.{encode}
-use Rattle.utf8.specs.Text.{TextOf}
+use Rattle.encoding.proofs.Laws.Booleans.{cond-both}
+use Rattle.encoding.specs.Encoding.{encode}
+use Rattle.encoding.specs.Text.{TextOf}
 use Rattle.utf8.specs.Characters.{goesOn, lastWidth, charAt, lastChar, beforeWithin, before, back}
 use Rattle.utf8.proofs.Laws.Characters.{lastWidth-le, before-zero, before-step}
 use Rattle.utf8.proofs.TextCharacters.{encode-before, take-back}

@@ -1,13 +1,13 @@
 // The postlude (turkish.rs, `r_postlude` and what it calls), on the first n bytes of a word. It rebuilds no text: it answers how many
 // bytes stay and what follows them.
-use crate::among::Among;
-use crate::among::find_among_b;
-use crate::seen;
-use crate::seen::Seen;
-use crate::tables;
-use crate::vowel::Sound;
-use crate::vowel::Vowel;
-use crate::walk;
+use letters::among::Among;
+use letters::among::find_among_b;
+use letters::seen;
+use letters::seen::Seen;
+use letters::vowel::Sound;
+use letters::vowel::Vowel;
+use letters::walk;
+use marks::tables;
 use utf8::cursor::Cursor;
 use utf8::literal;
 ghost use mathlib.Core.Path.{_≡_};
@@ -15,7 +15,7 @@ ghost use Prim.Native.Nat.{_≤_, _<_};
 ghost use lib.ListN.{length};
 ghost use Rattle.utf8.specs.Characters.{before};
 ghost use Rattle.turkish.specs.Postlude.{reserved, gained};
-ghost use Rattle.stages.specs.Seen.{seenAt};
+ghost use Rattle.letters.specs.Seen.{seenAt};
 ghost use Rattle.stages.specs.Repairs.{ending, unchanged, followed, appended, hardened, repairOf};
 
 // A text as the first `keep` bytes of a word and `more` bytes after them, none, `a`, or `a` and `b`; and the postlude's answer.

@@ -1,22 +1,23 @@
 // The suffix stage (turkish.rs, `r_stem_nominal_verb_suffixes`): its six branches in the Rust's order. A branch answers the record
 // after its deletions, which lower the limit; the text kept ends there.
-use crate::ends;
-use crate::harmony;
-use crate::harmony::Told;
-use crate::mark;
-use crate::marked::Marked;
-use crate::seen;
-use crate::seen::Seen;
+use letters::ends;
+use letters::harmony;
+use letters::harmony::Told;
+use letters::seen;
+use letters::seen::Seen;
+use marks::mark;
+use marks::marked::Marked;
 use utf8::cursor::Cursor;
 ghost use mathlib.Core.Path.{_≡_};
 ghost use Rattle.utf8.specs.Behind.{behind, Open};
 ghost use Rattle.turkish.specs.Grammar.{run, mark, _then_};
 ghost use Rattle.turkish.specs.Marks.{ymUs};
 ghost use Rattle.turkish.specs.Stage.{person, branch1, branch2, branch3, branch4, branch5, branch6};
-ghost use Rattle.stages.specs.Seen.{Sees};
-ghost use Rattle.stages.specs.Told.{Hears, toldAtEnd};
-ghost use Rattle.stages.specs.Numbered.{firstOf};
-ghost use Rattle.stages.specs.Reach.{reach, cutTo, triedTo, outcomeOf};
+ghost use Rattle.letters.specs.Seen.{Sees};
+ghost use Rattle.letters.specs.Told.{Hears, toldAtEnd};
+ghost use Rattle.letters.specs.Numbered.{firstOf};
+ghost use Rattle.marks.specs.Reach.{reach, cutTo, triedTo};
+ghost use Rattle.stages.specs.Outcome.{outcomeOf};
 
 // The place before which the text kept stands, whether an ending was removed, and the flag.
 pub struct Outcome {

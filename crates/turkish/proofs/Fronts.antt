@@ -7,7 +7,7 @@ use mathlib.Core.List.{List, _++_}
 use lib.ListN.{length, drop}
 use lib.Seq.{take-append-seam}
 use borrow.Author.Tests.{le-ltb}
-use Rattle.utf8.specs.Text.{TextOf}
+use Rattle.encoding.specs.Text.{TextOf}
 use Rattle.turkish.specs.WordPass.{Passed, pass}
 use Rattle.turkish.specs.Calls.{chars, bytes, accepted, refusalInto, written, passText, passRefusal, passCall, passOut}
 use Rattle.turkish.specs.Fronts.{front, end, Pair, reachesReserved, passGives, SameAnswers}

@@ -9,8 +9,8 @@ use native.Mathlib.Omega.{arith}
 use lib.ListN.{length, drop, length-drop}
 use lib.Seq.{drop-cons}
 use lib.Dec.{eqb, eqb·suc-zero}
-use Rattle.utf8.specs.Encoding.{encode, encodeAll, decode}
-use Rattle.utf8.specs.Characters.{continuation, width, goesOn, lastWidth, charAt, lastChar, beforeWithin, before}
+use Rattle.encoding.specs.Encoding.{encode, encodeAll, decode, continuation}
+use Rattle.utf8.specs.Characters.{width, goesOn, lastWidth, charAt, lastChar, beforeWithin, before}
 use Rattle.utf8.specs.Steps.{same}
 use Rattle.utf8.proofs.Laws.Characters.{before-zero, before-step, before-back}
 use Rattle.turkish.specs.Letters.{text, any, has, starts}

@@ -5,7 +5,7 @@ use Prim.Native.Char.{code}
 use mathlib.Core.Path.{_≡_, refl, ap}
 use mathlib.Core.Bool.{Bool, true, false, cond}
 use mathlib.Core.List.{List, [], _∷_}
-use Rattle.utf8.proofs.Laws.Booleans.{cond-both}
+use Rattle.encoding.proofs.Laws.Booleans.{cond-both}
 use Rattle.turkish.specs.Letters.{text, fromEnd, has, starts}
 use Rattle.turkish.specs.Harmony.{lastVowel}
 use Rattle.turkish.specs.Postlude.{reserved, gained, appends, appendU, hardenings, hardIn, hard, harden, postlude}

@@ -10,9 +10,9 @@ use lib.ListN.{length, take, drop, length-append}
 use lib.Seq.{length-take-le}
 use lib.Dec.{eqb, leb}
 use borrow.Author.Tests.{eqb-true, leb-true}
-use Rattle.utf8.specs.Encoding.{encode}
-use Rattle.utf8.proofs.Laws.Booleans.{and-left, and-right, cond-test}
-use Rattle.utf8.proofs.Laws.Encoding.{encode-one}
+use Rattle.encoding.specs.Encoding.{encode}
+use Rattle.encoding.proofs.Laws.Booleans.{and-left, and-right, cond-test}
+use Rattle.encoding.proofs.Laws.Encoding.{encode-one}
 use Rattle.utf8.proofs.Laws.Characters.{back-le}
 use Rattle.utf8.proofs.TextCharacters.{take-back}
 use Rattle.turkish.specs.Letters.{starts}

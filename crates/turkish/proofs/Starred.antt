@@ -6,9 +6,9 @@ use mathlib.Core.Path.{_≡_, refl}
 use mathlib.Core.Bool.{Bool, true, false}
 use mathlib.Core.List.{List, [], _∷_, map}
 use lib.ListN.{length}
-use Rattle.utf8.specs.Encoding.{encode, encodeAll, decode}
-use Rattle.utf8.specs.Validity.{table37, due, refused, leadIn, lead, next, accepts, isText}
-use Rattle.utf8.specs.Characters.{continuation, width, goesOn, lastWidth, charAt, lastChar, beforeWithin, before}
+use Rattle.encoding.specs.Encoding.{encode, encodeAll, decode, continuation}
+use Rattle.encoding.specs.Validity.{table37, due, refused, leadIn, lead, next, accepts, isText}
+use Rattle.utf8.specs.Characters.{width, goesOn, lastWidth, charAt, lastChar, beforeWithin, before}
 use Rattle.turkish.specs.declared.answer.StageAnswer.{StageAnswer}
 use Rattle.turkish.specs.declared.answer.PostludeAnswer.{PostludeAnswer}
 use Rattle.turkish.specs.declared.answer.PassAnswer.{PassAnswer}

@@ -9,9 +9,8 @@ use native.Mathlib.Omega.{arith}
 use lib.ListN.{length, getD}
 use lib.Dec.{leb, eqb}
 use borrow.Author.Tests.{not-true, leb-true, eqb-true, eq-eqb}
-use Rattle.utf8.specs.Encoding.{encode, encodeAll}
-use Rattle.utf8.specs.Characters.{continuation}
-use Rattle.utf8.proofs.Laws.Booleans.{and-left, and-right, and-each}
+use Rattle.encoding.specs.Encoding.{encode, encodeAll, continuation}
+use Rattle.encoding.proofs.Laws.Booleans.{and-left, and-right, and-each}
 use Rattle.turkish.specs.Letters.{text, fromEnd, starts}
 use Rattle.turkish.specs.Marks.{marked, yUm, sUn, yUz, sUnUz, lAr, nUz, DUr, cAsInA, yDU, ysA, ymUs, yken}
 use Rattle.turkish.specs.Postlude.{hardenings, hardKeys}

@@ -10,8 +10,8 @@ use mathlib.Core.List.{List, _++_, reverse, List·Memᴰ}
 use mathlib.Core.Logic.{_↔_}
 use lib.ListN.{length, take, getD}
 use lib.Dec.{eqb}
-use Rattle.utf8.specs.Validity.{isText}
-use Rattle.utf8.specs.Characters.{continuation}
+use Rattle.encoding.specs.Validity.{isText}
+use Rattle.encoding.specs.Encoding.{continuation}
 use Rattle.turkish.specs.Letters.{starts}
 use Rattle.turkish.specs.Snowball.{State, ahead, Result, done, failed, Direction, forward, backward, Command, routine, run}
 use Rattle.turkish.specs.Source as source

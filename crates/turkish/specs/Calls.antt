@@ -5,8 +5,8 @@ use mathlib.Core.Bool.{Bool, false, cond}
 use mathlib.Core.List.{List, [], _++_, reverse}
 use lib.ListN.{length, drop}
 use lib.Dec.{ltb, eqb}
-use Rattle.utf8.specs.Encoding.{encodeAll}
-use Rattle.utf8.specs.Validity.{isText}
+use Rattle.encoding.specs.Encoding.{encodeAll}
+use Rattle.encoding.specs.Validity.{isText}
 use Rattle.utf8.specs.Characters.{before}
 use Rattle.turkish.specs.declared.answer.SyllableAnswer.{SyllableAnswer}
 use Rattle.turkish.specs.declared.answer.StageAnswer.{StageAnswer}

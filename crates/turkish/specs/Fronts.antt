@@ -7,7 +7,7 @@ use mathlib.Core.Bool.{Bool, true, false, _&&_, _||_}
 use mathlib.Core.List.{List, [], _∷_, map}
 use lib.ListN.{length, take, drop}
 use lib.Dec.{leb}
-use Rattle.utf8.specs.Encoding.{encodeAll}
+use Rattle.encoding.specs.Encoding.{encodeAll}
 use Rattle.utf8.specs.Characters.{back}
 use Rattle.utf8.specs.Steps.{same}
 use Rattle.turkish.specs.Letters.{text, fromEnd, has}

@@ -8,7 +8,7 @@ use mathlib.Core.Bool as Bool
 use mathlib.Core.List.{List, [], _∷_, _++_, map, reverse}
 use lib.ListN.{length, take, drop}
 use lib.Dec.{eqb, ltb, leb}
-use Rattle.utf8.specs.Encoding.{encodeAll}
+use Rattle.encoding.specs.Encoding.{encodeAll}
 use Rattle.turkish.specs.Letters.{text, fromEnd, has, starts}
 
 -- ---- the state ----

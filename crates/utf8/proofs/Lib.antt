@@ -1,8 +1,7 @@
--- Theorems and laws that belong to no one function. `Theorems` is to be opened first. `CheckExact` says that the check accepts exactly the
--- encodings of scalar values, `TextCharacters` what the characters of a text are, `WholeCharacters` that a step takes a whole one and stays
--- within the limits, `WholeLiterals` the same of a literal; `Laws` has what these and the functions' proofs rest on.
+-- Theorems and laws that belong to no one function. `Theorems` is to be opened first. `TextCharacters` says what the characters of a text
+-- are, `WholeCharacters` that a step takes a whole one and stays within the limits, `WholeLiterals` the same of a literal; `Laws` has what
+-- these and the functions' proofs rest on.
 pub mod Theorems
-pub mod CheckExact
 pub mod TextCharacters
 pub mod WholeCharacters
 pub mod WholeLiterals

@@ -9,13 +9,13 @@ use lib.ListN.{length, take, drop, getD, length-append}
 use lib.Seq.{getD-append-add, take-append-seam, drop-append-seam}
 use lib.Dec.{ltb}
 use borrow.Author.Tests.{lt-ltb}
-use Rattle.utf8.specs.Scalar.{scalar, scalars}
-use Rattle.utf8.specs.Encoding.{encode, encodeAll, decode}
-use Rattle.utf8.specs.Text.{TextOf}
-use Rattle.utf8.specs.Characters.{continuation, width, goesOn, lastWidth, firstWidth, charAt, lastChar, firstChar, before, back}
-use Rattle.utf8.proofs.Laws.Booleans.{and-left, and-right, and-false}
+use Rattle.encoding.specs.Scalar.{scalar, scalars}
+use Rattle.encoding.specs.Encoding.{encode, encodeAll, decode, continuation}
+use Rattle.encoding.specs.Text.{TextOf}
+use Rattle.utf8.specs.Characters.{width, goesOn, lastWidth, firstWidth, charAt, lastChar, firstChar, before, back}
+use Rattle.encoding.proofs.Laws.Booleans.{and-left, and-right, and-false}
 use Rattle.utf8.proofs.Laws.Characters.{before-zero, before-step, back-zero}
-use Rattle.utf8.proofs.Laws.Decoding.{decode-encode, OneCharacter, one-byte, two-bytes, three-bytes, four-bytes, encode-lead, length-encode-pos}
+use Rattle.encoding.proofs.Laws.Decoding.{decode-encode, OneCharacter, one-byte, two-bytes, three-bytes, four-bytes, encode-lead, length-encode-pos}
 
 -- ---- one character ----
 

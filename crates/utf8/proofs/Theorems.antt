@@ -1,38 +1,20 @@
--- The file to open first: what bytes and characters promise. Each theorem is proved in a line or two from the files named for what they
+-- The file to open first: what characters and steps promise. Each theorem is proved in a line or two from the files named for what they
 -- prove. That the code gives these definitions' answers is the contracts' part. Assumes nothing.
 use Prim.Native.Nat.{ℕ, _≤_, _<_}
-use mathlib.Core.Path.{_≡_, _∙_}
-use mathlib.Core.Bool.{true, false}
+use mathlib.Core.Path.{_≡_}
+use mathlib.Core.Bool.{true}
 use mathlib.Core.List.{List, [], _∷_, _++_, reverse}
-use mathlib.Core.Logic.{_↔_}
 use lib.ListN.{length, take, drop}
 use Rattle.utf8.specs.declared.cursor.Cursor.{Cursor}
-use Rattle.utf8.specs.Scalar.{surrogate, scalars}
-use Rattle.utf8.specs.Encoding.{encode, encodeAll}
-use Rattle.utf8.specs.Text.{TextOf}
-use Rattle.utf8.specs.Validity.{isText}
+use Rattle.encoding.specs.Scalar.{scalars}
+use Rattle.encoding.specs.Encoding.{encodeAll}
+use Rattle.encoding.specs.Text.{TextOf}
 use Rattle.utf8.specs.Characters.{before, back}
 use Rattle.utf8.specs.Steps.{stands, moveTo, stay, previousChar, nextChar, passed, eqSB, eqS}
-use Rattle.utf8.proofs.Laws.Booleans.{and-false}
-use Rattle.utf8.proofs.CheckExact.{isText-encodeAll-append, isText-iff, surrogate-refused, above-refused}
 use Rattle.utf8.proofs.TextCharacters.{encode-before, take-back}
 use Rattle.utf8.proofs.WholeCharacters.{Between, previousChar-edge, nextChar-edge, previousChar-within, nextChar-within, eqSB-within, eqS-within}
 use Rattle.utf8.proofs.WholeCharacters.{previousChar-whole, nextChar-whole}
 use Rattle.utf8.proofs.WholeLiterals.{PassedBack, PassedOn, eqSB-before, eqSB-whole, eqSB-passes, eqS-whole, eqS-passes}
-
--- ---- the check ----
-
--- the check accepts bytes exactly when they are the encoding of scalar values
-pub accepts-exactly : (w : List ℕ) → (isText w ≡ true) ↔ TextOf w
-accepts-exactly w = isText-iff w
-
--- a surrogate is refused, whatever stands before and after it
-pub surrogates-refused : (cs : List ℕ) (c : ℕ) (rest : List ℕ) → surrogate c ≡ true → isText (encodeAll cs ++ (encode c ++ rest)) ≡ false
-surrogates-refused cs c rest e = isText-encodeAll-append cs (encode c ++ rest) ∙ rw (surrogate-refused c rest e) (and-false (scalars cs))
-
--- so is a code point above U+10FFFF
-pub above-10FFFF-refused : (cs : List ℕ) (c : ℕ) (rest : List ℕ) → 0x10FFFF < c → isText (encodeAll cs ++ (encode c ++ rest)) ≡ false
-above-10FFFF-refused cs c rest h = isText-encodeAll-append cs (encode c ++ rest) ∙ rw (above-refused c rest h) (and-false (scalars cs))
 
 -- ---- the characters before a place ----
 

@@ -11,11 +11,11 @@ use borrow.Author.Tests.{leb-true, le-leb}
 use Rattle.utf8.specs.declared.cursor.Cursor.{Cursor}
 use Rattle.utf8.specs.declared.step.Step.{Step}
 use Rattle.utf8.specs.declared.literal.Literal.{Literal}
-use Rattle.utf8.specs.Scalar.{scalar, scalars}
-use Rattle.utf8.specs.Encoding.{encode, encodeAll}
+use Rattle.encoding.specs.Scalar.{scalar, scalars}
+use Rattle.encoding.specs.Encoding.{encode, encodeAll}
 use Rattle.utf8.specs.Characters.{lastWidth, firstWidth}
 use Rattle.utf8.specs.Steps.{stands, moveTo, stay, previousChar, nextChar, standsAt, eqSB, eqS}
-use Rattle.utf8.proofs.Laws.Booleans.{and-left, and-right, cond-test}
+use Rattle.encoding.proofs.Laws.Booleans.{and-left, and-right, cond-test}
 use Rattle.utf8.proofs.Laws.Steps.{stands-within, stands-ordered, previousChar-stays, nextChar-stays}
 use Rattle.utf8.proofs.Laws.Characters.{lastWidth-pos, firstWidth-pos}
 use Rattle.utf8.proofs.TextCharacters.{lastWidth-encoded, lastStart-encoded, lastChar-encoded, firstWidth-encoded, firstChar-encoded}

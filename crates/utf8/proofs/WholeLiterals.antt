@@ -11,15 +11,15 @@ use lib.Seq.{drop-drop, length-take-le, take-append-seam, drop-append-seam}
 use lib.Dec.{eqb}
 use borrow.Author.Tests.{eqb-true, eq-eqb}
 use Rattle.utf8.specs.declared.cursor.Cursor.{Cursor}
-use Rattle.utf8.specs.Scalar.{scalars}
-use Rattle.utf8.specs.Encoding.{encodeAll}
-use Rattle.utf8.specs.Text.{TextOf}
-use Rattle.utf8.specs.Validity.{isText}
+use Rattle.encoding.specs.Scalar.{scalars}
+use Rattle.encoding.specs.Encoding.{encodeAll}
+use Rattle.encoding.specs.Text.{TextOf}
+use Rattle.encoding.specs.Validity.{isText}
 use Rattle.utf8.specs.Characters.{before}
 use Rattle.utf8.specs.Steps.{moveTo, same, standsAt, passed, eqSB, eqS}
-use Rattle.utf8.proofs.Laws.Booleans.{and-left, and-right}
+use Rattle.encoding.proofs.Laws.Booleans.{and-left, and-right}
 use Rattle.utf8.proofs.Laws.Steps.{stands-ordered, eqSB-moves, eqSB-moved, eqS-moves, eqS-moved}
-use Rattle.utf8.proofs.CheckExact.{isText-encodeAll-append, encodes-isText, isText-encodes}
+use Rattle.encoding.proofs.CheckExact.{isText-encodeAll-append, encodes-isText, isText-encodes}
 use Rattle.utf8.proofs.TextCharacters.{encodeAll-append, scalars-append, before-text, before-after, encodeAll-injective}
 
 -- ---- bytes that stand at a place ----

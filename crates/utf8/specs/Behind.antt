@@ -8,7 +8,8 @@ use lib.ListN.{drop, getD}
 use lib.Dec.{eqb}
 use Rattle.utf8.specs.declared.cursor.Cursor.{Cursor}
 use Rattle.utf8.specs.declared.characters.Read.{Read}
-use Rattle.utf8.specs.Characters.{continuation, before, back}
+use Rattle.encoding.specs.Encoding.{continuation}
+use Rattle.utf8.specs.Characters.{before, back}
 use Rattle.utf8.specs.Steps.{stands, moveTo}
 
 -- the character that ends at place c, 0 where none does, and the place where it begins

@@ -5,12 +5,8 @@ use Prim.Native.Nat.{ℕ, zero, suc, _+_, _-_}
 use mathlib.Core.Bool.{Bool, true, false, _&&_}
 use mathlib.Core.List.{List, [], _∷_}
 use lib.ListN.{take, drop, getD}
-use lib.Dec.{leb, ltb}
-use Rattle.utf8.specs.Encoding.{decode}
-
--- a byte that goes on with a character and begins none
-unfoldable pub continuation : ℕ → Bool
-continuation b = leb 0x80 b && leb b 0xBF
+use lib.Dec.{ltb}
+use Rattle.encoding.specs.Encoding.{continuation, decode}
 
 -- a character's bytes: one, and one more for each of the next three that goes on with it, up to the first that does not
 unfoldable pub width : Bool → Bool → Bool → ℕ

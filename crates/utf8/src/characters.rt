@@ -1,18 +1,12 @@
 // The character that ends, and the one that begins, at a place of a word. Total on any bytes: nothing here asks for valid UTF-8.
+use encoding::continuation;
 ghost use mathlib.Core.Path.{_≡_};
 ghost use mathlib.Core.List.{[], _∷_};
 ghost use Prim.Native.Nat.{_+_, _%_, _≤_, _<_, max};
 ghost use lib.ListN.{length, getD};
-ghost use Rattle.utf8.specs.Encoding.{decode};
+ghost use Rattle.encoding.specs.Encoding.{decode, continuation};
 ghost use Rattle.utf8.specs.Behind.{readBack};
-ghost use Rattle.utf8.specs.Characters.{continuation, goesOn, lastWidth, firstWidth, charAt};
-
-// Whether a byte goes on with a character and begins none.
-pub(crate) fn is_continuation(b: u8) -> bool
-    ensures { λ r. ⌜ r ≡ continuation b ⌝ }
-{
-    (0x80 <= b) & (b <= 0xBF)
-}
+ghost use Rattle.utf8.specs.Characters.{goesOn, lastWidth, firstWidth, charAt};
 
 // Whether, going back from place c, the k-th byte goes on with a character that begins before it.
 fn goes_on(w: &[u8], c: usize, k: usize) -> bool
@@ -22,7 +16,7 @@ fn goes_on(w: &[u8], c: usize, k: usize) -> bool
     if c <= k {
         return false;
     }
-    is_continuation(w[c - k])
+    continuation::is_continuation(w[c - k])
 }
 
 // The bytes of the character that ends at place c.
@@ -49,7 +43,7 @@ fn continues_at(w: &[u8], i: usize) -> bool
     if w.len() <= i {
         return false;
     }
-    is_continuation(w[i])
+    continuation::is_continuation(w[i])
 }
 
 // The bytes of the character that begins at place c.
@@ -152,7 +146,7 @@ pub fn read_back(w: &[u8], c: usize) -> Read
     }
     if 2 <= c {
         let a = w[c - 2];
-        if is_continuation(b) & !is_continuation(a) {
+        if continuation::is_continuation(b) & !continuation::is_continuation(a) {
             return Read {
                 ch: decode_two(a, b),
                 at: c - 2,

@@ -1,8 +1,3 @@
--- The laws of what the functions write, a file for each subject.
+-- The laws of what the functions answer, a file for each subject.
 pub mod Refusals
-pub mod FoldByte
-pub mod FoldBytes
-pub mod FoldCall
-pub mod Writing
 pub mod WordCalls
-pub mod RepairCalls

@@ -1,7 +1,7 @@
 // The UTF-8 check as a call: any slice, of any length, and no number.
-use utf8::validity;
+use encoding::validity;
 ghost use mathlib.Core.Path.{_≡_};
-ghost use Rattle.utf8.specs.Validity.{isText};
+ghost use Rattle.encoding.specs.Validity.{isText};
 
 // Whether the bytes are UTF-8.
 pub fn is_utf8(w: &[u8]) -> bool

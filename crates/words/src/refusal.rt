@@ -1,5 +1,5 @@
 // Why a call refuses a word, as document 01's number; 0 where it does not.
-use utf8::validity;
+use encoding::validity;
 ghost use mathlib.Core.Path.{_≡_};
 ghost use Rattle.turkish.specs.Calls.{refusal, refusalInto};
 
@@ -20,7 +20,7 @@ pub fn refusal_of(w: &[u8]) -> u32
 }
 
 // The same, and 3 where an output of `room` bytes is shorter than the call needs.
-pub(crate) fn refusal_into(w: &[u8], need: usize, room: usize) -> u32
+pub fn refusal_into(w: &[u8], need: usize, room: usize) -> u32
     ensures { λ r. ⌜ r ≡ refusalInto (now (w .entry)) need room ⌝ }
 {
     let n = refusal_of(w);

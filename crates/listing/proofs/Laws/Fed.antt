@@ -10,14 +10,14 @@ use lib.ListN.{length, take, drop, getD, length-append, length-set, drop-of-leng
 use lib.Seq.{drop-cons}
 use lib.Dec.{eqb}
 use borrow.Author.Tests.{eq-eqb, ne-eqb, lt-ltb, le-ltb}
-use Rattle.listing.specs.Listing.{lf, listLine}
-use Rattle.listing.specs.Put.{put, lineRoom}
+use Rattle.lines.specs.Line.{lf, listLine}
+use Rattle.lines.specs.Put.{put, lineRoom}
 use Rattle.listing.specs.Feed.{most, fedOut, fedLine}
 use Rattle.listing.specs.Fed.{Fed, standing, endLine, holdByte, feedByte, feedBytes}
 use Rattle.listing.proofs.Blocks.{fedLine-append, fedOut-append}
 use Rattle.listing.proofs.Laws.Held.{lf-or-other, lt-or-le, heldNext-le, take-heldNext}
-use Rattle.listing.proofs.Laws.Put.{put-nothing, put-put, length-put, put-end}
-use Rattle.listing.proofs.Laws.LineText.{listLine-size}
+use Rattle.lines.proofs.Laws.Put.{put-nothing, put-put, length-put, put-end}
+use Rattle.lines.proofs.Laws.LineText.{listLine-size}
 
 -- ---- the steps ----
 

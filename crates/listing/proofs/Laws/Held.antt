@@ -11,7 +11,8 @@ use lib.Seq.{take-all, take-append-le, take-suc-set, set-out}
 use lib.Dec.{eqb, ltb}
 use borrow.Author.Tests.{ltb-true, ltb-false, lt-ltb, le-ltb}
 use Rattle.turkish.specs.Calls.{limit, refusal}
-use Rattle.listing.specs.Listing.{lf, lineRefusal, refusedLine, listLine, unclosed, listAll}
+use Rattle.lines.specs.Line.{lf, lineRefusal, refusedLine, listLine}
+use Rattle.listing.specs.Listing.{unclosed, listAll}
 use Rattle.listing.specs.Feed.{most, hold, lastOut}
 use Rattle.listing.specs.Fed.{heldNext}
 

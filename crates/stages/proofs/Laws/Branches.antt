@@ -16,14 +16,16 @@ use Rattle.turkish.specs.Grammar.{Out, fail, took, more, after, first, markOf, 
 use Rattle.turkish.specs.Stage.{person, branches, staged, stage}
 use Rattle.turkish.specs.Calls.{chars, keptLength}
 use Rattle.turkish.proofs.Laws.Outcome.{Flagged, unfit, fits}
-use Rattle.stages.specs.declared.marked.Marked.{Marked}
-use Rattle.stages.specs.declared.marked.Marked.the-variants.{To, Fails}
-use Rattle.stages.specs.declared.seen.Seen.{Seen}
-use Rattle.stages.specs.Seen.{seenAt, Sees}
-use Rattle.stages.specs.Ends.{someEnd}
-use Rattle.stages.specs.Numbered.{numbered, firstOf}
-use Rattle.stages.specs.Reach.{reach, cutTo, triedTo, outcomeOf}
-use Rattle.stages.proofs.Laws.Ends.{someEnd-unfit}
+use Rattle.marks.specs.declared.marked.Marked.{Marked}
+use Rattle.marks.specs.declared.marked.Marked.the-variants.{To, Fails}
+use Rattle.letters.specs.declared.seen.Seen.{Seen}
+use Rattle.letters.specs.Seen.{seenAt, Sees}
+use Rattle.letters.specs.Ends.{someEnd}
+use Rattle.letters.specs.Numbered.{numbered, firstOf}
+use Rattle.marks.specs.Reach.{reach, cutTo, triedTo}
+use Rattle.stages.specs.Outcome.{outcomeOf}
+use Rattle.letters.proofs.Laws.Ends.{someEnd-unfit}
+use Rattle.marks.proofs.Laws.Marks.{first-fail}
 
 -- no answer both reaches and fails
 to-fails : {A : Type 0} {d : Cursor} {r : Marked} → r ≡ To d → r ≡ Fails → A
@@ -208,12 +210,6 @@ tried-then w c (took k f) q opens is =
 
 -- ---- groups ----
 
--- what fails last in a group adds nothing to it
-first-fail : (o : Out) → first o fail ≡ o
-unfolding first
-first-fail fail = refl
-first-fail (took k f) = refl
-
 -- a group may be taken in parts
 first-assoc : (o p q : Out) → first (first o p) q ≡ first o (first p q)
 unfolding first
@@ -228,15 +224,10 @@ module _ (cs : List ℕ) where
   group-four h i j k =
       ap (λ (o : Out). first (markOf (numbered h) cs) (first (markOf (numbered i) cs) (first (markOf (numbered j) cs) o))) (first-fail (markOf (numbered k) cs))
 
-  -- of two
+  -- and of two
   pub group-two : (h i : ℕ) → firstOf (h ∷ i ∷ []) cs ≡ run (mark (numbered h) or mark (numbered i)) cs
   unfolding firstOf run
   group-two h i = ap (first (markOf (numbered h) cs)) (first-fail (markOf (numbered i) cs))
-
-  -- and of one
-  pub group-one : (k : ℕ) → firstOf (k ∷ []) cs ≡ markOf (numbered k) cs
-  unfolding firstOf
-  group-one k = first-fail (markOf (numbered k) cs)
 
   -- a person's ending or nothing
   pub person-first : run person cs ≡ first (firstOf (4 ∷ 5 ∷ 1 ∷ 2 ∷ 3 ∷ []) cs) (took 0 true)

@@ -9,18 +9,18 @@ use borrow.Author.Tests.{eqb-true, eq-eqb, ne-eqb}
 use Rattle.utf8.specs.declared.cursor.Cursor.{Cursor}
 use Rattle.utf8.specs.Characters.{lastWidth, lastChar, before, back}
 use Rattle.utf8.specs.Behind.{backBy}
-use Rattle.utf8.proofs.Laws.Booleans.{and-left}
+use Rattle.encoding.proofs.Laws.Booleans.{and-left}
 use Rattle.utf8.proofs.Laws.Characters.{before-zero, before-step}
 use Rattle.utf8.proofs.Laws.Behind.{behind-before, backBy-back}
 use Rattle.turkish.specs.Letters.{text, fromEnd, starts}
 use Rattle.turkish.specs.Postlude.{hardenings, hardIn, hard}
-use Rattle.stages.specs.declared.among.Among.{Among}
-use Rattle.stages.specs.declared.among.Among.the-variants.{Key, Nothing}
+use Rattle.letters.specs.declared.among.Among.{Among}
+use Rattle.letters.specs.declared.among.Among.the-variants.{Key, Nothing}
 use Rattle.stages.specs.declared.postlude.Repair.{Repair}
-use Rattle.stages.specs.declared.seen.Seen.{Seen}
-use Rattle.stages.specs.Seen.{seenAt}
-use Rattle.stages.specs.Keys.{upToZero, row, rowsWithin, rows}
-use Rattle.stages.specs.Search.{foundFrom, found}
+use Rattle.letters.specs.declared.seen.Seen.{Seen}
+use Rattle.letters.specs.Seen.{seenAt}
+use Rattle.letters.specs.Keys.{upToZero, row, rowsWithin, rows}
+use Rattle.letters.specs.Search.{foundFrom, found}
 use Rattle.stages.specs.Repairs.{ending, unchanged, followed, hardened}
 
 -- b, c, d, ğ

@@ -10,10 +10,10 @@ use lib.Dec.{ltb, eqb, eqb·suc-suc}
 use borrow.Author.Tests.{ltb-true, eqb-true, eqb-false, ne-eqb}
 use Rattle.utf8.specs.Characters.{lastWidth, lastChar, before}
 use Rattle.utf8.specs.Steps.{same, standsAt}
-use Rattle.utf8.proofs.Laws.Booleans.{and-left, and-right, and-false}
+use Rattle.encoding.proofs.Laws.Booleans.{and-left, and-right, and-false}
 use Rattle.utf8.proofs.Laws.Steps.{standsAt-cons}
 use Rattle.utf8.proofs.Laws.Characters.{before-zero, before-step}
-use Rattle.stages.proofs.Laws.Literal.{ascii, ascii-reverseAux, lastWidth-byte, lastChar-byte, lastWidth-char}
+use Rattle.marks.proofs.Laws.Literal.{ascii, ascii-reverseAux, lastWidth-byte, lastChar-byte, lastWidth-char}
 
 -- ---- one character ----
 

@@ -9,7 +9,7 @@ use native.Mathlib.Omega.{arith}
 use lib.ListN.{length, drop, getD}
 use lib.Dec.{eqb}
 use borrow.Author.Tests.{lt-ltb, le-ltb, eq-eqb, ne-eqb}
-use Rattle.utf8.proofs.Laws.Booleans.{cond-both}
+use Rattle.encoding.proofs.Laws.Booleans.{cond-both}
 use Rattle.utf8.specs.Characters.{before}
 use Rattle.utf8.specs.Steps.{standsAt}
 use Rattle.utf8.proofs.Laws.Characters.{back-le, before-back}
@@ -18,11 +18,11 @@ use Rattle.turkish.specs.Letters.{text, fromEnd, any, has, starts}
 use Rattle.turkish.specs.Harmony.{lastVowel, vowels, vowel}
 use Rattle.turkish.specs.Postlude.{reserved, gained, hardenings, hardIn, hard}
 use Rattle.turkish.proofs.PostludeRules.{gained-elim}
-use Rattle.stages.specs.declared.seen.Seen.{Seen}
+use Rattle.letters.specs.declared.seen.Seen.{Seen}
 use Rattle.stages.specs.declared.postlude.Repair.{Repair}
-use Rattle.stages.specs.Seen.{seenAt, Sees}
+use Rattle.letters.specs.Seen.{seenAt, Sees}
 use Rattle.stages.specs.Repairs.{ending, unchanged, followed, appended, hardened, repairOf}
-use Rattle.stages.proofs.Laws.Literal.{ascii}
+use Rattle.marks.proofs.Laws.Literal.{ascii}
 use Rattle.stages.proofs.Laws.LiteralWhole.{same-standsAt}
 
 -- ---- a choice ----

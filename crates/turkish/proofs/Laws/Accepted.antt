@@ -8,9 +8,9 @@ use mathlib.Core.Logic.{_↔_}
 use lib.ListN.{length}
 use lib.Dec.{eqb, ltb}
 use borrow.Author.Tests.{ltb-false, le-ltb}
-use Rattle.utf8.specs.Text.{TextOf}
-use Rattle.utf8.specs.Validity.{isText}
-use Rattle.utf8.proofs.CheckExact.{isText-encodes}
+use Rattle.encoding.specs.Text.{TextOf}
+use Rattle.encoding.specs.Validity.{isText}
+use Rattle.encoding.proofs.CheckExact.{isText-encodes}
 use Rattle.utf8.proofs.TextCharacters.{encode-before}
 use Rattle.turkish.specs.Calls.{chars, bytes, limit, refusal, accepted}
 

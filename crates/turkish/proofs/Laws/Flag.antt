@@ -6,7 +6,7 @@ use mathlib.Core.Bool.{Bool, true, false, cond, not, _&&_, _||_, false≢true}
 use mathlib.Core.List.{List, [], _∷_}
 use lib.ListN.{length, drop}
 use lib.Dec.{eqb}
-use Rattle.utf8.proofs.Laws.Booleans.{and-left, and-right, and-false}
+use Rattle.encoding.proofs.Laws.Booleans.{and-left, and-right, and-false}
 use Rattle.turkish.specs.Letters.{starts}
 use Rattle.turkish.specs.Harmony.{vowel, harmony}
 use Rattle.turkish.specs.Grammar.{Out, fail, took, after, among, optionalY, markOf, Command, mark, _then_, _or_, nothing, unset, try, run}

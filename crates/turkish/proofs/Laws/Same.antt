@@ -7,7 +7,7 @@ use mathlib.Core.List.{List, [], _∷_}
 use lib.Dec.{eqb}
 use borrow.Author.Tests.{eqb-true, eq-eqb}
 use Rattle.utf8.specs.Steps.{same}
-use Rattle.utf8.proofs.Laws.Booleans.{and-left, and-right}
+use Rattle.encoding.proofs.Laws.Booleans.{and-left, and-right}
 use Rattle.turkish.proofs.Laws.Tests.{every}
 use Rattle.turkish.specs.Fronts.{oneOf}
 

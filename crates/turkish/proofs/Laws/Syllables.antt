@@ -8,7 +8,7 @@ use mathlib.Mathlib.Data.Bool.Basic.{eq-false-of-not-eq-true, or-eq-false-eq-eq-
 use lib.ListN.{length, drop}
 use lib.Dec.{eqb}
 use borrow.Author.Tests.{eqb-true}
-use Rattle.utf8.proofs.Laws.Booleans.{and-left, and-right, cond-test}
+use Rattle.encoding.proofs.Laws.Booleans.{and-left, and-right, cond-test}
 use Rattle.turkish.specs.Letters.{text, fromEnd, any, has, starts}
 use Rattle.turkish.specs.Harmony.{vowels, vowel, partner, lastVowel, beforeLastVowel, harmony, moreThanOneSyllable}
 use Rattle.turkish.specs.Grammar.{Out, fail, took, more, after, first, asking, among, optionalY, markOf, Command, mark, _then_, _or_, nothing, unset, try, run}

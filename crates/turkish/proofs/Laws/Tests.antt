@@ -6,7 +6,7 @@ use mathlib.Core.List.{List, [], _∷_, List·Memᴰ, List·Memᴰ·head, List·
 use lib.ListN.{getD}
 use lib.Dec.{eqb}
 use borrow.Author.Tests.{eqb-true, eqb-false, eq-eqb, ne-eqb}
-use Rattle.utf8.proofs.Laws.Booleans.{and-left, and-right}
+use Rattle.encoding.proofs.Laws.Booleans.{and-left, and-right}
 
 -- it is no matter which of two numbers is held against the other
 pub eqb-comm : (a b : ℕ) → eqb a b ≡ eqb b a

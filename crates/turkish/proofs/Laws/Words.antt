@@ -7,11 +7,11 @@ use mathlib.Core.List.{List, [], _∷_, _++_, reverse, append-nil, reverse-appen
 use native.Mathlib.Omega.{arith}
 use lib.ListN.{length, take, drop, take-append-drop, length-take}
 use borrow.Author.Tests.{leb-true}
-use Rattle.utf8.specs.Scalar.{scalars}
-use Rattle.utf8.specs.Encoding.{encode, encodeAll}
-use Rattle.utf8.specs.Text.{TextOf}
+use Rattle.encoding.specs.Scalar.{scalars}
+use Rattle.encoding.specs.Encoding.{encode, encodeAll}
+use Rattle.encoding.specs.Text.{TextOf}
 use Rattle.utf8.specs.Characters.{back}
-use Rattle.utf8.proofs.Laws.Booleans.{and-left, and-right}
+use Rattle.encoding.proofs.Laws.Booleans.{and-left, and-right}
 use Rattle.utf8.proofs.TextCharacters.{encodeAll-append, scalars-append, before-text, encode-before, take-back}
 use Rattle.turkish.specs.Calls.{chars, bytes}
 use Rattle.turkish.specs.Fronts.{endLength, long, front, end}

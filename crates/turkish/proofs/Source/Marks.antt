@@ -10,7 +10,7 @@ use native.Mathlib.Omega.{arith}
 use lib.ListN.{length, drop}
 use lib.Dec.{ltb}
 use borrow.Author.Tests.{lt-ltb, le-ltb}
-use Rattle.utf8.proofs.Laws.Booleans.{and-left, and-right}
+use Rattle.encoding.proofs.Laws.Booleans.{and-left, and-right}
 use Rattle.turkish.specs.Letters.{fromEnd, starts}
 use Rattle.turkish.specs.Harmony.{harmony}
 use Rattle.turkish.specs.Grammar.{Out, fail, took, more, after, asking, among, optionalY, markOf}

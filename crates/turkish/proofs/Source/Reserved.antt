@@ -11,10 +11,10 @@ use native.Mathlib.Omega.{arith}
 use lib.ListN.{length, drop, length-append, drop-of-length-le}
 use lib.Dec.{eqb}
 use borrow.Author.Tests.{eqb-true, eq-eqb}
-use Rattle.utf8.specs.Encoding.{encode, encodeAll}
+use Rattle.encoding.specs.Encoding.{encode, encodeAll}
 use Rattle.utf8.specs.Steps.{same}
-use Rattle.utf8.proofs.Laws.Booleans.{and-left, and-right}
-use Rattle.utf8.proofs.Laws.Decoding.{length-encode-pos}
+use Rattle.encoding.proofs.Laws.Booleans.{and-left, and-right}
+use Rattle.encoding.proofs.Laws.Decoding.{length-encode-pos}
 use Rattle.turkish.specs.Letters.{text, fromEnd, starts}
 use Rattle.turkish.specs.Grammar.{Out, more, first}
 use Rattle.turkish.specs.Postlude.{reserved}

@@ -8,7 +8,7 @@ use native.Mathlib.Omega.{arith}
 use lib.ListN.{length, drop}
 use lib.Dec.{eqb}
 use borrow.Author.Tests.{ne-eqb}
-use Rattle.utf8.proofs.Laws.Booleans.{cond-cases, cond-both}
+use Rattle.encoding.proofs.Laws.Booleans.{cond-cases, cond-both}
 use Rattle.turkish.specs.Letters.{text, any}
 use Rattle.turkish.specs.Harmony.{vowels, vowel, beforeLastVowel, moreThanOneSyllable}
 use Rattle.turkish.specs.Grammar.{Out, fail, took, more, first}

@@ -13,11 +13,11 @@ use borrow.Author.Tests.{ltb-true, ltb-false, lt-ltb, le-leb, lt-leb, leb-true, 
 use Rattle.utf8.specs.declared.cursor.Cursor.{Cursor}
 use Rattle.utf8.specs.declared.step.Step.{Step}
 use Rattle.utf8.specs.declared.literal.Literal.{Literal}
-use Rattle.utf8.specs.Encoding.{decode}
-use Rattle.utf8.specs.Characters.{continuation, width, goesOn, lastWidth, lastChar, charAt, before, back}
+use Rattle.encoding.specs.Encoding.{decode, continuation}
+use Rattle.utf8.specs.Characters.{width, goesOn, lastWidth, lastChar, charAt, before, back}
 use Rattle.utf8.specs.Steps.{stands, moveTo, stay, previousChar, same, standsAt, eqSB}
 use Rattle.utf8.specs.Behind.{behind, backBy, edged, Open}
-use Rattle.utf8.proofs.Laws.Booleans.{or-either, and-false, and-left, and-right, cond-test}
+use Rattle.encoding.proofs.Laws.Booleans.{or-either, and-false, and-left, and-right, cond-test}
 use Rattle.utf8.proofs.Laws.Widths.{width-one, goesOn-start, goesOn-byte}
 use Rattle.utf8.proofs.Laws.Characters.{lastWidth-pos, lastWidth-four, lastWidth-le, before-zero, before-step, back-zero}
 use Rattle.utf8.proofs.Laws.Steps.{stands-within, previousChar-stays, previousChar-moves}

@@ -7,7 +7,7 @@ use native.Mathlib.Numerals.{add-one}
 use native.Mathlib.Omega.{arith}
 use lib.ListN.{length, take, drop, getD}
 use lib.Seq.{drop-cons}
-use Rattle.utf8.specs.Encoding.{decode}
+use Rattle.encoding.specs.Encoding.{decode}
 use Rattle.utf8.specs.Characters.{charAt}
 
 -- the first of the bytes from place i

@@ -10,8 +10,9 @@ use lib.ListN.{drop, getD}
 use lib.Seq.{drop-nil}
 use lib.Dec.{ltb}
 use borrow.Author.Tests.{ltb-true}
-use Rattle.utf8.specs.Characters.{continuation, width, goesOn, lastWidth, firstWidth, lastChar, beforeWithin, before, back}
-use Rattle.utf8.proofs.Laws.Booleans.{and-left}
+use Rattle.encoding.specs.Encoding.{continuation}
+use Rattle.utf8.specs.Characters.{width, goesOn, lastWidth, firstWidth, lastChar, beforeWithin, before, back}
+use Rattle.encoding.proofs.Laws.Booleans.{and-left}
 
 -- ---- width ----
 

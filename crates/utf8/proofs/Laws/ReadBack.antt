@@ -7,10 +7,10 @@ use native.Mathlib.Omega.{arith}
 use lib.ListN.{length, getD}
 use lib.Dec.{ltb}
 use borrow.Author.Tests.{lt-leb, lt-ltb}
-use Rattle.utf8.specs.Encoding.{decode}
-use Rattle.utf8.specs.Characters.{continuation, width, goesOn, lastWidth, lastChar, charAt, before, back}
+use Rattle.encoding.specs.Encoding.{decode, continuation}
+use Rattle.utf8.specs.Characters.{width, goesOn, lastWidth, lastChar, charAt, before, back}
 use Rattle.utf8.specs.Behind.{readBack}
-use Rattle.utf8.proofs.Laws.Booleans.{and-false}
+use Rattle.encoding.proofs.Laws.Booleans.{and-false}
 use Rattle.utf8.proofs.Laws.Widths.{width-one}
 use Rattle.utf8.proofs.Laws.CharAt.{charAt-one, charAt-two}
 use Rattle.utf8.proofs.Laws.Characters.{before-zero, before-step, back-zero}

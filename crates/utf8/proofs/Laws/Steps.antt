@@ -16,7 +16,7 @@ use Rattle.utf8.specs.declared.literal.Literal.{Literal}
 use Rattle.utf8.specs.Characters.{lastWidth, lastChar, firstWidth, firstChar, charAt}
 use Rattle.utf8.specs.Steps.{stands, moveTo, stay, previousChar, nextChar, same, standsAt, passed, notPassed, eqSB, eqS}
 use Rattle.utf8.proofs.Laws.CharAt.{take-drop-cons}
-use Rattle.utf8.proofs.Laws.Booleans.{and-left, and-right, and-false, cond-test}
+use Rattle.encoding.proofs.Laws.Booleans.{and-left, and-right, and-false, cond-test}
 
 -- ---- stands ----
 

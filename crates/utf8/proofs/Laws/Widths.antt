@@ -5,7 +5,8 @@ use mathlib.Core.Bool.{Bool, true, false}
 use mathlib.Core.List.{List}
 use lib.ListN.{length, getD, List·getD-eq-default}
 use borrow.Author.Tests.{le-ltb, lt-ltb}
-use Rattle.utf8.specs.Characters.{continuation, width, goesOn}
+use Rattle.encoding.specs.Encoding.{continuation}
+use Rattle.utf8.specs.Characters.{width, goesOn}
 
 -- the width by the first byte that does not go on
 pub width-one : (r s t : Bool) → r ≡ false → width r s t ≡ 1

@@ -8,7 +8,7 @@ use native.Mathlib.Omega.{arith}
 use lib.ListN.{length}
 use lib.Dec.{eqb, ltb, eqb·suc-zero}
 use borrow.Author.Tests.{lt-ltb, le-ltb, ltb-false, eq-eqb, ne-eqb}
-use Rattle.utf8.specs.Validity.{isText}
+use Rattle.encoding.specs.Validity.{isText}
 use Rattle.turkish.specs.Calls.{limit, refusal, refusalInto, accepted}
 
 -- a word over the limit is refused by number 1

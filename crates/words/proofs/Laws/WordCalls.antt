@@ -15,7 +15,7 @@ use Rattle.turkish.specs.Harmony.{moreThanOneSyllable}
 use Rattle.turkish.specs.Stage.{stage}
 use Rattle.turkish.specs.Calls.{chars, refusal, accepted, syllableCall, keptLength, stagePart, stageCall}
 use Rattle.stages.specs.declared.stage.Outcome.{Outcome}
-use Rattle.stages.specs.Reach.{outcomeOf}
+use Rattle.stages.specs.Outcome.{outcomeOf}
 
 module _ (w : List ℕ) (n : ℕ) (e : n ≡ refusal w) where
   -- a number means that the word is not accepted

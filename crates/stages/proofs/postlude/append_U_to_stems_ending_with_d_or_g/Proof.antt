@@ -3,7 +3,7 @@
 use native.Mathlib.Omega.{arith}
 use borrow.Author.Needs.{needs}
 use denote.Ref.{now}
-use Rattle.stages.proofs.Laws.LastVowel.{last-ch}
+use Rattle.letters.proofs.Laws.LastVowel.{last-ch}
 use Rattle.stages.proofs.Laws.Repairs.{one-le, appended-after, appended-not}
 use Rattle.stages.proofs.postlude.append_U_to_stems_ending_with_d_or_g.Statement.{
   statement,

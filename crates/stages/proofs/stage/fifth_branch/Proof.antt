@@ -6,9 +6,10 @@ use borrow.Author.Tests.{not-true}
 use Rattle.turkish.specs.Grammar.{run, mark, try}
 use Rattle.turkish.specs.Marks.{ymUs}
 use Rattle.turkish.specs.Stage.{branch5}
-use Rattle.stages.specs.Numbered.{numbered}
-use Rattle.stages.specs.Reach.{reach, triedTo}
-use Rattle.stages.proofs.Laws.Branches.{someEnd-sees, open-cut, after-none, after-fails, try-cut, group-four, group-one}
+use Rattle.letters.specs.Numbered.{numbered}
+use Rattle.marks.specs.Reach.{reach, triedTo}
+use Rattle.marks.proofs.Laws.Marks.{group-one}
+use Rattle.stages.proofs.Laws.Branches.{someEnd-sees, open-cut, after-none, after-fails, try-cut, group-four}
 use Rattle.stages.proofs.stage.fifth_branch.Statement.{statement}
 use Rattle.stages.proofs.stage.fifth_branch.Tie as tie
 

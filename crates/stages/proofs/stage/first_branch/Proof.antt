@@ -4,8 +4,8 @@ use mathlib.Core.List.{[], _∷_}
 use borrow.Author.Tests.{not-true}
 use borrow.Author.Needs.{needs}
 use Rattle.turkish.specs.Stage.{branch1}
-use Rattle.stages.specs.Numbered.{numbered}
-use Rattle.stages.specs.Reach.{reach}
+use Rattle.letters.specs.Numbered.{numbered}
+use Rattle.marks.specs.Reach.{reach}
 use Rattle.stages.proofs.Laws.Branches.{someEnd-sees, group-four, cut-none, cut-fails, cut-reach}
 use Rattle.stages.proofs.stage.first_branch.Statement.{statement}
 use Rattle.stages.proofs.stage.first_branch.Tie as tie

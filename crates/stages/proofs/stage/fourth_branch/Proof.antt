@@ -4,9 +4,9 @@ use borrow.Author.Needs.{needs}
 use Rattle.turkish.specs.Grammar.{run, mark, _or_}
 use Rattle.turkish.specs.Marks.{yDU, ysA}
 use Rattle.turkish.specs.Stage.{branch4}
-use Rattle.stages.specs.Numbered.{numbered}
-use Rattle.stages.specs.Reach.{reach}
-use Rattle.stages.proofs.Laws.Told.{hears-unasked}
+use Rattle.letters.specs.Numbered.{numbered}
+use Rattle.marks.specs.Reach.{reach}
+use Rattle.letters.proofs.Laws.Told.{hears-unasked}
 use Rattle.stages.proofs.Laws.Branches.{open-reach, reach-seen, sees-made, after-fails, then-fails, then-cut, group-two}
 use Rattle.stages.proofs.stage.fourth_branch.Statement.{statement}
 use Rattle.stages.proofs.stage.fourth_branch.Tie as tie

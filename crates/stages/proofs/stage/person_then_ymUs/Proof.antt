@@ -5,9 +5,9 @@ use lib.ListN.{drop}
 use Rattle.utf8.specs.Behind.{behind}
 use Rattle.turkish.specs.Grammar.{Out, after, markOf, run}
 use Rattle.turkish.specs.Marks.{ymUs}
-use Rattle.stages.specs.Numbered.{numbered}
-use Rattle.stages.specs.Reach.{reach}
-use Rattle.stages.proofs.Laws.Told.{hears-unasked}
+use Rattle.letters.specs.Numbered.{numbered}
+use Rattle.marks.specs.Reach.{reach}
+use Rattle.letters.proofs.Laws.Told.{hears-unasked}
 use Rattle.stages.proofs.Laws.Branches.{open-tried, sees-made, reach-seen, tried-then, person-first}
 use borrow.Author.Needs.{needs}
 use Rattle.stages.proofs.stage.person_then_ymUs.Statement.{statement}

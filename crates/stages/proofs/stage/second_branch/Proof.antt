@@ -3,7 +3,7 @@ use borrow.Author.Needs.{needs}
 use Rattle.turkish.specs.Grammar.{run, mark, _then_}
 use Rattle.turkish.specs.Marks.{ymUs}
 use Rattle.turkish.specs.Stage.{person, branch2}
-use Rattle.stages.specs.Numbered.{numbered}
+use Rattle.letters.specs.Numbered.{numbered}
 use Rattle.stages.proofs.Laws.Branches.{open-reach, after-fails, then-fails, then-cut}
 use Rattle.stages.proofs.stage.second_branch.Statement.{statement}
 use Rattle.stages.proofs.stage.second_branch.Tie as tie

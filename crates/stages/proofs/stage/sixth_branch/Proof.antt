@@ -3,7 +3,7 @@ use borrow.Author.Needs.{needs}
 use Rattle.turkish.specs.Grammar.{run, mark, _then_, try}
 use Rattle.turkish.specs.Marks.{ymUs}
 use Rattle.turkish.specs.Stage.{person, branch6}
-use Rattle.stages.specs.Numbered.{numbered}
+use Rattle.letters.specs.Numbered.{numbered}
 use Rattle.stages.proofs.Laws.Branches.{open-cut, after-fails, try-reach, try-fails}
 use Rattle.stages.proofs.stage.sixth_branch.Statement.{statement}
 use Rattle.stages.proofs.stage.sixth_branch.Tie as tie

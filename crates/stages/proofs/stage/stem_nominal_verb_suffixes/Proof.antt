@@ -9,8 +9,8 @@ use Rattle.turkish.specs.Grammar.{Command, _or_, run}
 use Rattle.turkish.specs.Stage.{branch1, branch2, branch3, branch4, branch5, branch6, branches}
 use Rattle.turkish.specs.Calls.{chars}
 use Rattle.turkish.proofs.Laws.Flag.{branch1-keeps, branch2-keeps, branch3-lowers, branch4-keeps, branch5-keeps, branch6-keeps}
-use Rattle.stages.proofs.Laws.Told.{hears-toldAtEnd}
-use Rattle.stages.proofs.Laws.Ends.{branches-unfit}
+use Rattle.letters.proofs.Laws.Told.{hears-toldAtEnd}
+use Rattle.letters.proofs.Laws.Ends.{branches-unfit}
 use Rattle.stages.proofs.Laws.Branches.{whole, open-whole, sees-made, someEnd-whole, branch-fails, outcome-fail, outcome-fails, outcome-last, outcome-cut}
 use Rattle.stages.proofs.stage.stem_nominal_verb_suffixes.Statement.{statement}
 use Rattle.stages.proofs.stage.stem_nominal_verb_suffixes.Tie as tie

@@ -4,8 +4,8 @@ use borrow.Author.Needs.{needs}
 use Rattle.turkish.specs.Grammar.{run, mark, _or_, try}
 use Rattle.turkish.specs.Marks.{DUr, yDU, ysA, ymUs}
 use Rattle.turkish.specs.Stage.{branch3}
-use Rattle.stages.specs.Numbered.{numbered}
-use Rattle.stages.specs.Reach.{triedTo}
+use Rattle.letters.specs.Numbered.{numbered}
+use Rattle.marks.specs.Reach.{triedTo}
 use Rattle.stages.proofs.Laws.Branches.{open-cut, after-fails, try-cut, cut-unset, group-four}
 use Rattle.stages.proofs.stage.third_branch.Statement.{statement}
 use Rattle.stages.proofs.stage.third_branch.Tie as tie

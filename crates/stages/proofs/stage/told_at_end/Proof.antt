@@ -3,8 +3,8 @@ use mathlib.Core.Path.{sym, _∙_}
 use denote.Ref.{now}
 use borrow.Author.Needs.{needs}
 use borrow.Author.Tests.{not-true, not-false}
-use Rattle.stages.specs.Told.{unasked, toldAtEnd}
-use Rattle.stages.proofs.Laws.Told.{hears-unasked}
+use Rattle.letters.specs.Told.{unasked, toldAtEnd}
+use Rattle.letters.proofs.Laws.Told.{hears-unasked}
 use Rattle.stages.proofs.stage.told_at_end.Statement.{statement}
 use Rattle.stages.proofs.stage.told_at_end.Tie as tie
 

@@ -1,7 +1,7 @@
 -- `stages::stage::try_of` meets its contract: the group is tried from what is seen before the record. Assumes nothing.
 use denote.Ref.{now}
-use Rattle.stages.specs.Numbered.{firstOf}
-use Rattle.stages.proofs.Laws.Told.{hears-unasked}
+use Rattle.letters.specs.Numbered.{firstOf}
+use Rattle.letters.proofs.Laws.Told.{hears-unasked}
 use Rattle.stages.proofs.Laws.Branches.{sees-made, reach-seen, tried-fails, tried-to}
 use borrow.Author.Needs.{needs}
 use Rattle.stages.proofs.stage.try_of.Statement.{statement}

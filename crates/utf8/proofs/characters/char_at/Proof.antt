@@ -1,7 +1,7 @@
 -- `utf8::characters::char_at` meets its contract: the width says how many bytes are read, and the law at that width what they
 -- decode to. Assumes nothing.
 use Rattle.utf8.proofs.Laws.CharAt.{charAt-one, charAt-two, charAt-three, charAt-four}
-use Rattle.utf8.specs.Encoding.{decode}
+use Rattle.encoding.specs.Encoding.{decode}
 use denote.Ref.{now}
 use mathlib.Core.Path.{sym, _∙_}
 use native.Mathlib.Omega.{arith}

@@ -1,5 +1,5 @@
 -- `utf8::characters::decode_three` meets its contract: `decode` at three bytes, as sums that fit. Assumes nothing.
-use Rattle.utf8.specs.Encoding.{decode}
+use Rattle.encoding.specs.Encoding.{decode}
 use native.Mathlib.Omega.{arith}
 use borrow.Author.Needs.{needs}
 use Rattle.utf8.proofs.characters.decode_three.Statement.{statement}

@@ -3,7 +3,7 @@
 use mathlib.Core.Bool.{not}
 use Rattle.utf8.proofs.Laws.Characters.{lastWidth-le, lastWidth-pos, lastWidth-four}
 use Rattle.utf8.proofs.Laws.ReadBack.{readBack-zero, readBack-made, readBack-ascii, readBack-two}
-use Rattle.utf8.proofs.Laws.Booleans.{and-left, and-right, not-eq-false}
+use Rattle.encoding.proofs.Laws.Booleans.{and-left, and-right, not-eq-false}
 use native.Mathlib.Omega.{arith}
 use denote.Ref.{now}
 use mathlib.Core.Path.{refl, sym, _∙_}

@@ -1,0 +1,2 @@
+// The call that folds a word's capital letters to a lent output, with its refusals. It asks nothing of its caller.
+pub mod fold;

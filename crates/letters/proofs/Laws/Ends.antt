@@ -1,0 +1,201 @@
+-- The last letters of the marks' keys: text that does not end as a mark's keys may has none of them at its end, so the mark fails there,
+-- so does a group whose marks all fail, and so does the stage. Which marks test harmony, and what a mark is without. Assumes nothing.
+use Prim.Native.Nat.{ℕ, zero, suc}
+use mathlib.Core.Path.{_≡_, refl, sym, ap, _∙_}
+use mathlib.Core.Logic.{_⊎_, inl, inr, ⊎-elim}
+use mathlib.Core.Bool.{Bool, true, false, cond, not, _||_, false≢true, or-assoc}
+use mathlib.Core.List.{List, [], _∷_, _++_}
+use mathlib.Mathlib.Data.Bool.Basic.{or-eq-false-eq-eq-false-and-eq-false as or-no}
+use lib.ListN.{getD}
+use lib.Dec.{eqb}
+use borrow.Author.Tests.{eqb-true}
+use Rattle.encoding.proofs.Laws.Booleans.{and-left, and-right, or-either, cond-cases, cond-test, cond-both}
+use Rattle.turkish.specs.Letters.{text, fromEnd, any, has, starts}
+use Rattle.turkish.specs.Harmony.{harmony}
+use Rattle.turkish.specs.Grammar.{Out, fail, after, first, asking, among, Mark, markOf, run}
+use Rattle.turkish.specs.Marks.{marked, yUm, sUn, yUz, sUnUz, lAr, nUz, DUr, cAsInA, yDU, ysA, ymUs, yken}
+use Rattle.turkish.specs.Stage.{branch1, branch2, branch3, branch4, branch5, branch6, branches}
+use Rattle.turkish.proofs.Laws.Tests.{every}
+use Rattle.letters.specs.Ends.{isU, isA, isD, isKMN, mayEnd, someEnd}
+use Rattle.letters.specs.Numbered.{numbered, never, unharmonic, firstOf}
+
+-- ---- keys ----
+
+-- a key that the text begins with has the text's characters, as far as it goes
+starts-getD : (key cs : List ℕ) (i : ℕ) → starts key cs ≡ true → getD key i (getD cs i 0) ≡ getD cs i 0
+unfolding starts
+starts-getD [] cs i e = refl
+starts-getD (k ∷ ks) [] i e = absurd (false≢true e)
+starts-getD (k ∷ ks) (c ∷ cs) zero e = eqb-true k c (and-left (eqb k c) (starts ks cs) e)
+starts-getD (k ∷ ks) (c ∷ cs) (suc i) e = starts-getD ks cs i (and-right (eqb k c) (starts ks cs) e)
+
+-- a test of three characters, asked of a key's last three; x, y, z stand where the key is shorter
+passing : (ℕ → ℕ → ℕ → Bool) → ℕ → ℕ → ℕ → List ℕ → Bool
+passing p x y z key = p (getD key 0 x) (getD key 1 y) (getD key 2 z)
+
+-- where the text's last three characters fail a test that every key passes, no key ends the text
+among-unfit : (p : ℕ → ℕ → ℕ → Bool) (ks : List (List ℕ)) (cs : List ℕ)
+    → every (passing p (getD cs 0 0) (getD cs 1 0) (getD cs 2 0)) ks ≡ true → p (getD cs 0 0) (getD cs 1 0) (getD cs 2 0) ≡ false
+    → among ks cs ≡ fail
+unfolding among every passing
+among-unfit p [] cs e f = refl
+among-unfit p (key ∷ ks) cs e f =
+    let q : List ℕ → Bool = passing p (getD cs 0 0) (getD cs 1 0) (getD cs 2 0) in
+    cond-cases (λ (o : Out). o ≡ fail) (starts key cs)
+    (λ s. absurd (false≢true (sym f ∙ sym (same s) ∙ and-left (q key) (every q ks) e)))
+    (λ s. among-unfit p ks cs (and-right (q key) (every q ks) e) f)
+  where
+    same : starts key cs ≡ true → passing p (getD cs 0 0) (getD cs 1 0) (getD cs 2 0) key ≡ p (getD cs 0 0) (getD cs 1 0) (getD cs 2 0)
+    same s = rw (starts-getD key cs 0 s, starts-getD key cs 1 s, starts-getD key cs 2 s)
+
+-- ---- marks by number ----
+
+-- a test that every key of a mark passes, whatever stands before a key that is shorter
+record Tests (p : ℕ → ℕ → ℕ → Bool) (m : Mark) : Type 0 where
+  pub each : (x y z : ℕ) → every (passing p x y z) (m .keys) ≡ true
+
+-- of two marks, each with its test, the mark that is chosen has the test that is chosen
+cond-tests : (t : Bool) {p q : ℕ → ℕ → ℕ → Bool} {m n : Mark} → Tests p m → Tests q n
+    → Tests (λ x y z. cond t (p x y z) (q x y z)) (cond t m n)
+cond-tests true f g = f
+cond-tests false f g = g
+
+-- the keys of each mark pass its test
+numbered-tests : (k : ℕ) → Tests (mayEnd k) (numbered k)
+unfolding mayEnd isU isA isD isKMN numbered never marked yUm sUn yUz sUnUz lAr nUz DUr cAsInA yDU ysA ymUs yken fromEnd text every passing
+numbered-tests k =
+    cond-tests (eqb k 1) (record { each = λ x y z. refl })
+    (cond-tests (eqb k 2) (record { each = λ x y z. refl })
+    (cond-tests (eqb k 3) (record { each = λ x y z. refl })
+    (cond-tests (eqb k 4) (record { each = λ x y z. refl })
+    (cond-tests (eqb k 5) (record { each = λ x y z. refl })
+    (cond-tests (eqb k 6) (record { each = λ x y z. refl })
+    (cond-tests (eqb k 7) (record { each = λ x y z. refl })
+    (cond-tests (eqb k 8) (record { each = λ x y z. refl })
+    (cond-tests (eqb k 9) (record { each = λ x y z. refl })
+    (cond-tests (eqb k 10) (record { each = λ x y z. refl })
+    (cond-tests (eqb k 11) (record { each = λ x y z. refl })
+    (cond-tests (eqb k 12) (record { each = λ x y z. refl }) (record { each = λ x y z. refl }))))))))))))
+
+-- where the text's last three characters may not end a key of a mark, none of its keys ends the text
+pub mayEnd-unfit : (k : ℕ) (cs : List ℕ) → mayEnd k (getD cs 0 0) (getD cs 1 0) (getD cs 2 0) ≡ false → among (numbered k .keys) cs ≡ fail
+mayEnd-unfit k cs = among-unfit (mayEnd k) (numbered k .keys) cs (numbered-tests k .each (getD cs 0 0) (getD cs 1 0) (getD cs 2 0))
+
+-- a test before a command that fails anyway
+pub asking-fail : (t : Bool) → asking t fail ≡ fail
+unfolding asking
+asking-fail true = refl
+asking-fail false = refl
+
+-- and so the mark fails there
+pub markOf-unfit : (k : ℕ) (cs : List ℕ) → mayEnd k (getD cs 0 0) (getD cs 1 0) (getD cs 2 0) ≡ false → markOf (numbered k) cs ≡ fail
+unfolding markOf after
+markOf-unfit k cs e = rw (mayEnd-unfit k cs e) (asking-fail (not (numbered k .harmonic) || harmony cs))
+
+-- a mark is its harmony test before the mark without one
+pub markOf-unharmonic : (m : Mark) (cs : List ℕ) → markOf m cs ≡ asking (not (m .harmonic) || harmony cs) (markOf (unharmonic m) cs)
+unfolding markOf unharmonic asking
+markOf-unharmonic m cs = refl
+
+-- ---- groups of marks ----
+
+-- where the last three characters may not end a key of a group's marks, no mark of the group fits
+pub someEnd-unfit : (ks cs : List ℕ) → someEnd ks (getD cs 0 0) (getD cs 1 0) (getD cs 2 0) ≡ false → firstOf ks cs ≡ fail
+unfolding someEnd any firstOf first
+someEnd-unfit [] cs e = refl
+someEnd-unfit (k ∷ ks) cs e =
+    let a : ℕ = getD cs 0 0 in
+    let b : ℕ = getD cs 1 0 in
+    let c : ℕ = getD cs 2 0 in
+    let n = or-no (mayEnd k a b c) (someEnd ks a b c) .0 e in
+    rw (markOf-unfit k cs (n .0)) (someEnd-unfit ks cs (n .1))
+
+module _ (a b c : ℕ) where
+  -- they may then end a key of none of its marks
+  pub someEnd-each : (ks : List ℕ) (k : ℕ) → has ks k ≡ true → someEnd ks a b c ≡ false → mayEnd k a b c ≡ false
+  unfolding someEnd has any
+  someEnd-each [] k h e = absurd (false≢true h)
+  someEnd-each (j ∷ ks) k h e =
+      let n = or-no (mayEnd j a b c) (someEnd ks a b c) .0 e in
+      ⊎-elim (λ p. ap (λ (i : ℕ). mayEnd i a b c) (eqb-true k j p) ∙ n .0) (λ m. someEnd-each ks k m (n .1)) (or-either (eqb k j) (has ks k) h)
+
+  -- nor one of a group of some of its marks
+  pub someEnd-some : (ks js : List ℕ) → every (has ks) js ≡ true → someEnd ks a b c ≡ false → someEnd js a b c ≡ false
+  unfolding someEnd any every
+  someEnd-some ks [] h e = refl
+  someEnd-some ks (j ∷ js) h e =
+      rw (someEnd-each ks j (and-left (has ks j) (every (has ks) js) h) e)
+      (someEnd-some ks js (and-right (has ks j) (every (has ks) js) h) e)
+
+  -- two groups one after the other
+  someEnd-append : (ks js : List ℕ) → someEnd (ks ++ js) a b c ≡ someEnd ks a b c || someEnd js a b c
+  unfolding someEnd any
+  someEnd-append [] js = refl
+  someEnd-append (k ∷ ks) js = rw (someEnd-append ks js) (sym (or-assoc (mayEnd k a b c) (someEnd ks a b c) (someEnd js a b c)))
+
+  -- four marks and two groups
+  pub someEnd-groups : (h i j k : ℕ) (ks js : List ℕ)
+      → (mayEnd h a b c || (mayEnd i a b c || (mayEnd j a b c || mayEnd k a b c))) || (someEnd ks a b c || someEnd js a b c)
+      ≡ someEnd (h ∷ i ∷ j ∷ k ∷ (ks ++ js)) a b c
+  unfolding someEnd any
+  someEnd-groups h i j k ks js = rw (someEnd-append ks js) (simp or-assoc)
+
+-- where they may end no key of a mark with which a branch begins, no branch of the stage fits
+pub branches-unfit : (cs : List ℕ)
+    → someEnd (8 ∷ 5 ∷ 6 ∷ 7 ∷ 11 ∷ 9 ∷ 10 ∷ 12 ∷ 4 ∷ 3 ∷ 2 ∷ 1 ∷ []) (getD cs 0 0) (getD cs 1 0) (getD cs 2 0) ≡ false
+    → run branches cs ≡ fail
+unfolding run branches branch1 branch2 branch3 branch4 branch5 branch6 first after numbered has any
+branches-unfit cs e =
+    let fails : (k : ℕ) → has (8 ∷ 5 ∷ 6 ∷ 7 ∷ 11 ∷ 9 ∷ 10 ∷ 12 ∷ 4 ∷ 3 ∷ 2 ∷ 1 ∷ []) k ≡ true → markOf (numbered k) cs ≡ fail =
+    λ k h. markOf-unfit k cs (someEnd-each (getD cs 0 0) (getD cs 1 0) (getD cs 2 0) _ k h e) in
+    rw (fails 11 refl, fails 9 refl, fails 10 refl, fails 12 refl, fails 8 refl, fails 5 refl, fails 6 refl)
+    (rw (fails 4 refl, fails 3 refl, fails 2 refl, fails 1 refl, fails 7 refl))
+
+-- ---- harmony ----
+
+-- the marks that test harmony are all but four
+pub numbered-harmonic : (k : ℕ) → ((k ≡ 4) ⊎ (k ≡ 8) ⊎ (k ≡ 10) ⊎ (k ≡ 12) → ⊥) → numbered k .harmonic ≡ true
+unfolding numbered never marked yUm sUn yUz sUnUz lAr nUz DUr cAsInA yDU ysA ymUs yken
+numbered-harmonic k n =
+    let H : Mark → Type 0 = λ m. m .harmonic ≡ true in
+    cond-both H (eqb k 1) _ _ refl
+    (cond-both H (eqb k 2) _ _ refl
+    (cond-both H (eqb k 3) _ _ refl
+    (cond-test H (eqb k 4) (λ e. absurd (n (inl (eqb-true k 4 e))))
+    (cond-both H (eqb k 5) _ _ refl
+    (cond-both H (eqb k 6) _ _ refl
+    (cond-both H (eqb k 7) _ _ refl
+    (cond-test H (eqb k 8) (λ e. absurd (n (inr (inl (eqb-true k 8 e)))))
+    (cond-both H (eqb k 9) _ _ refl
+    (cond-test H (eqb k 10) (λ e. absurd (n (inr (inr (inl (eqb-true k 10 e))))))
+    (cond-both H (eqb k 11) _ _ refl
+    (cond-test H (eqb k 12) (λ e. absurd (n (inr (inr (inr (eqb-true k 12 e)))))) refl)))))))))))
+
+-- these four do not
+pub numbered-unharmonic : (k : ℕ) → (k ≡ 4) ⊎ (k ≡ 8) ⊎ (k ≡ 10) ⊎ (k ≡ 12) → numbered k .harmonic ≡ false
+unfolding numbered marked sUnUz cAsInA ysA yken
+numbered-unharmonic k (inl e) = ap (λ (i : ℕ). numbered i .harmonic) e
+numbered-unharmonic k (inr (inl e)) = ap (λ (i : ℕ). numbered i .harmonic) e
+numbered-unharmonic k (inr (inr (inl e))) = ap (λ (i : ℕ). numbered i .harmonic) e
+numbered-unharmonic k (inr (inr (inr e))) = ap (λ (i : ℕ). numbered i .harmonic) e
+
+-- ---- the optional y ----
+
+-- the marks that an optional y joins
+pub numbered-joins : (k : ℕ) → (eqb k 1 || eqb k 3) || ((eqb k 9 || eqb k 10) || (eqb k 11 || eqb k 12)) ≡ numbered k .joins
+unfolding numbered never marked yUm sUn yUz sUnUz lAr nUz DUr cAsInA yDU ysA ymUs yken
+numbered-joins k =
+    let H : Mark → Type 0 = λ m. (eqb k 1 || eqb k 3) || ((eqb k 9 || eqb k 10) || (eqb k 11 || eqb k 12)) ≡ m .joins in
+    cond-cases H (eqb k 1) (λ e. rw (eqb-true k 1 e)) (λ e1.
+    (cond-cases H (eqb k 2) (λ e. rw (eqb-true k 2 e)) λ e2.
+    (cond-cases H (eqb k 3) (λ e. rw (eqb-true k 3 e)) λ e3.
+    (cond-cases H (eqb k 4) (λ e. rw (eqb-true k 4 e)) λ e4.
+    (cond-cases H (eqb k 5) (λ e. rw (eqb-true k 5 e)) λ e5.
+    (cond-cases H (eqb k 6) (λ e. rw (eqb-true k 6 e)) λ e6.
+    (cond-cases H (eqb k 7) (λ e. rw (eqb-true k 7 e)) λ e7.
+    (cond-cases H (eqb k 8) (λ e. rw (eqb-true k 8 e)) λ e8.
+    (cond-cases H (eqb k 9) (λ e. rw (eqb-true k 9 e)) λ e9.
+    (cond-cases H (eqb k 10) (λ e. rw (eqb-true k 10 e)) λ e10.
+    (cond-cases H (eqb k 11) (λ e. rw (eqb-true k 11 e)) λ e11.
+    (cond-cases H (eqb k 12) (λ e. rw (eqb-true k 12 e)) λ e12.
+    rw (e1, e3, e9, e10, e11, e12)))))))))))))

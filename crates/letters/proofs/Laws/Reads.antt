@@ -1,0 +1,101 @@
+-- Three characters read back from a record, one after the other, in the part from limit_backward on. Assumes nothing.
+use Prim.Native.Nat.{ℕ, _+_, _-_, _≤_}
+use mathlib.Core.Path.{_≡_, ap, _∙_}
+use mathlib.Core.List.{List}
+use native.Mathlib.Omega.{arith}
+use lib.ListN.{drop, getD}
+use lib.Seq.{getD-drop}
+use Rattle.utf8.specs.declared.cursor.Cursor.{Cursor}
+use Rattle.utf8.specs.declared.characters.Read.{Read}
+use Rattle.utf8.specs.Characters.{back, before}
+use Rattle.utf8.specs.Steps.{moveTo}
+use Rattle.utf8.specs.Behind.{readBack, behind, backBy}
+use Rattle.utf8.proofs.Laws.Characters.{back-le, back-add, before-back}
+use Rattle.letters.specs.declared.seen.Seen.{Seen}
+use Rattle.letters.specs.Seen.{seenAt}
+use Rattle.letters.proofs.Laws.Part.{partFrom, partFrom-drop}
+
+module _ (w : List ℕ) (c : Cursor) where
+  -- where the part begins before which nothing is looked at
+  abbrev pub low : ℕ
+  low = c .«limit_backward»
+
+  -- and the cursor in it
+  abbrev pub at : ℕ
+  at = c .cursor - low
+
+  module _ {a : Read} (a-is : a ≡ readBack (partFrom w low) at) where
+    -- the first character read, and where it begins
+    pub first-ch : a .ch ≡ getD (behind w c) 0 0
+    unfolding readBack behind
+    first-ch = ap (λ (x : Read). x .ch) a-is ∙ ap (λ (p : List ℕ). getD (before p at) 0 0) (partFrom-drop w low)
+
+    -- its place in the part
+    first-at : a .at ≡ back (drop low w) at 1
+    unfolding readBack
+    first-at = ap (λ (x : Read). x .at) a-is ∙ ap (λ (p : List ℕ). back p at 1) (partFrom-drop w low)
+
+    -- in the word
+    pub first-place : low + a .at ≡ backBy w c 1 .cursor
+    unfolding backBy moveTo
+    first-place = ap (λ (n : ℕ). low + n) first-at
+
+    -- not past the cursor
+    pub first-le : a .at ≤ at
+    first-le = omega (arith, first-at, back-le (drop low w) at 1)
+
+    module _ {b : Read} (b-is : b ≡ readBack (partFrom w low) (a .at)) where
+      -- the second
+      pub second-ch : b .ch ≡ getD (behind w c) 1 0
+      unfolding readBack behind
+      second-ch =
+          ap (λ (x : Read). x .ch) b-is ∙ ap (λ (p : List ℕ). getD (before p (a .at)) 0 0) (partFrom-drop w low)
+          ∙ ap (λ (n : ℕ). getD (before (drop low w) n) 0 0) first-at
+          ∙ ap (λ (cs : List ℕ). getD cs 0 0) (before-back (drop low w) at 1) ∙ getD-drop 1 (before (drop low w) at) 0 0
+
+      -- its place in the part
+      second-at : b .at ≡ back (drop low w) at 2
+      unfolding readBack
+      second-at =
+          ap (λ (x : Read). x .at) b-is ∙ ap (λ (p : List ℕ). back p (a .at) 1) (partFrom-drop w low)
+          ∙ ap (λ (n : ℕ). back (drop low w) n 1) first-at ∙ back-add (drop low w) at 1 1
+
+      -- in the word
+      pub second-place : low + b .at ≡ backBy w c 2 .cursor
+      unfolding backBy moveTo
+      second-place = ap (λ (n : ℕ). low + n) second-at
+
+      -- not past the cursor
+      pub second-le : b .at ≤ at
+      second-le = omega (arith, second-at, back-le (drop low w) at 2)
+
+      module _ {d : Read} (d-is : d ≡ readBack (partFrom w low) (b .at)) where
+        -- the third
+        third-ch : d .ch ≡ getD (behind w c) 2 0
+        unfolding readBack behind
+        third-ch =
+            ap (λ (x : Read). x .ch) d-is ∙ ap (λ (p : List ℕ). getD (before p (b .at)) 0 0) (partFrom-drop w low)
+            ∙ ap (λ (n : ℕ). getD (before (drop low w) n) 0 0) second-at
+            ∙ ap (λ (cs : List ℕ). getD cs 0 0) (before-back (drop low w) at 2) ∙ getD-drop 2 (before (drop low w) at) 0 0
+
+        -- its place in the part
+        third-at : d .at ≡ back (drop low w) at 3
+        unfolding readBack
+        third-at =
+            ap (λ (x : Read). x .at) d-is ∙ ap (λ (p : List ℕ). back p (b .at) 1) (partFrom-drop w low)
+            ∙ ap (λ (n : ℕ). back (drop low w) n 1) second-at ∙ back-add (drop low w) at 2 1
+
+        -- not past the cursor
+        pub third-le : d .at ≤ at
+        third-le = omega (arith, third-at, back-le (drop low w) at 3)
+
+        -- in the word
+        third-place : low + d .at ≡ backBy w c 3 .cursor
+        unfolding backBy moveTo
+        third-place = ap (λ (n : ℕ). low + n) third-at
+
+        -- all that is seen
+        pub seenAt-made : _≡_ {A = Seen} (record { c = c; one = low + a .at; last = a .ch; two = low + b .at; second = b .ch; three = low + d .at; third = d .ch })
+            (seenAt w c)
+        unfolding seenAt
+        seenAt-made = rw (first-ch, second-ch, third-ch, first-place, second-place, third-place)

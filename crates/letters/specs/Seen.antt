@@ -1,0 +1,26 @@
+-- A record with the characters before it, as the code holds it. Assumes nothing.
+use Prim.Native.Nat.{ℕ}
+use mathlib.Core.Path.{_≡_}
+use mathlib.Core.List.{List}
+use lib.ListN.{getD}
+use Rattle.utf8.specs.declared.cursor.Cursor.{Cursor}
+use Rattle.utf8.specs.Behind.{behind, backBy, Open}
+use Rattle.letters.specs.declared.seen.Seen.{Seen}
+
+-- the three characters behind the record, 0 where there are fewer, and the places before them
+unfoldable pub seenAt : List ℕ → Cursor → Seen
+seenAt w c =
+    record {
+      c = c;
+      one = backBy w c 1 .cursor;
+      last = getD (behind w c) 0 0;
+      two = backBy w c 2 .cursor;
+      second = getD (behind w c) 1 0;
+      three = backBy w c 3 .cursor;
+      third = getD (behind w c) 2 0;
+    }
+
+-- an open record with what is seen from it
+pub record Sees (w : List ℕ) (s : Seen) : Type 0 where
+  pub opens : Open w (s .c)
+  pub is : s ≡ seenAt w (s .c)

@@ -1,0 +1,37 @@
+// A cursor with the three characters before it, read once: most marks fail by these alone.
+use utf8::characters;
+use utf8::cursor::Cursor;
+ghost use mathlib.Core.Path.{_≡_};
+ghost use Rattle.utf8.specs.Behind.{Open};
+ghost use Rattle.letters.specs.Seen.{seenAt};
+
+// The record; the last character before it, the one before that and the third (0 where there is none); and the place before each.
+pub struct Seen {
+    pub c: Cursor,
+    pub one: usize,
+    pub last: u32,
+    pub two: usize,
+    pub second: u32,
+    pub three: usize,
+    pub third: u32,
+}
+
+pub fn look_back(w: &[u8], c: Cursor) -> Seen
+    requires { ⌜ Open (now w) c ⌝ }
+    ensures { λ r. ⌜ r ≡ seenAt (now (w .entry)) c ⌝ }
+{
+    let low = c.limit_backward;
+    let part = &w[low..];
+    let a = characters::read_back(part, c.cursor - low);
+    let b = characters::read_back(part, a.at);
+    let d = characters::read_back(part, b.at);
+    Seen {
+        c,
+        one: low + a.at,
+        last: a.ch,
+        two: low + b.at,
+        second: b.ch,
+        three: low + d.at,
+        third: d.ch,
+    }
+}

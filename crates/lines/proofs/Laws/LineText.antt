@@ -1,0 +1,104 @@
+-- The texts of a line as the code writes them part by part, the sizes of the parts.
+-- Assumes nothing.
+use Prim.Native.Nat.{ℕ, zero, suc, _+_, _≤_}
+use mathlib.Core.Path.{_≡_, refl, sym, ap, _∙_}
+use mathlib.Core.Bool.{Bool, true, false}
+use mathlib.Core.List.{List, [], _∷_, _++_, append-assoc, append-nil}
+use native.Mathlib.Omega.{arith}
+use lib.ListN.{length, take, length-append, length-take}
+use Rattle.turkish.specs.Harmony.{moreThanOneSyllable}
+use Rattle.turkish.specs.Calls.{chars, limit, accepted, passText}
+use Rattle.turkish.proofs.Laws.Accepted.{accepted-iff}
+use Rattle.turkish.proofs.Sizes.{passText-size}
+use Rattle.stages.specs.declared.stage.Outcome.{Outcome}
+use Rattle.stages.specs.declared.postlude.Repair.{Repair}
+use Rattle.stages.specs.Outcome.{outcomeOf}
+use Rattle.stages.specs.Repairs.{repairText, repairOf}
+use Rattle.words.proofs.Laws.WordCalls.{kept-le}
+use Rattle.texts.proofs.Laws.RepairCalls.{pass-short, pass-kept, pass-repaired}
+use Rattle.lines.specs.Line.{tab, lf, yesNo, oneZero, answers, fields, lineRefusal, refusedLine, listLine}
+use Rattle.lines.specs.Put.{lineRoom}
+use Rattle.lines.proofs.Laws.LineRefusals.{lineRefusal-accepted, listLine-fields, listLine-refused}
+
+-- ---- the text of a repair ----
+
+module _ (w : List ℕ) (r : Repair) where
+  -- where nothing follows, it is the bytes kept
+  pub repair-none : r .more ≡ 0 → take (r .keep) w ≡ repairText w r
+  unfolding repairText
+  repair-none e = rw (e, append-nil)
+
+  -- where one byte follows
+  pub repair-one : r .more ≡ 1 → take (r .keep) w ++ (r .a ∷ []) ≡ repairText w r
+  unfolding repairText
+  repair-one e = rw e
+
+  -- where two do
+  pub repair-two : r .more ≡ 2 → (take (r .keep) w ++ (r .a ∷ [])) ++ (r .b ∷ []) ≡ repairText w r
+  unfolding repairText
+  repair-two e = rw (e, append-assoc)
+
+-- ---- the text of the pass ----
+
+module _ (w : List ℕ) (ok : accepted w ≡ true) (syllable : Bool) (y : syllable ≡ moreThanOneSyllable (chars w)) where
+  -- of a word of one syllable it is the word
+  pub passText-short : syllable ≡ false → w ≡ passText w
+  passText-short n = sym (pass-short w ok (sym y ∙ n))
+
+  module _ (s : Outcome) (q : s ≡ outcomeOf w) (yes : syllable ≡ true) where
+    -- of one whose flag is false the text kept
+    pub passText-cut : s .flag ≡ false → take (s .kept) w ≡ passText w
+    unfolding outcomeOf
+    passText-cut f = rw q (sym (pass-kept w ok (sym y ∙ yes) (sym (ap (λ (x : Outcome). x .flag) q) ∙ f)))
+
+    -- of any other the repair of that
+    pub passText-repaired : s .flag ≡ true → (r : Repair) → r ≡ repairOf w (s .kept) → repairText w r ≡ passText w
+    unfolding outcomeOf
+    passText-repaired f r p = rw (p, q) (sym (pass-repaired w ok (sym y ∙ yes) (sym (ap (λ (x : Outcome). x .flag) q) ∙ f)))
+
+-- ---- the fields ----
+
+-- the answers take seven bytes
+pub length-answers : (syllable stages flag : Bool) → length (answers syllable stages flag) ≡ 7
+unfolding answers
+length-answers syllable stages flag = refl
+
+-- and byte by byte they are what the calls gave, between tabs
+pub answers-bytes : (syllable stages flag : Bool) {a b c : ℕ} → a ≡ yesNo syllable → b ≡ yesNo stages → c ≡ oneZero flag
+    → tab ∷ a ∷ tab ∷ b ∷ tab ∷ c ∷ tab ∷ [] ≡ answers syllable stages flag
+unfolding answers
+answers-bytes syllable stages flag p q r = rw (p, q, r)
+
+-- the parts one after the other are the fields
+pub fields-parts : (w : List ℕ) (syllable : Bool) (s : Outcome) → syllable ≡ moreThanOneSyllable (chars w) → s ≡ outcomeOf w
+    → ((((w ++ answers syllable (s .yes) (s .flag)) ++ take (s .kept) w) ++ (tab ∷ [])) ++ passText w) ++ (lf ∷ []) ≡ fields w
+unfolding fields outcomeOf
+fields-parts w syllable s y q = rw (y, q) (simp append-assoc)
+
+-- an accepted word, the text kept and the pass's text are short enough that the fields fit three times the limit and twelve bytes
+pub fields-sizes : (w : List ℕ) (s : Outcome) → accepted w ≡ true → s ≡ outcomeOf w
+    → (length w ≤ limit) × (s .kept ≤ length w) × (length (passText w) ≤ length w + 2)
+unfolding limit
+fields-sizes w s ok q = (accepted-iff w .0 ok .0, kept-le w s q, passText-size w ok)
+
+-- ---- the whole line ----
+
+-- the fields of an accepted word have room for a line
+fields-size : (w : List ℕ) → accepted w ≡ true → length (fields w) ≤ lineRoom
+unfolding fields lineRoom outcomeOf
+fields-size w ok =
+    let sizes = fields-sizes w (outcomeOf w) ok refl in
+    simp (length-append, length-answers, length-take) (omega arith)
+
+-- so have the four bytes of a refused line
+refusedLine-size : (n : ℕ) → length (refusedLine n) ≤ lineRoom
+unfolding refusedLine lineRoom
+refusedLine-size n = omega arith
+
+-- and any line has
+pub listLine-size : (w : List ℕ) → length (listLine w) ≤ lineRoom
+listLine-size w = go (lineRefusal w) refl
+  where
+    go : (n : ℕ) → n ≡ lineRefusal w → length (listLine w) ≤ lineRoom
+    go zero e = rw (← listLine-fields w zero e refl) (fields-size w (lineRefusal-accepted w zero e refl))
+    go (suc n) e = rw (← listLine-refused w (suc n) e (λ z. omega arith)) (refusedLine-size (suc n))

@@ -1,0 +1,105 @@
+-- `lines::line::put_fields` meets its contract: the parts written one after the other are the fields, and they fit.
+-- Assumes nothing.
+use mathlib.Core.Path.{refl}
+use native.Mathlib.Omega.{arith}
+use borrow.Author.Needs.{needs}
+use denote.Ref.{now}
+use Rattle.turkish.specs.Calls.{chars, passText}
+use Rattle.lines.specs.Line.{tab, lf}
+use Rattle.lines.specs.Put.{lineRoom}
+use Rattle.lines.proofs.Laws.Put.{wrote-nothing, wrote-text, wrote-byte, wrote-bytes, wrote-whole, wrote-all}
+use Rattle.lines.proofs.Laws.LineText.{length-answers, fields-parts, fields-sizes}
+use Rattle.lines.proofs.line.put_fields.Statement.{statement}
+use Rattle.lines.proofs.line.put_fields.Tie as tie
+
+more-than-one-syllable-word-requires : tie.Need-more-than-one-syllable-word-requires
+more-than-one-syllable-word-requires c κs = search needs
+
+stem-nominal-verb-suffixes-requires : tie.Need-stem-nominal-verb-suffixes-requires
+stem-nominal-verb-suffixes-requires c κs = search needs
+
+put-bytes-requires : tie.Need-put-bytes-requires
+unfolding lineRoom
+put-bytes-requires c κs =
+    let stem = c .before in
+    let sizes = fields-sizes _ _ (stem .before .before .before .before .pre .0) (stem .stem-nominal-verb-suffixes .ensures) in
+    (omega arith, omega arith)
+
+put-answers-requires : tie.Need-put-answers-requires
+unfolding lineRoom
+put-answers-requires c κs =
+    let stem = c .before .before .before .before .before in
+    let sizes = fields-sizes _ _ (stem .before .before .before .before .pre .0) (stem .stem-nominal-verb-suffixes .ensures) in
+    omega arith
+
+put-bytes-requires-2 : tie.Need-put-bytes-requires-2
+unfolding lineRoom
+put-bytes-requires-2 c κs =
+    let stem = c .before .before .before .before .before .before .before .before .before in
+    let sizes = fields-sizes _ _ (stem .before .before .before .before .pre .0) (stem .stem-nominal-verb-suffixes .ensures) in
+    (omega arith, omega arith)
+
+put-byte-requires : tie.Need-put-byte-requires
+unfolding lineRoom
+put-byte-requires c κs =
+    let stem = c .before .before .before .before .before .before .before .before .before .before .before .before .before in
+    let sizes = fields-sizes _ _ (stem .before .before .before .before .pre .0) (stem .stem-nominal-verb-suffixes .ensures) in
+    omega arith
+
+put-pass-requires : tie.Need-put-pass-requires
+unfolding chars lineRoom
+put-pass-requires c κs =
+    let stem = c .before .before .before .before .before .before .before .before .before .before .before .before .before .before .before .before .before in
+    let sizes = fields-sizes _ _ (stem .before .before .before .before .pre .0) (stem .stem-nominal-verb-suffixes .ensures) in
+    (stem .before .before .before .before .pre .0, (stem .before .more-than-one-syllable-word .ensures, (stem .stem-nominal-verb-suffixes .ensures, omega arith)))
+
+put-byte-requires-2 : tie.Need-put-byte-requires-2
+unfolding lineRoom
+put-byte-requires-2 c κs =
+    let sizes =
+    let stem = c .before .before .before .before .before .before .before .before .before .before .before .before .before .before .before .before .before .before .before .before .before in
+    fields-sizes _ _ (stem .before .before .before .before .pre .0) (stem .stem-nominal-verb-suffixes .ensures) in
+    omega arith
+
+same-length : tie.Need-same-length
+same-length c = search needs
+
+returns : tie.Need-returns
+unfolding chars tab lf lineRoom
+returns c =
+    let e = c .before .before in
+    let pass = e .before .before .before .before in
+    let d = pass .before .before .before .before in
+    let kept = d .before .before .before .before in
+    let b = kept .before .before .before .before in
+    let a = b .before .before .before .before in
+    let stem = a .before .before in
+    let start = stem .before .before .before .before in
+    let w = now (start .args .w) in
+    let q = stem .stem-nominal-verb-suffixes .ensures in
+    let sizes = fields-sizes _ _ (start .pre .0) q in
+    wrote-all (fields-parts _ _ _ (stem .before .more-than-one-syllable-word .ensures) q)
+    (wrote-byte _
+    (wrote-text (passText w) _ refl
+    (wrote-byte _
+    (wrote-bytes _ _ (sizes .1)
+    (wrote-text _ 7 (length-answers _ _ _) (wrote-whole w (wrote-nothing (omega arith)) (a .put-bytes .ensures)) (b .put-answers .ensures))
+    (kept .put-bytes2 .ensures))
+    (d .put-byte .ensures))
+    (pass .put-pass .ensures))
+    (e .put-byte2 .ensures))
+
+pub put-fields-spec : {M : Type 1} → statement M
+put-fields-spec =
+    tie.close
+    (tie.spec
+    more-than-one-syllable-word-requires
+    stem-nominal-verb-suffixes-requires
+    put-bytes-requires
+    put-answers-requires
+    put-bytes-requires-2
+    put-byte-requires
+    put-pass-requires
+    put-byte-requires-2
+    same-length
+    returns)

@@ -1,0 +1,46 @@
+-- The output line of one word in the listing (document 01, "stemlist"). Assumes nothing.
+use Prim.Native.Nat.{ℕ, _+_}
+use Prim.Native.Char.{code}
+use mathlib.Core.Bool.{Bool, cond}
+use mathlib.Core.List.{List, [], _∷_, _++_}
+use lib.ListN.{take}
+use lib.Dec.{eqb}
+use Rattle.turkish.specs.Letters.{has}
+use Rattle.turkish.specs.Harmony.{moreThanOneSyllable}
+use Rattle.turkish.specs.Stage.{stage}
+use Rattle.turkish.specs.Calls.{chars, refusal, keptLength, passText}
+
+-- the two bytes that part the input and the output
+unfoldable pub tab : ℕ
+tab = 0x09
+
+unfoldable pub lf : ℕ
+lf = 0x0A
+
+-- number 4, the list's author's, after the word's author's numbers: a tab in a line
+unfoldable pub lineRefusal : List ℕ → ℕ
+lineRefusal w = cond (eqb (refusal w) 0) (cond (has w tab) 4 0) (refusal w)
+
+unfoldable pub yesNo : Bool → ℕ
+yesNo t = cond t (code "Y") (code "N")
+
+unfoldable pub oneZero : Bool → ℕ
+oneZero t = cond t (code "1") (code "0")
+
+-- syllable check, stage and flag, each between tabs
+unfoldable pub answers : Bool → Bool → Bool → List ℕ
+answers syllable stages flag = tab ∷ yesNo syllable ∷ tab ∷ yesNo stages ∷ tab ∷ oneZero flag ∷ tab ∷ []
+
+-- word, syllable check, stage, flag, kept text, pass result
+unfoldable pub fields : List ℕ → List ℕ
+fields w =
+    w ++ (answers (moreThanOneSyllable (chars w)) (stage (chars w) .yes) (stage (chars w) .flag)
+    ++ (take (keptLength w) w ++ (tab ∷ (passText w ++ (lf ∷ [])))))
+
+-- a refused line: `!`, one tab and the number, and nothing of the word
+unfoldable pub refusedLine : ℕ → List ℕ
+refusedLine n = code "!" ∷ tab ∷ (code "0" + n) ∷ lf ∷ []
+
+-- the output line of one word
+unfoldable pub listLine : List ℕ → List ℕ
+listLine w = cond (eqb (lineRefusal w) 0) (fields w) (refusedLine (lineRefusal w))

@@ -1,0 +1,31 @@
+// Bytes written at a place of a lent output.
+ghost use mathlib.Core.Path.{_≡_};
+ghost use mathlib.Core.List.{[], _∷_};
+ghost use Prim.Native.Nat.{_+_, _≤_, _<_};
+ghost use lib.ListN.{length, take};
+ghost use Rattle.lines.specs.Put.{put};
+
+// Writes one byte at place `at`, and gives the place after it.
+pub(crate) fn put_byte(out: &mut [u8], at: usize, b: u8) -> usize
+    requires { ⌜ at < length (now out) ⌝ }
+    ensures { λ r. ⌜ r ≡ at + 1 ⌝ }
+    ensures { λ r. ⌜ now (out .exit) ≡ put at (b ∷ []) (now (out .entry)) ⌝ }
+{
+    out[at] = b;
+    at + 1
+}
+
+// Writes the first n bytes of s at place `at`, and gives the place after them.
+pub(crate) fn put_bytes(out: &mut [u8], at: usize, s: &[u8], n: usize) -> usize
+    requires { ⌜ n ≤ length (now s) ⌝ }
+    requires { ⌜ at + n ≤ length (now out) ⌝ }
+    ensures { λ r. ⌜ r ≡ at + n ⌝ }
+    ensures { λ r. ⌜ now (out .exit) ≡ put at (take n (now (s .entry))) (now (out .entry)) ⌝ }
+{
+    let mut i = 0;
+    while i < n {
+        out[at + i] = s[i];
+        i += 1;
+    }
+    at + n
+}

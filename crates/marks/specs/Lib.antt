@@ -1,0 +1,2 @@
+-- How the code holds what a mark answers. No promise to a host rests on it.
+pub mod Reach

@@ -1,0 +1,3 @@
+-- The laws of what the functions write, a file for each subject.
+pub mod Writing
+pub mod RepairCalls
