@@ -228,15 +228,10 @@ module _ (cs : List ℕ) where
   group-four h i j k =
       ap (λ (o : Out). first (markOf (numbered h) cs) (first (markOf (numbered i) cs) (first (markOf (numbered j) cs) o))) (first-fail (markOf (numbered k) cs))
 
-  -- of two
+  -- and of two
   pub group-two : (h i : ℕ) → firstOf (h ∷ i ∷ []) cs ≡ run (mark (numbered h) or mark (numbered i)) cs
   unfolding firstOf run
   group-two h i = ap (first (markOf (numbered h) cs)) (first-fail (markOf (numbered i) cs))
-
-  -- and of one
-  pub group-one : (k : ℕ) → firstOf (k ∷ []) cs ≡ markOf (numbered k) cs
-  unfolding firstOf
-  group-one k = first-fail (markOf (numbered k) cs)
 
   -- a person's ending or nothing
   pub person-first : run person cs ≡ first (firstOf (4 ∷ 5 ∷ 1 ∷ 2 ∷ 3 ∷ []) cs) (took 0 true)
