@@ -7,8 +7,8 @@ use lib.ListN.{take}
 use lib.Dec.{eqb}
 use Rattle.turkish.specs.Letters.{has}
 use Rattle.turkish.specs.Harmony.{moreThanOneSyllable}
-use Rattle.turkish.specs.Stage.{stage}
-use Rattle.turkish.specs.Calls.{chars, refusal, keptLength, passText}
+use Rattle.turkish.specs.Stage.{stage, keptLength}
+use Rattle.turkish.specs.Calls.{chars, refusal, passText}
 
 -- the two bytes that part the input and the output
 unfoldable pub tab : ℕ

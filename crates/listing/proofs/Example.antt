@@ -8,10 +8,10 @@ use Rattle.turkish.specs.Letters.{text, fromEnd, any, has, starts}
 use Rattle.turkish.specs.Harmony.{vowels, vowel, partnerTable, partnersIn, partner, lastVowel, beforeLastVowel, harmony, moreThanOneSyllable}
 use Rattle.turkish.specs.Grammar.{more, after, first, asking, among, optionalY, markOf, try, run}
 use Rattle.turkish.specs.Marks.{marked, yUm, sUn, yUz, sUnUz, lAr, nUz, DUr, cAsInA, yDU, ysA, ymUs, yken}
-use Rattle.turkish.specs.Stage.{person, branch1, branch2, branch3, branch4, branch5, branch6, branches, staged, stage, kept}
+use Rattle.turkish.specs.Stage.{person, branch1, branch2, branch3, branch4, branch5, branch6, branches, staged, stage, kept, keptLength}
 use Rattle.turkish.specs.Postlude.{reserved, gained, appendU, hard, harden, postlude}
 use Rattle.turkish.specs.WordPass.{passStage, pass}
-use Rattle.turkish.specs.Calls.{chars, bytes, limit, refusal, accepted, keptLength, passText}
+use Rattle.turkish.specs.Calls.{chars, bytes, limit, refusal, accepted, passText}
 use Rattle.lines.specs.Line.{tab, lf, lineRefusal, yesNo, oneZero, answers, fields, listLine}
 use Rattle.listing.specs.Listing.{unclosed, linesFrom, listAll, listing}
 

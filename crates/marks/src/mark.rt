@@ -103,6 +103,14 @@ fn mark_yken(w: &[u8], c: Cursor) -> Passed
     Passed::to(here.cursor)
 }
 
+// yDU's search, apart from the others: a function builds every table that it names when it is entered, and this one is long.
+fn find_yDU(w: &[u8], s: Seen) -> Among
+    requires { ⌜ Sees (now w) s ⌝ }
+    ensures { λ r. ⌜ r ≡ found (tabled 9) (now (w .entry)) (s .c) ⌝ }
+{
+    find_among_b(w, s, &tables::A_20, 3)
+}
+
 // The search in the table of the mark with this number; yken has none.
 fn find_key(w: &[u8], s: Seen, kind: u32) -> Among
     requires { ⌜ Sees (now w) s ⌝ }
@@ -117,7 +125,7 @@ fn find_key(w: &[u8], s: Seen, kind: u32) -> Among
         6 => find_among_b(w, s, &tables::A_17, 3),
         7 => find_among_b(w, s, &tables::A_18, 3),
         8 => find_among_b(w, s, &tables::A_19, 6),
-        9 => find_among_b(w, s, &tables::A_20, 3),
+        9 => find_yDU(w, s),
         10 => find_among_b(w, s, &tables::A_21, 3),
         11 => find_among_b(w, s, &tables::A_22, 3),
         _ => Among::Nothing,
@@ -188,7 +196,8 @@ pub fn first_of(w: &[u8], s: Seen, told: Told, group: &[u32]) -> Marked
     Marked::Fails
 }
 
-// One mark.
+// One mark, and no group of one: with two callers `mark` stays a function of its own. Inlined into the loop of `first_of` it has the
+// tests of all marks made ready at each call.
 pub fn one_of(w: &[u8], s: Seen, told: Told, kind: u32) -> Marked
     requires { ⌜ Sees (now w) s ⌝ }
     requires { ⌜ Hears (now w) (s .c) told ⌝ }
@@ -197,6 +206,16 @@ pub fn one_of(w: &[u8], s: Seen, told: Told, kind: u32) -> Marked
     if !ends::may_end(kind, s.last, s.second, s.third) {
         return Marked::Fails;
     }
-    let group = [kind];
-    first_of(w, s, told, &group)
+    let p = mark(w, s, kind);
+    if !p.moved {
+        return Marked::Fails;
+    }
+    if !is_harmonic(kind) {
+        return Marked::To(s.c.moved_to(p.at));
+    }
+    let t = harmony::hear(w, s.c, told);
+    if !t.holds {
+        return Marked::Fails;
+    }
+    Marked::To(s.c.moved_to(p.at))
 }

@@ -1,8 +1,8 @@
 -- The suffix stage's answer on a word, as the code gives it. Assumes nothing.
 use Prim.Native.Nat.{ℕ}
 use mathlib.Core.List.{List}
-use Rattle.turkish.specs.Stage.{stage}
-use Rattle.turkish.specs.Calls.{chars, keptLength}
+use Rattle.turkish.specs.Stage.{stage, keptLength}
+use Rattle.turkish.specs.Calls.{chars}
 use Rattle.stages.specs.declared.stage.Outcome.{Outcome}
 
 unfoldable pub outcomeOf : List ℕ → Outcome

@@ -41,8 +41,6 @@ const AFTER_NUZ: [u32; 2] = [mark::YDU, mark::YSA];
 // A person's ending without lAr (line 325).
 const PERSON_ALONE: [u32; 4] = [mark::SUNUZ, mark::YUZ, mark::SUN, mark::YUM];
 
-const YMUS_ALONE: [u32; 1] = [mark::YMUS];
-
 // The record moved back over the first mark of a group that fits before it; the record itself where none does.
 fn try_of(w: &[u8], c: Cursor, group: &[u32]) -> Cursor
     requires { ⌜ Open (now w) c ⌝ }
@@ -133,8 +131,11 @@ fn fifth_branch(w: &[u8], s: Seen, t: Told) -> Marked
     let Marked::To(c) = mark::first_of(w, s, t, &PERSON_ALONE) else {
         return Marked::Fails;
     };
-    let d = try_of(w, c.deleted(), &YMUS_ALONE);
-    Marked::To(d.deleted())
+    let d = c.deleted();
+    let Marked::To(e) = mark::one_of(w, seen::look_back(w, d), Told::UNASKED, mark::YMUS) else {
+        return Marked::To(d);
+    };
+    Marked::To(e.deleted())
 }
 
 // Line 327: DUr, deleted; then a person's ending or nothing and ymUs_, if that fits whole.

@@ -119,6 +119,26 @@ unfolding first reach
 reach-first w c fail q e = let z : _≡_ {A = ℕ} 0 1 = cc in absurd (omega arith)
 reach-first w c (took k f) q e = e
 
+-- a mark by its key and optional y, without its harmony test
+module _ (w : List ℕ) (c : Cursor) (k : ℕ) {p : Passed} (is : p ≡ passes w c (markOf (unharmonic (numbered k)) (behind w c))) where
+  -- without its key and optional y it fails
+  pub markOf-not : p .moved ≡ false → markOf (numbered k) (behind w c) ≡ fail
+  markOf-not m =
+      markOf-unharmonic (numbered k) (behind w c)
+      ∙ ap (asking (not (numbered k .harmonic) || harmony (behind w c))) (passes-not w c _ is m)
+      ∙ asking-fail (not (numbered k .harmonic) || harmony (behind w c))
+
+  -- with them it takes what they take, if it tests no harmony or harmony holds
+  pub markOf-took : p .moved ≡ true → not (numbered k .harmonic) || harmony (behind w c) ≡ true
+      → To (moveTo c (p .at)) ≡ reach w c (markOf (numbered k) (behind w c))
+  unfolding asking
+  markOf-took m h = reach-passes w c _ is m ∙ ap (reach w c) (sym (markOf-unharmonic (numbered k) (behind w c) ∙ rw h))
+
+  -- and fails where it does not
+  pub markOf-discord : not (numbered k .harmonic) || harmony (behind w c) ≡ false → markOf (numbered k) (behind w c) ≡ fail
+  unfolding asking
+  markOf-discord h = markOf-unharmonic (numbered k) (behind w c) ∙ rw h
+
 module _ (w : List ℕ) (c : Cursor) (group : List ℕ) (i : ℕ) (inside : i < length group) where
   -- the mark tried, and the group from the next on
   firstOf-at : firstOf (drop i group) (behind w c)
@@ -132,27 +152,9 @@ module _ (w : List ℕ) (c : Cursor) (group : List ℕ) (i : ℕ) (inside : i < 
   unfolding first
   firstOf-next e = ap (reach w c) (sym (firstOf-at ∙ rw e))
 
-  module _ {p : Passed} (is : p ≡ passes w c (markOf (unharmonic (numbered (getD group i 0))) (behind w c))) where
-    -- without its key and optional y the mark fails
-    pub markOf-not : p .moved ≡ false → markOf (numbered (getD group i 0)) (behind w c) ≡ fail
-    unfolding asking
-    markOf-not m =
-        markOf-unharmonic (numbered (getD group i 0)) (behind w c)
-        ∙ ap (asking (not (numbered (getD group i 0) .harmonic) || harmony (behind w c))) (passes-not w c _ is m)
-        ∙ asking-fail (not (numbered (getD group i 0) .harmonic) || harmony (behind w c))
-
-    -- with them it takes what they take, if it tests no harmony or harmony holds
-    pub firstOf-took : p .moved ≡ true → not (numbered (getD group i 0) .harmonic) || harmony (behind w c) ≡ true
-        → To (moveTo c (p .at)) ≡ reach w c (firstOf (drop i group) (behind w c))
-    unfolding asking
-    firstOf-took m h =
-        reach-first w c _ _ (reach-passes w c _ is m ∙ ap (reach w c) (sym (markOf-unharmonic (numbered (getD group i 0)) (behind w c) ∙ rw h)))
-        ∙ ap (reach w c) (sym firstOf-at)
-
-    -- and fails where it does not
-    pub markOf-discord : not (numbered (getD group i 0) .harmonic) || harmony (behind w c) ≡ false → markOf (numbered (getD group i 0)) (behind w c) ≡ fail
-    unfolding asking
-    markOf-discord h = markOf-unharmonic (numbered (getD group i 0)) (behind w c) ∙ rw h
+  -- one that fits is the group's first
+  pub firstOf-took : {r : Cursor} → To r ≡ reach w c (markOf (numbered (getD group i 0)) (behind w c)) → To r ≡ reach w c (firstOf (drop i group) (behind w c))
+  firstOf-took e = reach-first w c _ _ e ∙ ap (reach w c) (sym firstOf-at)
 
 -- where no mark is left none fits
 pub firstOf-end : (w : List ℕ) (c : Cursor) (group : List ℕ) (i : ℕ) → length group ≤ i → Fails ≡ reach w c (firstOf (drop i group) (behind w c))

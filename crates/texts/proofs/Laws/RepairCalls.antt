@@ -15,10 +15,10 @@ use Rattle.utf8.proofs.Laws.Characters.{back-le, before-back}
 use Rattle.turkish.specs.declared.answer.PostludeAnswer.{PostludeAnswer}
 use Rattle.turkish.specs.declared.answer.PassAnswer.{PassAnswer}
 use Rattle.turkish.specs.Harmony.{moreThanOneSyllable}
-use Rattle.turkish.specs.Stage.{stage, kept}
+use Rattle.turkish.specs.Stage.{stage, kept, keptLength}
 use Rattle.turkish.specs.Postlude.{postlude}
 use Rattle.turkish.specs.WordPass.{passStage, pass}
-use Rattle.turkish.specs.Calls.{chars, bytes, accepted, written, refusalInto, keptLength}
+use Rattle.turkish.specs.Calls.{chars, bytes, accepted, written, refusalInto}
 use Rattle.turkish.specs.Calls.{postludeText, postludeRefusal, postludeCall, postludeOut, passText, passRefusal, passCall, passOut}
 use Rattle.turkish.proofs.Laws.Accepted.{accepted-text, bytes-chars}
 use Rattle.turkish.proofs.Laws.Words.{text-back}

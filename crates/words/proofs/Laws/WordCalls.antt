@@ -12,8 +12,8 @@ use Rattle.utf8.proofs.Laws.Characters.{back-le}
 use Rattle.turkish.specs.declared.answer.SyllableAnswer.{SyllableAnswer}
 use Rattle.turkish.specs.declared.answer.StageAnswer.{StageAnswer}
 use Rattle.turkish.specs.Harmony.{moreThanOneSyllable}
-use Rattle.turkish.specs.Stage.{stage}
-use Rattle.turkish.specs.Calls.{chars, refusal, accepted, syllableCall, keptLength, stagePart, stageCall}
+use Rattle.turkish.specs.Stage.{stage, keptLength}
+use Rattle.turkish.specs.Calls.{chars, refusal, accepted, syllableCall, stagePart, stageCall}
 use Rattle.stages.specs.declared.stage.Outcome.{Outcome}
 use Rattle.stages.specs.Outcome.{outcomeOf}
 

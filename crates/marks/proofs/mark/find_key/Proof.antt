@@ -8,7 +8,7 @@ use denote.Ref.{now}
 use borrow.Author.Tests.{ne-eqb}
 use Rattle.utf8.specs.declared.cursor.Cursor.{Cursor}
 use Rattle.turkish.specs.Letters.{text, fromEnd}
-use Rattle.turkish.specs.Marks.{marked, yUm, sUn, yUz, sUnUz, lAr, nUz, DUr, cAsInA, yDU, ysA, ymUs, yken}
+use Rattle.turkish.specs.Marks.{marked, yUm, sUn, yUz, sUnUz, lAr, nUz, DUr, cAsInA, ysA, ymUs, yken}
 use Rattle.letters.specs.Keys.{upToZero, row, rowsWithin, rows}
 use Rattle.letters.specs.Search.{foundFrom, found}
 use Rattle.letters.specs.Numbered.{never, numbered, tabled}
@@ -67,19 +67,17 @@ returns-8 c =
     c .find-among-b8 .ensures ∙ found-tabled _ _ (sym (c .before .before .match .keys8))
 
 returns-9 : tie.Need-returns-9
-unfolding tabled numbered yDU marked fromEnd text rows rowsWithin row upToZero
-returns-9 c =
-    c .find-among-b9 .ensures ∙ found-tabled _ _ (sym (c .before .before .match .keys9))
+returns-9 c = c .find-yDU .ensures ∙ found-tabled _ _ (sym (c .before .match .keys9))
 
 returns-10 : tie.Need-returns-10
 unfolding tabled numbered ysA marked fromEnd text rows rowsWithin row upToZero
 returns-10 c =
-    c .find-among-b10 .ensures ∙ found-tabled _ _ (sym (c .before .before .match .keys10))
+    c .find-among-b9 .ensures ∙ found-tabled _ _ (sym (c .before .before .match .keys10))
 
 returns-11 : tie.Need-returns-11
 unfolding tabled numbered ymUs marked fromEnd text rows rowsWithin row upToZero
 returns-11 c =
-    c .find-among-b11 .ensures ∙ found-tabled _ _ (sym (c .before .before .match .keys11))
+    c .find-among-b10 .ensures ∙ found-tabled _ _ (sym (c .before .before .match .keys11))
 
 returns-12 : tie.Need-returns-12
 unfolding tabled numbered found foundFrom
@@ -109,6 +107,6 @@ find-key-spec =
     tie.close
     (tie.spec (λ c. search needs) (λ c κs. search needs) (λ c. search needs) (λ c κs. search needs) (λ c. search needs) (λ c κs. search needs)
     (λ c. search needs) (λ c κs. search needs) (λ c. search needs) (λ c κs. search needs) (λ c. search needs) (λ c κs. search needs)
-    (λ c. search needs) (λ c κs. search needs) (λ c. search needs) (λ c κs. search needs) (λ c. search needs) (λ c κs. search needs)
+    (λ c. search needs) (λ c κs. search needs) (λ c. search needs) (λ c κs. search needs) (λ c κs. search needs)
     (λ c. search needs) (λ c κs. search needs) (λ c. search needs) (λ c κs. search needs) returns returns-2 returns-3 returns-4 returns-5 returns-6
     returns-7 returns-8 returns-9 returns-10 returns-11 returns-12)

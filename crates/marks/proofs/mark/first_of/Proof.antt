@@ -5,7 +5,6 @@ use Prim.Native.Nat.{_-_, _≤_}
 use mathlib.Core.Path.{_≡_, refl, sym, ap, subst, _∙_}
 use native.Mathlib.Omega.{arith}
 use lib.ListN.{length, drop}
-use denote.Ref.{now}
 use borrow.Author.Needs.{needs}
 use borrow.Author.Tests.{not-true, not-false}
 use Rattle.utf8.specs.Behind.{behind}
@@ -16,7 +15,7 @@ use Rattle.letters.specs.Numbered.{firstOf}
 use Rattle.marks.specs.Reach.{reach}
 use Rattle.letters.proofs.Laws.Told.{hears-told}
 use Rattle.letters.proofs.Laws.Ends.{markOf-unfit}
-use Rattle.marks.proofs.Laws.Marks.{firstOf-next, firstOf-took, firstOf-end, markOf-not, markOf-discord, mayEnd-sees, agrees-free, agrees-bound}
+use Rattle.marks.proofs.Laws.Marks.{markOf-not, markOf-took, markOf-discord, firstOf-next, firstOf-took, firstOf-end, mayEnd-sees, agrees-free, agrees-bound}
 use Rattle.marks.proofs.mark.first_of.Statement.{statement}
 use Rattle.marks.proofs.mark.first_of.Tie as tie
 
@@ -46,8 +45,7 @@ loop-again-2 c =
     let m = c .before .before in
     let t = m .before .before .before .before in
     let l = t .before .loop in
-    let group = now (t .before .before .before .before .args .group) in
-    let fails = markOf-not _ _ group (l .i) (t .loop-test .taken) (m .mark .ensures) (not-true _ (c .if2 .taken)) in
+    let fails = markOf-not _ _ _ (m .mark .ensures) (not-true _ (c .if2 .taken)) in
     (omega arith, l .inv .1, firstOf-next _ _ _ (l .i) (t .loop-test .taken) fails ∙ l .inv .2)
 
 returns : tie.Need-returns Inv-loop μ-loop
@@ -58,7 +56,7 @@ returns c =
     let l = t .before .loop in
     let free = sym (c .before .before .is-harmonic .ensures) ∙ not-true _ (c .before .if3 .taken) in
     ap To (c .moved-to .ensures)
-    ∙ firstOf-took _ _ _ (l .i) (t .loop-test .taken) (m .mark .ensures) (not-false _ (i .if2 .left)) (agrees-free _ free) ∙ l .inv .2
+    ∙ firstOf-took _ _ _ (l .i) (t .loop-test .taken) (markOf-took _ _ _ (m .mark .ensures) (not-false _ (i .if2 .left)) (agrees-free _ free)) ∙ l .inv .2
 
 hear-requires : tie.Need-hear-requires Inv-loop μ-loop
 hear-requires c κs =
@@ -76,7 +74,7 @@ returns-2 c =
     let bound = sym (h .before .before .is-harmonic .ensures) ∙ not-false _ (h .before .if3 .left) in
     let holds = sym (ap (λ (x : Told). x .holds) (h .hear .ensures)) ∙ c .before .if4 .taken in
     ap To (c .moved-to2 .ensures)
-    ∙ firstOf-took _ _ _ (l .i) (t .loop-test .taken) (m .mark .ensures) (not-false _ (i .if2 .left)) (agrees-bound _ bound ∙ holds) ∙ l .inv .2
+    ∙ firstOf-took _ _ _ (l .i) (t .loop-test .taken) (markOf-took _ _ _ (m .mark .ensures) (not-false _ (i .if2 .left)) (agrees-bound _ bound ∙ holds)) ∙ l .inv .2
 
 loop-again-3 : tie.Need-loop-again-3 Inv-loop μ-loop
 unfolding toldAt
@@ -87,8 +85,7 @@ loop-again-3 c =
     let l = t .before .loop in
     let bound = sym (h .before .before .is-harmonic .ensures) ∙ not-false _ (h .before .if3 .left) in
     let discord = sym (ap (λ (x : Told). x .holds) (h .hear .ensures)) ∙ c .if4 .left in
-    let group = now (t .before .before .before .before .args .group) in
-    let fails = markOf-discord _ _ group (l .i) (t .loop-test .taken) (m .mark .ensures) (agrees-bound _ bound ∙ discord) in
+    let fails = markOf-discord _ _ _ (m .mark .ensures) (agrees-bound _ bound ∙ discord) in
     (omega arith, subst (Hears _ _) (sym (h .hear .ensures)) (hears-told _ _), firstOf-next _ _ _ (l .i) (t .loop-test .taken) fails ∙ l .inv .2)
 
 returns-3 : tie.Need-returns-3 Inv-loop μ-loop

@@ -1,9 +1,13 @@
--- `marks::mark::one_of` meets its contract: a group of one mark. Assumes nothing.
+-- `marks::mark::one_of` meets its contract: where a test fails so does the mark, and where all hold it takes what its key and optional y
+-- take. In each answer m is the place behind the mark, i behind the test of its answer, and h behind harmony. Assumes nothing.
 use mathlib.Core.Path.{sym, ap, _∙_}
-use borrow.Author.Tests.{not-true}
+use borrow.Author.Tests.{not-true, not-false}
+use Rattle.letters.specs.declared.harmony.Told.{Told}
+use Rattle.marks.specs.declared.marked.Marked.the-variants.{To}
+use Rattle.letters.specs.Told.{toldAt}
 use Rattle.marks.specs.Reach.{reach}
 use Rattle.letters.proofs.Laws.Ends.{markOf-unfit}
-use Rattle.marks.proofs.Laws.Marks.{mayEnd-sees, group-one}
+use Rattle.marks.proofs.Laws.Marks.{markOf-not, markOf-took, markOf-discord, mayEnd-sees, agrees-free, agrees-bound}
 use borrow.Author.Needs.{needs}
 use Rattle.marks.proofs.mark.one_of.Statement.{statement}
 use Rattle.marks.proofs.mark.one_of.Tie as tie
@@ -15,13 +19,40 @@ returns c =
     let unfit = sym (mayEnd-sees _ (s .args .s) (s .pre .0) _ (c .before .may-end .ensures)) ∙ not-true _ (c .if1 .taken) in
     sym (ap (reach _ _) (markOf-unfit _ _ unfit))
 
-first-of-requires : tie.Need-first-of-requires
-first-of-requires c κs = let s = c .before .before .before .before in (s .pre .0, s .pre .1)
-
 returns-2 : tie.Need-returns-2
-returns-2 c = c .first-of .ensures ∙ ap (reach _ _) (group-one _ _)
+unfolding reach
+returns-2 c =
+    let m = c .before .before in
+    sym (ap (reach _ _) (markOf-not _ _ _ (m .mark .ensures) (not-true _ (c .if2 .taken))))
+
+returns-3 : tie.Need-returns-3
+returns-3 c =
+    let i = c .before .before .before in
+    let m = i .before .before in
+    let free = sym (c .before .before .is-harmonic .ensures) ∙ not-true _ (c .before .if3 .taken) in
+    ap To (c .moved-to .ensures) ∙ markOf-took _ _ _ (m .mark .ensures) (not-false _ (i .if2 .left)) (agrees-free _ free)
+
+returns-4 : tie.Need-returns-4
+unfolding reach toldAt
+returns-4 c =
+    let h = c .before .before in
+    let m = h .before .before .before .before .before in
+    let bound = sym (h .before .before .is-harmonic .ensures) ∙ not-false _ (h .before .if3 .left) in
+    let discord = sym (ap (λ (x : Told). x .holds) (h .hear .ensures)) ∙ not-true _ (c .if4 .taken) in
+    sym (ap (reach _ _) (markOf-discord _ _ _ (m .mark .ensures) (agrees-bound _ bound ∙ discord)))
+
+returns-5 : tie.Need-returns-5
+unfolding toldAt
+returns-5 c =
+    let h = c .before .before .before in
+    let i = h .before .before .before in
+    let m = i .before .before in
+    let bound = sym (h .before .before .is-harmonic .ensures) ∙ not-false _ (h .before .if3 .left) in
+    let holds = sym (ap (λ (x : Told). x .holds) (h .hear .ensures)) ∙ not-false _ (c .before .if4 .left) in
+    ap To (c .moved-to2 .ensures) ∙ markOf-took _ _ _ (m .mark .ensures) (not-false _ (i .if2 .left)) (agrees-bound _ bound ∙ holds)
 
 pub one-of-spec : {M : Type 1} → statement M
 one-of-spec =
     tie.close
-    (tie.spec (λ c κs. search needs) returns (λ c. search needs) first-of-requires returns-2)
+    (tie.spec (λ c κs. search needs) returns (λ c κs. search needs) returns-2 (λ c κs. search needs) (λ c κs. search needs) returns-3
+    (λ c κs. search needs) returns-4 (λ c κs. search needs) returns-5)
