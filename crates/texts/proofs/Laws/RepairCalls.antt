@@ -17,9 +17,9 @@ use Rattle.turkish.specs.declared.answer.PassAnswer.{PassAnswer}
 use Rattle.turkish.specs.Harmony.{moreThanOneSyllable}
 use Rattle.turkish.specs.Stage.{stage, kept, keptLength}
 use Rattle.turkish.specs.Postlude.{postlude}
-use Rattle.turkish.specs.WordPass.{passStage, pass}
 use Rattle.turkish.specs.Calls.{chars, bytes, accepted, written, refusalInto}
 use Rattle.turkish.specs.Calls.{postludeText, postludeRefusal, postludeCall, postludeOut, passText, passRefusal, passCall, passOut}
+use Rattle.turkish.proofs.Source.Calls.{postludeOf-yes, simplePass, pass-simple, postludeText-simple}
 use Rattle.turkish.proofs.Laws.Accepted.{accepted-text, bytes-chars}
 use Rattle.turkish.proofs.Laws.Words.{text-back}
 use Rattle.turkish.proofs.Sizes.{kept-bytes}
@@ -39,8 +39,8 @@ before-keptLength w = before-back w (length w) (stage (chars w) .removed)
 
 -- the repair of an accepted word has the postlude's text
 repairText-postludeText : (w : List ℕ) → accepted w ≡ true → repairText w (repairOf w (length w)) ≡ postludeText w
-unfolding postludeText chars
-repairText-postludeText w a = repair-text w (length w) (rw take-length (accepted-text w a)) (le-refl (length w))
+unfolding chars
+repairText-postludeText w a = repair-text w (length w) (rw take-length (accepted-text w a)) (le-refl (length w)) ∙ sym (postludeText-simple w)
 
 module _ (w : List ℕ) (a : accepted w ≡ true) where
   -- the repair of the text kept is the postlude of it
@@ -53,18 +53,18 @@ module _ (w : List ℕ) (a : accepted w ≡ true) where
 
   -- the pass of a word of one syllable is the word
   pub pass-short : moreThanOneSyllable (chars w) ≡ false → passText w ≡ w
-  unfolding passText pass
-  pass-short s = rw s (bytes-chars w a)
+  unfolding passText simplePass
+  pass-short s = rw (pass-simple (chars w), s) (bytes-chars w a)
 
   -- the pass of one whose flag is false is the text kept
   pub pass-kept : moreThanOneSyllable (chars w) ≡ true → stage (chars w) .flag ≡ false → passText w ≡ take (keptLength w) w
-  unfolding passText pass passStage
-  pass-kept s f = rw (s, f) (sym (kept-bytes w a))
+  unfolding passText simplePass
+  pass-kept s f = rw (pass-simple (chars w), s, f) (sym (kept-bytes w a))
 
   -- the pass of any other is the repair of the text kept
   pub pass-repaired : moreThanOneSyllable (chars w) ≡ true → stage (chars w) .flag ≡ true → passText w ≡ repairText w (repairOf w (keptLength w))
-  unfolding passText pass passStage
-  pass-repaired s f = rw (s, f) (sym repairText-kept)
+  unfolding passText simplePass
+  pass-repaired s f = rw (pass-simple (chars w), s, f) (sym repairText-kept)
 
 -- ---- the room ----
 
@@ -103,7 +103,7 @@ module _ (w out : List ℕ) (n : ℕ) (e : n ≡ refusalInto w (length w + 2) (l
   unfolding postludeCall postludeOut postludeRefusal chars
   postludeCall-postludeOut-given z r q k last l o =
       let t = repairText-postludeText w (into-accepted w (length w + 2) (length out) n e z) in
-      (rw (← e, z, ← t, l, q, repair-answer w (length w)), o ∙ rw (← e, z, ← t, q))
+      (rw (← e, z, ← t, l, q, repair-answer w (length w), postludeOf-yes (before w (length w))), o ∙ rw (← e, z, ← t, q))
 
   -- ---- pass ----
 
@@ -119,10 +119,10 @@ module _ (w out : List ℕ) (n : ℕ) (e : n ≡ refusalInto w (length w + 2) (l
       → (k : ℕ) (last : List ℕ) → k ≡ length w → last ≡ written w out
       → (_≡_ {A = PassAnswer} (record { refusal = 0; length = k; syllable = false; yes = false; flag = true }) (passCall w (length out)))
       × (last ≡ passOut w out)
-  unfolding passCall passOut passRefusal pass
+  unfolding passCall passOut passRefusal simplePass
   passCall-passOut-short z y k last l o =
       let t = pass-short w (into-accepted w (length w + 2) (length out) n e z) y in
-      (rw (← e, z, t, y, l), o ∙ rw (← e, z, t))
+      (rw (← e, z, t, pass-simple (chars w), y, l), o ∙ rw (← e, z, t))
 
   module _ (z : n ≡ 0) (y : moreThanOneSyllable (chars w) ≡ true) (s : Outcome) (q : s ≡ outcomeOf w) where
     -- the code's flag is the stage's
@@ -135,19 +135,19 @@ module _ (w out : List ℕ) (n : ℕ) (e : n ≡ refusalInto w (length w + 2) (l
         → (k : ℕ) (last : List ℕ) → k ≡ length (take (s .kept) w) → last ≡ written (take (s .kept) w) out
         → (_≡_ {A = PassAnswer} (record { refusal = 0; length = k; syllable = true; yes = s .yes; flag = false }) (passCall w (length out)))
         × (last ≡ passOut w out)
-    unfolding passCall passOut passRefusal pass passStage outcomeOf
+    unfolding passCall passOut passRefusal simplePass outcomeOf
     passCall-passOut-kept f k last l o =
         let g : stage (chars w) .flag ≡ false = sym outcomeOf-flag ∙ f in
         let t = pass-kept w (into-accepted w (length w + 2) (length out) n e z) y g in
-        (rw (← e, z, t, y, l, q, g), o ∙ rw (← e, z, t, q))
+        (rw (← e, z, t, pass-simple (chars w), y, l, q, g), o ∙ rw (← e, z, t, q))
 
     -- where it is true, its repair
     pub passCall-passOut-repaired : s .flag ≡ true → (r : Repair) → r ≡ repairOf w (s .kept)
         → (k : ℕ) (last : List ℕ) → k ≡ length (repairText w r) → last ≡ written (repairText w r) out
         → (_≡_ {A = PassAnswer} (record { refusal = 0; length = k; syllable = true; yes = s .yes; flag = true }) (passCall w (length out)))
         × (last ≡ passOut w out)
-    unfolding passCall passOut passRefusal pass passStage outcomeOf
+    unfolding passCall passOut passRefusal simplePass outcomeOf
     passCall-passOut-repaired f r p k last l o =
         let g : stage (chars w) .flag ≡ true = sym outcomeOf-flag ∙ f in
         let t = pass-repaired w (into-accepted w (length w + 2) (length out) n e z) y g in
-        (rw (← e, z, t, y, l, p, q, g), o ∙ rw (← e, z, t, p, q))
+        (rw (← e, z, t, pass-simple (chars w), y, l, p, q, g), o ∙ rw (← e, z, t, p, q))

@@ -14,6 +14,8 @@ use Rattle.turkish.specs.declared.answer.StageAnswer.{StageAnswer}
 use Rattle.turkish.specs.Harmony.{moreThanOneSyllable}
 use Rattle.turkish.specs.Stage.{stage, keptLength}
 use Rattle.turkish.specs.Calls.{chars, refusal, accepted, syllableCall, stagePart, stageCall}
+use Rattle.turkish.proofs.Source.Calls.{suffixStage-yes, suffixStage-flag, syllableCall-simple}
+use Rattle.turkish.proofs.Sizes.{stageText-kept, stageText-length}
 use Rattle.stages.specs.declared.stage.Outcome.{Outcome}
 use Rattle.stages.specs.Outcome.{outcomeOf}
 
@@ -38,8 +40,8 @@ module _ (w : List ℕ) (n : ℕ) (e : n ≡ refusal w) where
   -- any other tells whether the word has two vowels or more
   pub syllableCall-given : n ≡ 0 → (t : Bool) → t ≡ moreThanOneSyllable (before w (length w))
       → _≡_ {A = SyllableAnswer} (record { refusal = 0; yes = t }) (syllableCall w)
-  unfolding syllableCall chars
-  syllableCall-given z t q = rw (accepted-yes z, q)
+  unfolding chars
+  syllableCall-given z t q = rw (syllableCall-simple w, accepted-yes z, q)
 
   -- ---- suffix stage ----
 
@@ -51,7 +53,7 @@ module _ (w : List ℕ) (n : ℕ) (e : n ≡ refusal w) where
   -- any other the front of the word that it keeps
   pub stagePart-given : n ≡ 0 → (s : Outcome) → s ≡ outcomeOf w → take (s .kept) w ≡ stagePart w
   unfolding stagePart outcomeOf
-  stagePart-given z s q = rw (accepted-yes z, q)
+  stagePart-given z s q = rw (accepted-yes z, q, stageText-kept w (accepted-yes z))
 
   -- a refused stage gives its number, length 0, no, and false for the flag
   pub stageCall-refused : (n ≡ 0 → ⊥) → _≡_ {A = StageAnswer} (record { refusal = n; length = 0; yes = false; flag = false }) (stageCall w)
@@ -62,7 +64,7 @@ module _ (w : List ℕ) (n : ℕ) (e : n ≡ refusal w) where
   pub stageCall-given : n ≡ 0 → (s : Outcome) → s ≡ outcomeOf w
       → _≡_ {A = StageAnswer} (record { refusal = 0; length = s .kept; yes = s .yes; flag = s .flag }) (stageCall w)
   unfolding stageCall outcomeOf
-  stageCall-given z s q = rw (accepted-yes z, q)
+  stageCall-given z s q = rw (accepted-yes z, q, stageText-length w (accepted-yes z), suffixStage-yes (chars w), suffixStage-flag (chars w))
 
 -- the text kept is within the word
 pub kept-le : (w : List ℕ) (s : Outcome) → s ≡ outcomeOf w → s .kept ≤ length w
