@@ -3,12 +3,10 @@ use Prim.Native.Nat.{ℕ, _+_}
 use Prim.Native.Char.{code}
 use mathlib.Core.Bool.{Bool, cond}
 use mathlib.Core.List.{List, [], _∷_, _++_}
-use lib.ListN.{take}
 use lib.Dec.{eqb}
 use Rattle.turkish.specs.Letters.{has}
-use Rattle.turkish.specs.Harmony.{moreThanOneSyllable}
-use Rattle.turkish.specs.Stage.{stage, keptLength}
-use Rattle.turkish.specs.Calls.{chars, refusal, passText}
+use Rattle.turkish.specs.Answers.{syllableCheck, suffixStage}
+use Rattle.turkish.specs.Calls.{chars, refusal, stageText, passText}
 
 -- the two bytes that part the input and the output
 unfoldable pub tab : ℕ
@@ -34,8 +32,8 @@ answers syllable stages flag = tab ∷ yesNo syllable ∷ tab ∷ yesNo stages �
 -- word, syllable check, stage, flag, kept text, pass result
 unfoldable pub fields : List ℕ → List ℕ
 fields w =
-    w ++ (answers (moreThanOneSyllable (chars w)) (stage (chars w) .yes) (stage (chars w) .flag)
-    ++ (take (keptLength w) w ++ (tab ∷ (passText w ++ (lf ∷ [])))))
+    w ++ (answers (syllableCheck (chars w)) (suffixStage (chars w) .yes) (suffixStage (chars w) .flag)
+    ++ (stageText w ++ (tab ∷ (passText w ++ (lf ∷ [])))))
 
 -- a refused line: `!`, one tab and the number, and nothing of the word
 unfoldable pub refusedLine : ℕ → List ℕ

@@ -7,9 +7,12 @@ use mathlib.Core.List.{List, [], _∷_, _++_, append-assoc, append-nil}
 use native.Mathlib.Omega.{arith}
 use lib.ListN.{length, take, length-append, length-take}
 use Rattle.turkish.specs.Harmony.{moreThanOneSyllable}
+use Rattle.turkish.specs.Stage.{stage, keptLength}
 use Rattle.turkish.specs.Calls.{chars, limit, accepted, passText}
 use Rattle.turkish.proofs.Laws.Accepted.{accepted-iff}
-use Rattle.turkish.proofs.Sizes.{passText-size}
+use Rattle.turkish.proofs.Sizes.{passText-size, stageText-kept}
+use Rattle.turkish.proofs.Source.Syllables.{syllableCheck-simple}
+use Rattle.turkish.proofs.Source.Calls.{suffixStage-yes, suffixStage-flag}
 use Rattle.stages.specs.declared.stage.Outcome.{Outcome}
 use Rattle.stages.specs.declared.postlude.Repair.{Repair}
 use Rattle.stages.specs.Outcome.{outcomeOf}
@@ -69,11 +72,18 @@ pub answers-bytes : (syllable stages flag : Bool) {a b c : ℕ} → a ≡ yesNo 
 unfolding answers
 answers-bytes syllable stages flag p q r = rw (p, q, r)
 
+-- the fields of an accepted word in the words of the simple forms
+fields-simple : (w : List ℕ) → accepted w ≡ true → fields w
+    ≡ w ++ (answers (moreThanOneSyllable (chars w)) (stage (chars w) .yes) (stage (chars w) .flag)
+    ++ (take (keptLength w) w ++ (tab ∷ (passText w ++ (lf ∷ [])))))
+unfolding fields
+fields-simple w ok = rw (syllableCheck-simple (chars w), suffixStage-yes (chars w), suffixStage-flag (chars w), stageText-kept w ok)
+
 -- the parts one after the other are the fields
-pub fields-parts : (w : List ℕ) (syllable : Bool) (s : Outcome) → syllable ≡ moreThanOneSyllable (chars w) → s ≡ outcomeOf w
+pub fields-parts : (w : List ℕ) (syllable : Bool) (s : Outcome) → accepted w ≡ true → syllable ≡ moreThanOneSyllable (chars w) → s ≡ outcomeOf w
     → ((((w ++ answers syllable (s .yes) (s .flag)) ++ take (s .kept) w) ++ (tab ∷ [])) ++ passText w) ++ (lf ∷ []) ≡ fields w
-unfolding fields outcomeOf
-fields-parts w syllable s y q = rw (y, q) (simp append-assoc)
+unfolding outcomeOf
+fields-parts w syllable s ok y q = rw (fields-simple w ok, y, q) (simp append-assoc)
 
 -- an accepted word, the text kept and the pass's text are short enough that the fields fit three times the limit and twelve bytes
 pub fields-sizes : (w : List ℕ) (s : Outcome) → accepted w ≡ true → s ≡ outcomeOf w
@@ -85,10 +95,10 @@ fields-sizes w s ok q = (accepted-iff w .0 ok .0, kept-le w s q, passText-size w
 
 -- the fields of an accepted word have room for a line
 fields-size : (w : List ℕ) → accepted w ≡ true → length (fields w) ≤ lineRoom
-unfolding fields lineRoom outcomeOf
+unfolding lineRoom outcomeOf
 fields-size w ok =
     let sizes = fields-sizes w (outcomeOf w) ok refl in
-    simp (length-append, length-answers, length-take) (omega arith)
+    rw (fields-simple w ok) (simp (length-append, length-answers, length-take) (omega arith))
 
 -- so have the four bytes of a refused line
 refusedLine-size : (n : ℕ) → length (refusedLine n) ≤ lineRoom

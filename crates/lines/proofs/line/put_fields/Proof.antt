@@ -78,7 +78,7 @@ returns c =
     let w = now (start .args .w) in
     let q = stem .stem-nominal-verb-suffixes .ensures in
     let sizes = fields-sizes _ _ (start .pre .0) q in
-    wrote-all (fields-parts _ _ _ (stem .before .more-than-one-syllable-word .ensures) q)
+    wrote-all (fields-parts _ _ _ (start .pre .0) (stem .before .more-than-one-syllable-word .ensures) q)
     (wrote-byte _
     (wrote-text (passText w) _ refl
     (wrote-byte _
