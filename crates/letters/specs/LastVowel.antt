@@ -3,7 +3,7 @@ use Prim.Native.Nat.{ℕ, suc}
 use mathlib.Core.Bool.{cond}
 use mathlib.Core.List.{List, [], _∷_}
 use Rattle.utf8.specs.Characters.{before, back}
-use Rattle.turkish.specs.Harmony.{vowel, lastVowel}
+use Rattle.turkish.specs.Vowels.{vowel, lastVowel}
 use Rattle.letters.specs.declared.walk.LastVowel.{LastVowel}
 
 -- the characters up to the last vowel and with it, all of them where there is none

@@ -8,7 +8,7 @@ ghost use Prim.Native.Nat.{_≤_};
 ghost use lib.ListN.{length};
 ghost use Rattle.utf8.specs.Characters.{before};
 ghost use Rattle.utf8.specs.Behind.{Open};
-ghost use Rattle.turkish.specs.Harmony.{harmony};
+ghost use Rattle.turkish.specs.Simple.Harmony.{harmony};
 ghost use Rattle.letters.specs.Told.{Hears, toldAt};
 
 // What is known of harmony before a cursor: whether it was asked for, and whether it holds.

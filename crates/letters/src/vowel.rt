@@ -1,6 +1,6 @@
 // The eight vowels and their partners (turkish.rs, `G_vowel` and `G_vowel1` to `G_vowel6`): what may stand earlier in harmony.
 ghost use mathlib.Core.Path.{_≡_};
-ghost use Rattle.turkish.specs.Harmony.{vowel};
+ghost use Rattle.turkish.specs.Vowels.{vowel};
 ghost use Rattle.letters.specs.Sounds.{soundOf, partners};
 
 // A vowel: its own code point, and its partners, up to four code points; where there are fewer, the last is named again.

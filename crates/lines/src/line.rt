@@ -11,7 +11,7 @@ ghost use mathlib.Core.Bool.{true, cond};
 ghost use Prim.Native.Nat.{_+_, _≤_, _<_};
 ghost use lib.ListN.{length};
 ghost use Rattle.turkish.specs.Letters.{has};
-ghost use Rattle.turkish.specs.Harmony.{moreThanOneSyllable};
+ghost use Rattle.turkish.specs.Simple.Harmony.{moreThanOneSyllable};
 ghost use Rattle.turkish.specs.Calls.{chars, accepted, passText};
 ghost use Rattle.stages.specs.Outcome.{outcomeOf};
 ghost use Rattle.stages.specs.Repairs.{repairText};

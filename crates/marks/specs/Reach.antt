@@ -3,7 +3,7 @@ use Prim.Native.Nat.{ℕ}
 use mathlib.Core.List.{List}
 use Rattle.utf8.specs.declared.cursor.Cursor.{Cursor}
 use Rattle.utf8.specs.Behind.{backBy, deleted}
-use Rattle.turkish.specs.Grammar.{Out, fail, took}
+use Rattle.turkish.specs.Simple.Grammar.{Out, fail, took}
 use Rattle.marks.specs.declared.marked.Marked.{Marked}
 use Rattle.marks.specs.declared.marked.Marked.the-variants.{To, Fails}
 

@@ -16,8 +16,8 @@ use Rattle.utf8.specs.Characters.{goesOn, lastWidth, charAt, lastChar, beforeWi
 use Rattle.utf8.proofs.Laws.Characters.{lastWidth-le, before-zero, before-step}
 use Rattle.utf8.proofs.TextCharacters.{encode-before, take-back}
 use Rattle.turkish.specs.Letters.{text, has}
-use Rattle.turkish.specs.Harmony.{lastVowel}
-use Rattle.turkish.specs.Postlude.{reserved, gained, appends, appendU, hard, harden, postlude, postludeYes}
+use Rattle.turkish.specs.Vowels.{lastVowel}
+use Rattle.turkish.specs.Simple.Postlude.{reserved, gained, appends, appendU, hard, harden, postlude, postludeYes}
 use Rattle.turkish.specs.Calls.{bytes}
 use Rattle.turkish.proofs.Laws.Words.{bytes-cons}
 use Rattle.turkish.proofs.PostludeRules.{postlude-one}

@@ -1,7 +1,7 @@
 -- The suffix stage's answer on a word, as the code gives it. Assumes nothing.
 use Prim.Native.Nat.{ℕ}
 use mathlib.Core.List.{List}
-use Rattle.turkish.specs.Stage.{stage, keptLength}
+use Rattle.turkish.specs.Simple.Stage.{stage, keptLength}
 use Rattle.turkish.specs.Calls.{chars}
 use Rattle.stages.specs.declared.stage.Outcome.{Outcome}
 

@@ -11,11 +11,12 @@ use lib.ListN.{length, drop, length-drop}
 use lib.Seq.{drop-append-le}
 use lib.Dec.{eqb}
 use Rattle.turkish.specs.Letters.{text, fromEnd, has, starts}
-use Rattle.turkish.specs.Harmony.{vowel, partner, lastVowel, beforeLastVowel, harmony, moreThanOneSyllable}
-use Rattle.turkish.specs.Grammar.{Out, took, more, after, asking, among, optionalY, markOf, Command, mark, _then_, _or_, nothing, unset, try, run}
-use Rattle.turkish.specs.Marks.{marked, yUm, sUn, yUz, sUnUz, lAr, nUz, DUr, cAsInA, yDU, ysA, ymUs, yken}
-use Rattle.turkish.specs.Stage.{person, branch1, branch2, branch3, branch4, branch5, branch6, branches, staged, stage, kept}
-use Rattle.turkish.specs.Postlude.{reserved, gained, appends, appendU, hard, harden, postlude}
+use Rattle.turkish.specs.Vowels.{vowel, lastVowel, beforeLastVowel}
+use Rattle.turkish.specs.Simple.Harmony.{partner, harmony, moreThanOneSyllable}
+use Rattle.turkish.specs.Simple.Grammar.{Out, took, more, after, asking, among, optionalY, markOf, Command, mark, _then_, _or_, nothing, unset, try, run}
+use Rattle.turkish.specs.Simple.Marks.{marked, yUm, sUn, yUz, sUnUz, lAr, nUz, DUr, cAsInA, yDU, ysA, ymUs, yken}
+use Rattle.turkish.specs.Simple.Stage.{person, branch1, branch2, branch3, branch4, branch5, branch6, branches, staged, stage, kept}
+use Rattle.turkish.specs.Simple.Postlude.{reserved, gained, appends, appendU, hard, harden, postlude}
 use Rattle.turkish.specs.WordPass.{pass}
 use Rattle.turkish.specs.Fronts.{endLength, mostRemoved, Alike, reachesReserved, SameAnswers}
 use Rattle.turkish.proofs.Laws.Outcome.{Post, unfit, fits}

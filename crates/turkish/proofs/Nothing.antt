@@ -15,10 +15,11 @@ use Rattle.utf8.specs.Steps.{same}
 use Rattle.utf8.proofs.Laws.Characters.{before-zero, before-step, before-back}
 use Rattle.turkish.specs.Letters.{text, any, has, starts}
 use Rattle.turkish.specs.Letters
-use Rattle.turkish.specs.Harmony.{vowels, vowel, partnerTable, partnersIn, partner, lastVowel, beforeLastVowel, harmony}
-use Rattle.turkish.specs.Grammar.{more, after, first, asking, among, markOf, mark, _or_, try, run}
-use Rattle.turkish.specs.Marks.{marked, yUm, sUn, yUz, sUnUz, lAr, nUz, DUr, cAsInA, yDU, ysA, ymUs, yken}
-use Rattle.turkish.specs.Stage.{branch1, branch2, branch3, branch4, branch5, branch6, branches, staged, stage, kept, keptLength}
+use Rattle.turkish.specs.Vowels.{vowels, vowel, lastVowel, beforeLastVowel}
+use Rattle.turkish.specs.Simple.Harmony.{partnerTable, partnersIn, partner, harmony}
+use Rattle.turkish.specs.Simple.Grammar.{more, after, first, asking, among, markOf, mark, _or_, try, run}
+use Rattle.turkish.specs.Simple.Marks.{marked, yUm, sUn, yUz, sUnUz, lAr, nUz, DUr, cAsInA, yDU, ysA, ymUs, yken}
+use Rattle.turkish.specs.Simple.Stage.{branch1, branch2, branch3, branch4, branch5, branch6, branches, staged, stage, kept, keptLength}
 use Rattle.turkish.specs.Calls.{chars, bytes, accepted}
 use Rattle.turkish.specs.Fronts.{leftEmpty, oneOf}
 use Rattle.turkish.proofs.Laws.Outcome.{Post, post-map, post-first, post-then}

@@ -7,8 +7,8 @@ use mathlib.Core.Bool.{Bool, true, false, cond}
 use mathlib.Core.List.{List, [], _∷_}
 use Rattle.encoding.proofs.Laws.Booleans.{cond-both}
 use Rattle.turkish.specs.Letters.{text, fromEnd, has, starts}
-use Rattle.turkish.specs.Harmony.{lastVowel}
-use Rattle.turkish.specs.Postlude.{reserved, gained, appends, appendU, hardenings, hardIn, hard, harden, postlude}
+use Rattle.turkish.specs.Vowels.{lastVowel}
+use Rattle.turkish.specs.Simple.Postlude.{reserved, gained, appends, appendU, hardenings, hardIn, hard, harden, postlude}
 
 -- what holds of ı, i, u, ü and of none holds of the vowel gained
 pub gained-elim : (P : ℕ → Type 0) (v : ℕ) → P (code "ı") → P (code "i") → P (code "u") → P (code "ü") → P 0 → P (gained v)

@@ -16,9 +16,10 @@ use Rattle.encoding.proofs.Laws.Encoding.{encode-one}
 use Rattle.utf8.proofs.Laws.Characters.{back-le}
 use Rattle.utf8.proofs.TextCharacters.{take-back}
 use Rattle.turkish.specs.Letters.{starts}
-use Rattle.turkish.specs.Harmony.{lastVowel, moreThanOneSyllable}
-use Rattle.turkish.specs.Stage.{stage, kept, keptLength}
-use Rattle.turkish.specs.Postlude.{reserved, gained, appends, appendU, Hardening, hardenings, hardIn, hard, harden, postlude}
+use Rattle.turkish.specs.Vowels.{lastVowel}
+use Rattle.turkish.specs.Simple.Harmony.{moreThanOneSyllable}
+use Rattle.turkish.specs.Simple.Stage.{stage, kept, keptLength}
+use Rattle.turkish.specs.Simple.Postlude.{reserved, gained, appends, appendU, Hardening, hardenings, hardIn, hard, harden, postlude}
 use Rattle.turkish.specs.WordPass.{foldChar, fold, Passed, pass}
 use Rattle.turkish.specs.Calls.{chars, bytes, accepted, stageText, stagePart, postludeText, foldText, passText}
 use Rattle.turkish.proofs.Laws.Tests.{every}

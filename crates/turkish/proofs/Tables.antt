@@ -12,9 +12,9 @@ use borrow.Author.Tests.{not-true, leb-true, eqb-true, eq-eqb}
 use Rattle.encoding.specs.Encoding.{encode, encodeAll, continuation}
 use Rattle.encoding.proofs.Laws.Booleans.{and-left, and-right, and-each}
 use Rattle.turkish.specs.Letters.{text, fromEnd, starts}
-use Rattle.turkish.specs.Marks.{marked, yUm, sUn, yUz, sUnUz, lAr, nUz, DUr, cAsInA, yDU, ysA, ymUs, yken}
-use Rattle.turkish.specs.Postlude.{hardenings, hardKeys}
-use Rattle.turkish.specs.Tables.{Table, tables, letters, whole}
+use Rattle.turkish.specs.Simple.Marks.{marked, yUm, sUn, yUz, sUnUz, lAr, nUz, DUr, cAsInA, yDU, ysA, ymUs, yken}
+use Rattle.turkish.specs.Simple.Postlude.{hardenings, hardKeys}
+use Rattle.turkish.specs.Simple.Tables.{Table, tables, letters, whole}
 use Rattle.turkish.specs.Calls.{bytes}
 use Rattle.turkish.proofs.Laws.Tests.{every, every-at, every-getD}
 

@@ -16,12 +16,12 @@ use Rattle.turkish.specs.Letters.{starts}
 use Rattle.turkish.specs.Snowball.{State, ahead, Result, done, failed, Direction, forward, backward, Command, routine, run}
 use Rattle.turkish.specs.Source as source
 use Rattle.turkish.specs.Answers.{called, stemmed, repaired}
-use Rattle.turkish.specs.Harmony.{harmony, moreThanOneSyllable}
-use Rattle.turkish.specs.Grammar.{optionalY, markOf}
-use Rattle.turkish.specs.Marks.{yUm, sUn, yUz, sUnUz, lAr, nUz, DUr, cAsInA, yDU, ysA, ymUs, yken}
-use Rattle.turkish.specs.Stage.{stage, kept}
-use Rattle.turkish.specs.Postlude.{reserved, appends, appendU, harden, postlude, postludeYes}
-use Rattle.turkish.specs.Tables.{Table, tables, letters}
+use Rattle.turkish.specs.Simple.Harmony.{harmony, moreThanOneSyllable}
+use Rattle.turkish.specs.Simple.Grammar.{optionalY, markOf}
+use Rattle.turkish.specs.Simple.Marks.{yUm, sUn, yUz, sUnUz, lAr, nUz, DUr, cAsInA, yDU, ysA, ymUs, yken}
+use Rattle.turkish.specs.Simple.Stage.{stage, kept}
+use Rattle.turkish.specs.Simple.Postlude.{reserved, appends, appendU, harden, postlude, postludeYes}
+use Rattle.turkish.specs.Simple.Tables.{Table, tables, letters}
 use Rattle.turkish.specs.Calls.{chars, bytes, limit, accepted, stagePart, stageCall, postludeText, postludeRefusal, postludeOut, foldText, foldRefusal, foldOut, passText, passRefusal, passOut}
 use Rattle.turkish.specs.Fronts.{mostRemoved, front, Pair, reachesReserved, passGives, SameAnswers, leftEmpty, oneOf}
 use Rattle.turkish.proofs.Source.Means.{settled, Means, takeIf}

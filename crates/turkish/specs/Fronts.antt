@@ -11,7 +11,7 @@ use Rattle.encoding.specs.Encoding.{encodeAll}
 use Rattle.utf8.specs.Characters.{back}
 use Rattle.utf8.specs.Steps.{same}
 use Rattle.turkish.specs.Letters.{text, fromEnd, has}
-use Rattle.turkish.specs.Harmony.{vowel, lastVowel, beforeLastVowel}
+use Rattle.turkish.specs.Vowels.{vowel, lastVowel, beforeLastVowel}
 use Rattle.turkish.specs.Answers.{syllableCheck, suffixStage}
 use Rattle.turkish.specs.WordPass.{Passed}
 use Rattle.turkish.specs.Calls.{chars, accepted, passCall, passOut}

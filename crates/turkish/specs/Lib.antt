@@ -1,16 +1,13 @@
--- What the stages mean, from Snowball's turkish.sbl as the Rust's comments carry it and from document 01, in reading order.
+-- What the calls give, in reading order: turkish.sbl's commands, its routines as the Rust's comments carry them, what they answer for a
+-- word, the pass and the fold, the calls with their refusals, and the terms of demand 3.
 -- A word is read from its end: a list of characters (code points) has the one nearest the cursor first.
 pub mod Letters
 pub mod Snowball
 pub mod Source
 pub mod Answers
-pub mod Harmony
-pub mod Grammar
-pub mod Marks
-pub mod Stage
-pub mod Postlude
-pub mod Tables
 pub mod WordPass
 pub mod Calls
--- the terms in which demand 3 is stated
+pub mod Vowels
 pub mod Fronts
+-- what need not be believed
+pub mod Simple

@@ -11,10 +11,10 @@ use lib.Dec.{eqb}
 use borrow.Author.Tests.{eqb-true}
 use Rattle.encoding.proofs.Laws.Booleans.{and-left, and-right, or-either, cond-cases, cond-test, cond-both}
 use Rattle.turkish.specs.Letters.{text, fromEnd, any, has, starts}
-use Rattle.turkish.specs.Harmony.{harmony}
-use Rattle.turkish.specs.Grammar.{Out, fail, after, first, asking, among, Mark, markOf, run}
-use Rattle.turkish.specs.Marks.{marked, yUm, sUn, yUz, sUnUz, lAr, nUz, DUr, cAsInA, yDU, ysA, ymUs, yken}
-use Rattle.turkish.specs.Stage.{branch1, branch2, branch3, branch4, branch5, branch6, branches}
+use Rattle.turkish.specs.Simple.Harmony.{harmony}
+use Rattle.turkish.specs.Simple.Grammar.{Out, fail, after, first, asking, among, Mark, markOf, run}
+use Rattle.turkish.specs.Simple.Marks.{marked, yUm, sUn, yUz, sUnUz, lAr, nUz, DUr, cAsInA, yDU, ysA, ymUs, yken}
+use Rattle.turkish.specs.Simple.Stage.{branch1, branch2, branch3, branch4, branch5, branch6, branches}
 use Rattle.turkish.proofs.Laws.Tests.{every}
 use Rattle.letters.specs.Ends.{isU, isA, isD, isKMN, mayEnd, someEnd}
 use Rattle.letters.specs.Numbered.{numbered, never, unharmonic, firstOf}

@@ -9,7 +9,8 @@ use borrow.Author.Tests.{ne-eqb}
 use Rattle.utf8.specs.Characters.{lastWidth, before, back}
 use Rattle.utf8.proofs.Laws.Characters.{before-zero, before-back, back-le}
 use Rattle.turkish.specs.Letters.{any, has, text}
-use Rattle.turkish.specs.Harmony.{vowels, vowel, lastVowel, beforeLastVowel, moreThanOneSyllable}
+use Rattle.turkish.specs.Vowels.{vowels, vowel, lastVowel, beforeLastVowel}
+use Rattle.turkish.specs.Simple.Harmony.{moreThanOneSyllable}
 use Rattle.letters.specs.declared.walk.LastVowel.{LastVowel}
 use Rattle.letters.specs.LastVowel.{toVowel, lastVowelOf}
 use Rattle.letters.proofs.Laws.Walk.{lastVowel-skips, lastVowel-stops}

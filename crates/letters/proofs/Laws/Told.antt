@@ -6,7 +6,7 @@ use mathlib.Core.List.{List, [], _∷_}
 use Rattle.utf8.specs.declared.cursor.Cursor.{Cursor}
 use Rattle.utf8.specs.Behind.{behind}
 use Rattle.encoding.proofs.Laws.Booleans.{cond-both}
-use Rattle.turkish.specs.Harmony.{harmony}
+use Rattle.turkish.specs.Simple.Harmony.{harmony}
 use Rattle.letters.specs.declared.harmony.Told.{Told}
 use Rattle.letters.specs.declared.seen.Seen.{Seen}
 use Rattle.letters.specs.Ends.{someEnd}

@@ -8,7 +8,8 @@ use native.Mathlib.Omega.{arith}
 use Rattle.utf8.specs.Characters.{lastWidth, lastChar, charAt, before}
 use Rattle.utf8.proofs.Laws.Characters.{before-zero, before-step, lastWidth-pos, lastWidth-four, lastWidth-le}
 use Rattle.turkish.specs.Letters.{any}
-use Rattle.turkish.specs.Harmony.{vowel, partner, lastVowel, beforeLastVowel, harmony}
+use Rattle.turkish.specs.Vowels.{vowel, lastVowel, beforeLastVowel}
+use Rattle.turkish.specs.Simple.Harmony.{partner, harmony}
 
 -- ---- one turn ----
 

@@ -14,8 +14,8 @@ use Rattle.utf8.specs.Steps.{moveTo}
 use Rattle.utf8.specs.Behind.{behind, backBy, Open}
 use Rattle.utf8.proofs.Laws.Behind.{behind-backBy, backBy-add, moveTo-backBy, open-backBy}
 use Rattle.turkish.specs.Letters.{starts}
-use Rattle.turkish.specs.Harmony.{harmony}
-use Rattle.turkish.specs.Grammar.{Out, fail, took, more, after, first, asking, among, optionalY, markOf}
+use Rattle.turkish.specs.Simple.Harmony.{harmony}
+use Rattle.turkish.specs.Simple.Grammar.{Out, fail, took, more, after, first, asking, among, optionalY, markOf}
 use Rattle.letters.specs.declared.among.Among.{Among}
 use Rattle.letters.specs.declared.among.Among.the-variants.{Key, Nothing}
 use Rattle.marks.specs.declared.marked.Marked.the-variants.{To, Fails}

@@ -11,8 +11,8 @@ use Rattle.utf8.specs.declared.characters.Read.{Read}
 use Rattle.utf8.specs.Behind.{readBack, behind, backBy, Open}
 use Rattle.utf8.proofs.Laws.Behind.{backBy-zero}
 use Rattle.turkish.specs.Letters.{text, any, has}
-use Rattle.turkish.specs.Harmony.{vowels, vowel}
-use Rattle.turkish.specs.Grammar.{fail, took, optionalY}
+use Rattle.turkish.specs.Vowels.{vowels, vowel}
+use Rattle.turkish.specs.Simple.Grammar.{fail, took, optionalY}
 use Rattle.letters.specs.Passed.{passedTo, notPassed, passes}
 use Rattle.letters.proofs.Laws.Part.{partFrom}
 use Rattle.letters.proofs.Laws.Reads.{first-ch, first-place, second-ch}

@@ -23,9 +23,9 @@ use Rattle.utf8.proofs.Laws.BehindSteps.{stepBehind, previousChar-behind, previ
 use Rattle.lent.specs.declared.Over.{Over}
 use Rattle.lent.specs.Over.{over}
 use Rattle.turkish.specs.Letters.{text, fromEnd, any, has, starts}
-use Rattle.turkish.specs.Harmony.{vowels, vowel}
-use Rattle.turkish.specs.Grammar.{fail, took, more, after, asking, among, optionalY, markOf}
-use Rattle.turkish.specs.Marks.{marked, yken}
+use Rattle.turkish.specs.Vowels.{vowels, vowel}
+use Rattle.turkish.specs.Simple.Grammar.{fail, took, more, after, asking, among, optionalY, markOf}
+use Rattle.turkish.specs.Simple.Marks.{marked, yken}
 use Rattle.letters.specs.declared.passed.Passed.{Passed}
 use Rattle.letters.specs.Passed.{passedTo, notPassed, passes}
 use Rattle.marks.proofs.Laws.OptionalY.{optionalY-getD}

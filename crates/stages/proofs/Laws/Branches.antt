@@ -12,8 +12,8 @@ use Rattle.utf8.specs.Characters.{back}
 use Rattle.utf8.specs.Steps.{moveTo}
 use Rattle.utf8.specs.Behind.{behind, backBy, deleted, Open}
 use Rattle.utf8.proofs.Laws.Behind.{behind-backBy, backBy-add, backBy-zero, open-backBy, open-deleted, behind-before, backBy-back, open-start}
-use Rattle.turkish.specs.Grammar.{Out, fail, took, more, after, first, markOf, Command, mark, _or_, run}
-use Rattle.turkish.specs.Stage.{person, branches, staged, stage, keptLength}
+use Rattle.turkish.specs.Simple.Grammar.{Out, fail, took, more, after, first, markOf, Command, mark, _or_, run}
+use Rattle.turkish.specs.Simple.Stage.{person, branches, staged, stage, keptLength}
 use Rattle.turkish.specs.Calls.{chars}
 use Rattle.turkish.proofs.Laws.Outcome.{Flagged, unfit, fits}
 use Rattle.marks.specs.declared.marked.Marked.{Marked}

@@ -14,9 +14,9 @@ use Rattle.encoding.specs.Text.{TextOf}
 use Rattle.utf8.proofs.Laws.Characters.{back-le, before-back}
 use Rattle.turkish.specs.declared.answer.PostludeAnswer.{PostludeAnswer}
 use Rattle.turkish.specs.declared.answer.PassAnswer.{PassAnswer}
-use Rattle.turkish.specs.Harmony.{moreThanOneSyllable}
-use Rattle.turkish.specs.Stage.{stage, kept, keptLength}
-use Rattle.turkish.specs.Postlude.{postlude}
+use Rattle.turkish.specs.Simple.Harmony.{moreThanOneSyllable}
+use Rattle.turkish.specs.Simple.Stage.{stage, kept, keptLength}
+use Rattle.turkish.specs.Simple.Postlude.{postlude}
 use Rattle.turkish.specs.Calls.{chars, bytes, accepted, written, refusalInto}
 use Rattle.turkish.specs.Calls.{postludeText, postludeRefusal, postludeCall, postludeOut, passText, passRefusal, passCall, passOut}
 use Rattle.turkish.proofs.Source.Calls.{postludeOf-yes, simplePass, pass-simple, postludeText-simple}

@@ -8,9 +8,10 @@ use lib.ListN.{length, drop}
 use lib.Dec.{eqb}
 use Rattle.encoding.proofs.Laws.Booleans.{and-left, and-right, and-false}
 use Rattle.turkish.specs.Letters.{starts}
-use Rattle.turkish.specs.Harmony.{vowel, harmony}
-use Rattle.turkish.specs.Grammar.{Out, fail, took, after, among, optionalY, markOf, Command, mark, _then_, _or_, nothing, unset, try, run}
-use Rattle.turkish.specs.Stage.{person, branch1, branch2, branch3, branch4, branch5, branch6}
+use Rattle.turkish.specs.Vowels.{vowel}
+use Rattle.turkish.specs.Simple.Harmony.{harmony}
+use Rattle.turkish.specs.Simple.Grammar.{Out, fail, took, after, among, optionalY, markOf, Command, mark, _then_, _or_, nothing, unset, try, run}
+use Rattle.turkish.specs.Simple.Stage.{person, branch1, branch2, branch3, branch4, branch5, branch6}
 use Rattle.turkish.proofs.Laws.Outcome.{Flagged, unfit, fits, post-map, post-first, post-asking, post-cond, post-more, post-then}
 
 -- ---- a flag left true ----

@@ -11,9 +11,10 @@ use borrow.Author.Tests.{eqb-true, eq-eqb}
 use Rattle.utf8.specs.Steps.{same}
 use Rattle.encoding.proofs.Laws.Booleans.{and-left, and-right}
 use Rattle.turkish.specs.Letters.{starts}
-use Rattle.turkish.specs.Harmony.{vowel, harmony}
-use Rattle.turkish.specs.Grammar.{Out, took, among, optionalY, Mark, markOf, Command, mark, _then_, _or_, nothing, unset, run}
-use Rattle.turkish.specs.Stage.{branches, staged, stage}
+use Rattle.turkish.specs.Vowels.{vowel}
+use Rattle.turkish.specs.Simple.Harmony.{harmony}
+use Rattle.turkish.specs.Simple.Grammar.{Out, took, among, optionalY, Mark, markOf, Command, mark, _then_, _or_, nothing, unset, run}
+use Rattle.turkish.specs.Simple.Stage.{branches, staged, stage}
 use Rattle.turkish.specs.Fronts.{oneOf}
 use Rattle.turkish.proofs.Laws.Outcome.{Post, unfit, fits, post-map, post-first, post-cond, post-asking, post-then}
 use Rattle.turkish.proofs.Laws.Tests.{every}

@@ -3,7 +3,7 @@
 use Prim.Native.Nat.{ℕ, _+_}
 use mathlib.Core.Path.{_≡_, refl}
 use mathlib.Core.Bool.{Bool, true, false, cond, _&&_}
-use Rattle.turkish.specs.Grammar.{Out, fail, took, more, after, first, asking}
+use Rattle.turkish.specs.Simple.Grammar.{Out, fail, took, more, after, first, asking}
 
 -- an answer that fails, or of whose number of characters and flag P holds
 pub data Gives (P : ℕ → Bool → Type 0) : Out → Type 0 where

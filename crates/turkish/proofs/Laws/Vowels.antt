@@ -9,7 +9,8 @@ use lib.Dec.{eqb}
 use borrow.Author.Tests.{eqb-true, eq-eqb, ne-eqb}
 use Rattle.encoding.proofs.Laws.Booleans.{and-left, and-right, cond-test}
 use Rattle.turkish.specs.Letters.{text, any, has}
-use Rattle.turkish.specs.Harmony.{vowels, vowel, Partners, partnerTable, partnersIn, partner, lastVowel, beforeLastVowel}
+use Rattle.turkish.specs.Vowels.{vowels, vowel, lastVowel, beforeLastVowel}
+use Rattle.turkish.specs.Simple.Harmony.{Partners, partnerTable, partnersIn, partner}
 use Rattle.turkish.proofs.Laws.Tests.{every, every-at}
 
 -- where some character passes a test, one of them does

@@ -12,9 +12,9 @@ use Rattle.turkish.specs.Answers.{syllableCheck, suffixStage, postludeOf
 use Rattle.turkish.specs.WordPass.{Passed, passStage, pass}
 use Rattle.turkish.specs.Calls.{chars, bytes, refusal, accepted, syllableCall, stageText, stagePart, stageCall, postludeText, postludeRefusal, postludeCall}
 use Rattle.turkish.specs.Fronts.{oneOf, reachesReserved}
-use Rattle.turkish.specs.Harmony.{moreThanOneSyllable}
-use Rattle.turkish.specs.Stage.{stage, kept}
-use Rattle.turkish.specs.Postlude.{reserved, postlude, postludeYes}
+use Rattle.turkish.specs.Simple.Harmony.{moreThanOneSyllable}
+use Rattle.turkish.specs.Simple.Stage.{stage, kept}
+use Rattle.turkish.specs.Simple.Postlude.{reserved, postlude, postludeYes}
 use Rattle.turkish.proofs.Source.Syllables.{syllableCheck-simple}
 use Rattle.turkish.proofs.Source.Stage.{suffixStage-simple}
 use Rattle.turkish.proofs.Source.Postlude.{postludeOf-simple}

@@ -8,8 +8,9 @@ use lib.ListN.{length, drop}
 use lib.Dec.{eqb}
 use borrow.Author.Tests.{eqb-true}
 use Rattle.turkish.specs.Letters.{text, fromEnd, any, has, starts}
-use Rattle.turkish.specs.Harmony.{vowels, vowel, partnerTable, partnersIn, partner, lastVowel, beforeLastVowel, harmony}
-use Rattle.turkish.specs.Grammar.{Out, fail, took, more, after, first, optionalY}
+use Rattle.turkish.specs.Vowels.{vowels, vowel, lastVowel, beforeLastVowel}
+use Rattle.turkish.specs.Simple.Harmony.{partnerTable, partnersIn, partner, harmony}
+use Rattle.turkish.specs.Simple.Grammar.{Out, fail, took, more, after, first, optionalY}
 use Rattle.turkish.specs.Snowball.{isIn, isLeft, backward, letters, _then_, _or_, test, not, goto, next, literal, grouping}
 use Rattle.turkish.specs.Source.{vowel1, vowel2, vowel3, vowel4, vowel5, vowel6, check-vowel-harmony, mark-suffix-with-optional-y-consonant}
 use Rattle.turkish.specs.Source as Source

@@ -14,9 +14,9 @@ use borrow.Author.Tests.{eqb-true}
 use Rattle.turkish.specs.Letters.{text, fromEnd, any, has, starts}
 use Rattle.turkish.specs.Snowball.{State, ahead, place, moveTo, withSlice, withFound, Result, done, failed, andThen, carriedOut, readIf, isIn, backward, letters, longer, longest, keyAhead, fits, withText, sliceFrom, inserted, _then_, _or_, test, goto, literal, grouping, run}
 use Rattle.turkish.specs.Source as source
-use Rattle.turkish.specs.Harmony.{vowels, vowel, lastVowel, beforeLastVowel}
-use Rattle.turkish.specs.Grammar.{Out, fail, first}
-use Rattle.turkish.specs.Postlude.{gained, appends, appendU, hardenings, hardIn, hard, harden}
+use Rattle.turkish.specs.Vowels.{vowels, vowel, lastVowel, beforeLastVowel}
+use Rattle.turkish.specs.Simple.Grammar.{Out, fail, first}
+use Rattle.turkish.specs.Simple.Postlude.{gained, appends, appendU, hardenings, hardIn, hard, harden}
 use Rattle.turkish.proofs.Laws.Tests.{eqb-comm}
 use Rattle.turkish.proofs.Source.Means.{placed, peeked, takeIf, means-or, means-test, means-literal}
 use Rattle.turkish.proofs.Source.LastVowel.{lastVowel-none, means-test-goto-vowel}

@@ -10,8 +10,8 @@ use lib.ListN.{drop}
 use Rattle.turkish.specs.Letters.{text, any}
 use Rattle.turkish.specs.Snowball.{ahead, isIn, Direction, Command, _then_, test, goto, grouping}
 use Rattle.turkish.specs.Source as source
-use Rattle.turkish.specs.Harmony.{vowels, vowel, lastVowel, beforeLastVowel}
-use Rattle.turkish.specs.Grammar.{Out, fail, took, more, after, first}
+use Rattle.turkish.specs.Vowels.{vowels, vowel, lastVowel, beforeLastVowel}
+use Rattle.turkish.specs.Simple.Grammar.{Out, fail, took, more, after, first}
 use Rattle.turkish.proofs.Source.Means.{placed, Means, peeked, peeked-more, takeIf, sought, means-then, means-test, means-grouping, means-goto}
 
 -- the walk to the last vowel over the characters ahead

@@ -11,7 +11,7 @@ use lib.Seq.{drop-drop}
 use Rattle.turkish.specs.Letters.{text, starts}
 use Rattle.turkish.specs.Snowball.{State, ahead, moveTo, Result, done, failed, andThen, orElse, tested, negated, readIf, isLeft, isIn, Direction, letters, longest, keyAhead, fits, goPast, Command, _then_, _or_, test, not, goto, gopast, succeed, next, literal, grouping, among, enough, run}
 use Rattle.turkish.specs.Answers.{succeeded, left}
-use Rattle.turkish.specs.Grammar.{Out, fail, took, more, after, first}
+use Rattle.turkish.specs.Simple.Grammar.{Out, fail, took, more, after, first}
 
 -- ---- results and answers ----
 

@@ -6,7 +6,7 @@ use mathlib.Core.List.{List, [], reverse, reverse-reverse}
 use Rattle.turkish.specs.Snowball.{State, ahead, moveTo, withStrlen, Result, done, failed, andThen, negated, eitherWay, carriedOut, forward, backward, turned, turnedBack, Command, _then_, «do», backwards, run}
 use Rattle.turkish.specs.Source as source
 use Rattle.turkish.specs.Answers.{entered, called, succeeded, left, repaired, postludeOf}
-use Rattle.turkish.specs.Postlude.{reserved, appendU, harden, postlude, postludeYes}
+use Rattle.turkish.specs.Simple.Postlude.{reserved, appendU, harden, postlude, postludeYes}
 use Rattle.turkish.proofs.Source.Settled.{negated-settled}
 use Rattle.turkish.proofs.Source.Reserved.{reserved-run}
 use Rattle.turkish.proofs.Source.LastConsonant.{reworked, append-run, harden-run}

@@ -16,8 +16,8 @@ use Rattle.utf8.specs.Steps.{same}
 use Rattle.encoding.proofs.Laws.Booleans.{and-left, and-right}
 use Rattle.encoding.proofs.Laws.Decoding.{length-encode-pos}
 use Rattle.turkish.specs.Letters.{text, fromEnd, starts}
-use Rattle.turkish.specs.Grammar.{Out, more, first}
-use Rattle.turkish.specs.Postlude.{reserved}
+use Rattle.turkish.specs.Simple.Grammar.{Out, more, first}
+use Rattle.turkish.specs.Simple.Postlude.{reserved}
 use Rattle.turkish.specs.Snowball.{State, ahead, limit, moveTo, withStrlen, Result, done, failed, andThen, orElse, tested, forward, letters}
 use Rattle.turkish.specs.Snowball.{Command, _then_, test, gopast, literal, strlen=, strlen==limit, run}
 use Rattle.turkish.specs.Source.{is-reserved-word}

@@ -9,9 +9,9 @@ use lib.ListN.{length, take, drop, length-drop}
 use lib.Seq.{drop-drop}
 use lib.Dec.{ltb, leb}
 use borrow.Author.Tests.{leb-true}
-use Rattle.turkish.specs.Grammar.{Out, fail, took, more, after, first}
-use Rattle.turkish.specs.Grammar as Grammar
-use Rattle.turkish.specs.Stage.{person, branch1, branch2, branch3, branch4, branch5, branch6, branches, staged, stage, kept}
+use Rattle.turkish.specs.Simple.Grammar.{Out, fail, took, more, after, first}
+use Rattle.turkish.specs.Simple.Grammar as Grammar
+use Rattle.turkish.specs.Simple.Stage.{person, branch1, branch2, branch3, branch4, branch5, branch6, branches, staged, stage, kept}
 use Rattle.turkish.specs.Snowball.{State, ahead, place, moveTo, withSlice, withFlag, withText, Result, done, failed, andThen, orElse, placeAfter, sliceFrom, backward, Command, _then_, _or_, try, succeed, ⟦, ⟧, delete, set, unset, run}
 use Rattle.turkish.specs.Source.{mark-yUm, mark-sUn, mark-yUz, mark-sUnUz, mark-lAr, mark-nUz, mark-DUr, mark-cAsInA, mark-yDU, mark-ysA, mark-ymUs-, mark-yken, stem-nominal-verb-suffixes}
 use Rattle.turkish.specs.Answers.{entered, called, succeeded, left, stemmed, suffixStage}

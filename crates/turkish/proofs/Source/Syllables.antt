@@ -10,8 +10,9 @@ use lib.Dec.{eqb}
 use borrow.Author.Tests.{ne-eqb}
 use Rattle.encoding.proofs.Laws.Booleans.{cond-cases, cond-both}
 use Rattle.turkish.specs.Letters.{text, any}
-use Rattle.turkish.specs.Harmony.{vowels, vowel, beforeLastVowel, moreThanOneSyllable}
-use Rattle.turkish.specs.Grammar.{Out, fail, took, more, first}
+use Rattle.turkish.specs.Vowels.{vowels, vowel, beforeLastVowel}
+use Rattle.turkish.specs.Simple.Harmony.{moreThanOneSyllable}
+use Rattle.turkish.specs.Simple.Grammar.{Out, fail, took, more, first}
 use Rattle.turkish.specs.Snowball.{State, ahead, moveTo, Result, done, failed, isIn, oneTurn, Direction, forward, Command, atLeast, atleast, enough, run}
 use Rattle.turkish.specs.Source.{vowel as vowelLetters, more-than-one-syllable-word}
 use Rattle.turkish.specs.Answers.{entered, called, succeeded, syllableCheck}

@@ -6,7 +6,7 @@ use native.Mathlib.Omega.{arith}
 use borrow.Author.Needs.{needs}
 use Rattle.utf8.specs.Characters.{before}
 use Rattle.turkish.specs.Letters.{any}
-use Rattle.turkish.specs.Harmony.{harmony}
+use Rattle.turkish.specs.Simple.Harmony.{harmony}
 use Rattle.letters.specs.Sounds.{partners}
 use Rattle.letters.proofs.Laws.Sounds.{soundOf-noVowel, soundOf-aVowel, soundOf-partners}
 use Rattle.letters.proofs.Laws.Walk.{lastWidth-bounds, before-charAt, before-start, any-skips, any-stops, any-none, harmony-skips, harmony-stops, harmony-none}

@@ -2,7 +2,7 @@
 -- from limit_backward on. Assumes nothing.
 use mathlib.Core.Path.{ap, _∙_}
 use borrow.Author.Needs.{needs}
-use Rattle.turkish.specs.Harmony.{harmony}
+use Rattle.turkish.specs.Simple.Harmony.{harmony}
 use Rattle.letters.proofs.Laws.Part.{before-part, low-length-le, low-cursor-le, cursor-part-le}
 use Rattle.letters.proofs.Laws.Told.{hears-asked, toldAt-harmony}
 use Rattle.letters.proofs.harmony.hear.Statement.{statement}

@@ -1,6 +1,6 @@
 -- `marks::mark::find_yDU` meets its contract: the table computes to yDU's keys. Assumes nothing.
 use Rattle.turkish.specs.Letters.{text, fromEnd}
-use Rattle.turkish.specs.Marks.{marked, yDU}
+use Rattle.turkish.specs.Simple.Marks.{marked, yDU}
 use Rattle.letters.specs.Keys.{upToZero, row, rowsWithin, rows}
 use Rattle.letters.specs.Numbered.{numbered, tabled}
 use borrow.Author.Needs.{needs}

@@ -4,8 +4,8 @@ use Prim.Native.Nat.{ℕ}
 use mathlib.Core.Path.{sym, ap, _∙_}
 use denote.Ref.{now}
 use Rattle.utf8.specs.Behind.{behind}
-use Rattle.turkish.specs.Grammar.{markOf}
-use Rattle.turkish.specs.Marks.{marked, yken}
+use Rattle.turkish.specs.Simple.Grammar.{markOf}
+use Rattle.turkish.specs.Simple.Marks.{marked, yken}
 use Rattle.letters.specs.Passed.{notPassed, passes}
 use Rattle.letters.specs.Numbered.{numbered, unharmonic, keyedBy}
 use Rattle.marks.proofs.Laws.Marks.{tabled-found, keyed-nothing, keyed-open, keyed-joined, keyed-alone}

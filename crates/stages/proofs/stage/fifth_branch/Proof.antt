@@ -3,9 +3,9 @@ use mathlib.Core.Path.{sym, ap, _∙_}
 use mathlib.Core.List.{[], _∷_}
 use borrow.Author.Needs.{needs}
 use borrow.Author.Tests.{not-true}
-use Rattle.turkish.specs.Grammar.{markOf, run, mark, try}
-use Rattle.turkish.specs.Marks.{ymUs}
-use Rattle.turkish.specs.Stage.{branch5}
+use Rattle.turkish.specs.Simple.Grammar.{markOf, run, mark, try}
+use Rattle.turkish.specs.Simple.Marks.{ymUs}
+use Rattle.turkish.specs.Simple.Stage.{branch5}
 use Rattle.letters.specs.Numbered.{numbered}
 use Rattle.marks.specs.Reach.{reach}
 use Rattle.letters.proofs.Laws.Told.{hears-unasked}

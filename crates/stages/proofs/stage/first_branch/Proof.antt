@@ -3,7 +3,7 @@ use mathlib.Core.Path.{sym, ap, _∙_}
 use mathlib.Core.List.{[], _∷_}
 use borrow.Author.Tests.{not-true}
 use borrow.Author.Needs.{needs}
-use Rattle.turkish.specs.Stage.{branch1}
+use Rattle.turkish.specs.Simple.Stage.{branch1}
 use Rattle.letters.specs.Numbered.{numbered}
 use Rattle.marks.specs.Reach.{reach}
 use Rattle.stages.proofs.Laws.Branches.{someEnd-sees, group-four, cut-none, cut-fails, cut-reach}

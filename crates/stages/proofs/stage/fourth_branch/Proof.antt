@@ -1,9 +1,9 @@
 -- `stages::stage::fourth_branch` meets its contract: what must follow nUz goes on from where that reaches. Assumes nothing.
 use mathlib.Core.Path.{ap, _∙_}
 use borrow.Author.Needs.{needs}
-use Rattle.turkish.specs.Grammar.{run, mark, _or_}
-use Rattle.turkish.specs.Marks.{yDU, ysA}
-use Rattle.turkish.specs.Stage.{branch4}
+use Rattle.turkish.specs.Simple.Grammar.{run, mark, _or_}
+use Rattle.turkish.specs.Simple.Marks.{yDU, ysA}
+use Rattle.turkish.specs.Simple.Stage.{branch4}
 use Rattle.letters.specs.Numbered.{numbered}
 use Rattle.marks.specs.Reach.{reach}
 use Rattle.letters.proofs.Laws.Told.{hears-unasked}

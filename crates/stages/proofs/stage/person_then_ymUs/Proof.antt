@@ -3,8 +3,8 @@ use mathlib.Core.Path.{sym, ap, _∙_}
 use denote.Ref.{now}
 use lib.ListN.{drop}
 use Rattle.utf8.specs.Behind.{behind}
-use Rattle.turkish.specs.Grammar.{Out, after, markOf, run}
-use Rattle.turkish.specs.Marks.{ymUs}
+use Rattle.turkish.specs.Simple.Grammar.{Out, after, markOf, run}
+use Rattle.turkish.specs.Simple.Marks.{ymUs}
 use Rattle.letters.specs.Numbered.{numbered}
 use Rattle.marks.specs.Reach.{reach}
 use Rattle.letters.proofs.Laws.Told.{hears-unasked}

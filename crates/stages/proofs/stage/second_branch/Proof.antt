@@ -1,8 +1,8 @@
 -- `stages::stage::second_branch` meets its contract: what follows cAsInA goes on from where that reaches. Assumes nothing.
 use borrow.Author.Needs.{needs}
-use Rattle.turkish.specs.Grammar.{run, mark, _then_}
-use Rattle.turkish.specs.Marks.{ymUs}
-use Rattle.turkish.specs.Stage.{person, branch2}
+use Rattle.turkish.specs.Simple.Grammar.{run, mark, _then_}
+use Rattle.turkish.specs.Simple.Marks.{ymUs}
+use Rattle.turkish.specs.Simple.Stage.{person, branch2}
 use Rattle.letters.specs.Numbered.{numbered}
 use Rattle.stages.proofs.Laws.Branches.{open-reach, after-fails, then-fails, then-cut}
 use Rattle.stages.proofs.stage.second_branch.Statement.{statement}

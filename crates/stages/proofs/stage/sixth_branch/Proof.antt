@@ -1,8 +1,8 @@
 -- `stages::stage::sixth_branch` meets its contract: a person's ending or nothing and ymUs_ are tried whole from where DUr reaches, after its deletion. Assumes nothing.
 use borrow.Author.Needs.{needs}
-use Rattle.turkish.specs.Grammar.{run, mark, _then_, try}
-use Rattle.turkish.specs.Marks.{ymUs}
-use Rattle.turkish.specs.Stage.{person, branch6}
+use Rattle.turkish.specs.Simple.Grammar.{run, mark, _then_, try}
+use Rattle.turkish.specs.Simple.Marks.{ymUs}
+use Rattle.turkish.specs.Simple.Stage.{person, branch6}
 use Rattle.letters.specs.Numbered.{numbered}
 use Rattle.stages.proofs.Laws.Branches.{open-cut, after-fails, try-reach, try-fails}
 use Rattle.stages.proofs.stage.sixth_branch.Statement.{statement}

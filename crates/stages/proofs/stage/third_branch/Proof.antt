@@ -1,9 +1,9 @@
 -- `stages::stage::third_branch` meets its contract: what may follow lAr is tried from where that reaches, after its deletion. Assumes nothing.
 use mathlib.Core.Path.{ap, _∙_}
 use borrow.Author.Needs.{needs}
-use Rattle.turkish.specs.Grammar.{run, mark, _or_, try}
-use Rattle.turkish.specs.Marks.{DUr, yDU, ysA, ymUs}
-use Rattle.turkish.specs.Stage.{branch3}
+use Rattle.turkish.specs.Simple.Grammar.{run, mark, _or_, try}
+use Rattle.turkish.specs.Simple.Marks.{DUr, yDU, ysA, ymUs}
+use Rattle.turkish.specs.Simple.Stage.{branch3}
 use Rattle.letters.specs.Numbered.{numbered}
 use Rattle.marks.specs.Reach.{triedTo}
 use Rattle.stages.proofs.Laws.Branches.{open-cut, after-fails, try-cut, cut-unset, group-four}

@@ -6,9 +6,9 @@ use mathlib.Core.Bool.{Bool, true, _&&_}
 use mathlib.Core.List.{List, [], _∷_}
 use lib.ListN.{length}
 use lib.Dec.{ltb, leb}
-use Rattle.turkish.specs.Grammar.{Mark}
-use Rattle.turkish.specs.Marks.{yUm, sUn, yUz, sUnUz, lAr, nUz, DUr, cAsInA, yDU, ysA, ymUs, yken}
-use Rattle.turkish.specs.Postlude.{hardKeys}
+use Rattle.turkish.specs.Simple.Grammar.{Mark}
+use Rattle.turkish.specs.Simple.Marks.{yUm, sUn, yUz, sUnUz, lAr, nUz, DUr, cAsInA, yDU, ysA, ymUs, yken}
+use Rattle.turkish.specs.Simple.Postlude.{hardKeys}
 
 -- the keys, from their ends, and the characters of the longest
 pub record Table : Type 0 where

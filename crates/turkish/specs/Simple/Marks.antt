@@ -5,7 +5,7 @@ use mathlib.Core.Bool.{Bool, true, false}
 use mathlib.Core.List.{List, [], _∷_, map}
 use Rattle.turkish.specs.Letters.{fromEnd}
 use Rattle.turkish.specs.Source.{A-12, A-13, A-14, A-15, A-16, A-17, A-18, A-19, A-20, A-21, A-22}
-use Rattle.turkish.specs.Grammar.{Mark}
+use Rattle.turkish.specs.Simple.Grammar.{Mark}
 
 unfoldable pub marked : Bool → List String → Bool → Mark
 marked harmonic keys joins = record { harmonic = harmonic; keys = map fromEnd keys; joins = joins }

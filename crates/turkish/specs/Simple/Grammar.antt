@@ -1,12 +1,13 @@
--- Snowball's commands as far as the suffix stage uses them, and their one interpreter. A command reads the characters before the
--- cursor and answers how many it takes, or that it fails. Assumes nothing.
+-- The suffix stage's commands in the simple form, and their one interpreter: a command reads the characters before the cursor and
+-- answers how many it takes, or that it fails. Assumes nothing.
 use Prim.Native.Nat.{ℕ, _+_}
 use mathlib.Core.Bool.{Bool, true, false, cond, not, _&&_, _||_}
 use mathlib.Core.List.{List, [], _∷_}
 use lib.ListN.{length, drop}
 use lib.Dec.{eqb}
 use Rattle.turkish.specs.Letters.{starts}
-use Rattle.turkish.specs.Harmony.{vowel, harmony}
+use Rattle.turkish.specs.Vowels.{vowel}
+use Rattle.turkish.specs.Simple.Harmony.{harmony}
 
 -- a command's answer: it fails, or takes so many characters and leaves `continue_stemming_noun_suffixes` (the flag) so
 pub data Out : Type 0 where
@@ -32,13 +33,13 @@ unfoldable pub asking : Bool → Out → Out
 asking true q = q
 asking false q = fail
 
--- the characters as far as a key goes, from the table's first key that ends the text (`among`; `find_among_b`)
+-- the characters as far as a key goes, from the table's first key that ends the text
 unfoldable pub among : List (List ℕ) → List ℕ → Out
 among [] cs = fail
 among (k ∷ ks) cs = cond (starts k cs) (took (length k) true) (among ks cs)
 
--- an optional y (`mark_suffix_with_optional_y_consonant`, lines 153 to 156): a y is taken if a vowel stands before it; without a y
--- the second character back must be a vowel. Either way the second character back is a vowel.
+-- an optional y: a y is taken if a vowel stands before it; without a y the second character back must be a vowel. Either way the
+-- second character back is a vowel.
 unfoldable pub optionalY : ℕ → List ℕ → Out
 optionalY y [] = fail
 optionalY y (c ∷ []) = fail
@@ -56,8 +57,8 @@ markOf m cs =
     asking (not (m .harmonic) || harmony cs)
     (after (among (m .keys) cs) (λ k. cond (m .joins) (optionalY 0x79 (drop k cs)) (took 0 true)))
 
--- Snowball's commands: a mark; one after the other; the first of two that fits; `true`; and `unset` of the flag.
--- A `delete` stands nowhere: nothing that follows one can fail, so all that a branch takes is deleted.
+-- a mark; one after the other; the first of two that fits; nothing; and `unset` of the flag. A deletion stands nowhere: nothing that
+-- follows one can fail, so all that a branch takes is deleted.
 infixr 35 _then_
 infixr 30 _or_
 pub data Command : Type 0 where

@@ -1,4 +1,4 @@
--- The postlude (turkish.sbl, lines 415 to 459; document 01, "Postlude"). Assumes nothing.
+-- The postlude in the simple form (document 01, "Postlude"). Assumes nothing.
 use Prim.Native.Nat.{ℕ}
 use Prim.Native.Char.{code}
 use mathlib.Core.Bool.{Bool, false, cond, not, _&&_, _||_}
@@ -6,9 +6,9 @@ use mathlib.Core.List.{List, [], _∷_, map}
 use lib.Dec.{eqb}
 use Rattle.utf8.specs.Steps.{same}
 use Rattle.turkish.specs.Letters.{text, fromEnd, has, starts}
-use Rattle.turkish.specs.Harmony.{lastVowel}
+use Rattle.turkish.specs.Vowels.{lastVowel}
 
--- exactly `ad` or `soyad` (`is_reserved_word`, lines 449 to 452)
+-- exactly `ad` or `soyad`
 unfoldable pub reserved : List ℕ → Bool
 reserved cs = same cs (fromEnd "ad") || same cs (fromEnd "soyad")
 
@@ -25,7 +25,7 @@ unfoldable pub appends : List ℕ → Bool
 appends [] = false
 appends (c ∷ cs) = has (text "dg") c && not (eqb (gained (lastVowel cs)) 0)
 
--- gains a vowel (`append_U_to_stems_ending_with_d_or_g`, lines 430 to 438)
+-- gains a vowel
 unfoldable pub appendU : List ℕ → List ℕ
 appendU [] = []
 appendU (c ∷ cs) = cond (appends (c ∷ cs)) (gained (lastVowel cs) ∷ c ∷ cs) (c ∷ cs)
@@ -57,12 +57,12 @@ hardIn (h ∷ hs) c = cond (starts (h .key) (c ∷ [])) (h .becomes) (hardIn hs 
 unfoldable pub hard : ℕ → ℕ
 hard c = hardIn hardenings c
 
--- a final b, c, d or ğ hardens (`post_process_last_consonants`, lines 415 to 420)
+-- a final b, c, d or ğ hardens
 unfoldable pub harden : List ℕ → List ℕ
 harden [] = []
 harden (c ∷ cs) = hard c ∷ cs
 
--- lines 455 to 459: a reserved word stays and the answer is no
+-- a reserved word stays and the answer is no
 unfoldable pub postlude : List ℕ → List ℕ
 postlude cs = cond (reserved cs) cs (harden (appendU cs))
 

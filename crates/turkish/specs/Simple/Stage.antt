@@ -1,13 +1,13 @@
--- The suffix stage (turkish.sbl, `stem_nominal_verb_suffixes`, lines 311 to 328; document 01, "Suffix stage"). The routine that
--- turkish.sbl calls mark_ymUs_ is ymUs here. Assumes nothing.
+-- The suffix stage in the simple form (document 01, "Suffix stage"): six branches of marks, and how many characters they take. The
+-- routine that turkish.sbl calls mark_ymUs_ is ymUs here. Assumes nothing.
 use Prim.Native.Nat.{ℕ}
 use mathlib.Core.Bool.{Bool, true, false}
 use mathlib.Core.List.{List}
 use lib.ListN.{length, drop}
 use Rattle.utf8.specs.Characters.{back}
-use Rattle.turkish.specs.Grammar.{Out, fail, took, Command, mark, _then_, _or_, nothing, unset, try, run}
+use Rattle.turkish.specs.Simple.Grammar.{Out, fail, took, Command, mark, _then_, _or_, nothing, unset, try, run}
 use Rattle.turkish.specs.Calls.{chars}
-use Rattle.turkish.specs.Marks.{yUm, sUn, yUz, sUnUz, lAr, nUz, DUr, cAsInA, yDU, ysA, ymUs, yken}
+use Rattle.turkish.specs.Simple.Marks.{yUm, sUn, yUz, sUnUz, lAr, nUz, DUr, cAsInA, yDU, ysA, ymUs, yken}
 
 -- lines 316 and 327 share this group
 unfoldable pub person : Command

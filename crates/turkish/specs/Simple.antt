@@ -1,0 +1,8 @@
+-- The stages in a simpler form, on which the code's own contracts rest. Nothing here needs to be believed: that it equals what the
+-- source answers is proved (proofs/Source).
+pub mod Harmony
+pub mod Grammar
+pub mod Marks
+pub mod Stage
+pub mod Postlude
+pub mod Tables

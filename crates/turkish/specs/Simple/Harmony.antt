@@ -1,0 +1,41 @@
+-- Vowel harmony and the syllable check in the simple form (document 01, "Harmony" and "Syllable check"). Assumes nothing.
+use Prim.Native.Nat.{ℕ}
+use Prim.Native.Char.{code}
+use mathlib.Core.Bool.{Bool, cond}
+use mathlib.Core.List.{List, [], _∷_}
+use lib.Dec.{eqb}
+use Rattle.turkish.specs.Letters.{text, any, has}
+use Rattle.turkish.specs.Source.{vowel1, vowel2, vowel3, vowel4, vowel5, vowel6}
+use Rattle.turkish.specs.Vowels.{vowel, lastVowel, beforeLastVowel}
+
+-- a vowel and its partners: what may stand earlier in harmony with it
+pub record Partners : Type 0 where
+  pub of : ℕ
+  pub are : List ℕ
+
+unfoldable pub partnerTable : List Partners
+partnerTable =
+    record { of = code "a"; are = text vowel1 }
+    ∷ record { of = code "e"; are = text vowel2 }
+    ∷ record { of = code "ı"; are = text vowel3 }
+    ∷ record { of = code "i"; are = text vowel4 }
+    ∷ record { of = code "o"; are = text vowel5 }
+    ∷ record { of = code "ö"; are = text vowel6 }
+    ∷ record { of = code "u"; are = text vowel5 }
+    ∷ record { of = code "ü"; are = text vowel6 }
+    ∷ []
+
+unfoldable pub partnersIn : List Partners → ℕ → List ℕ
+partnersIn [] v = []
+partnersIn (p ∷ ps) v = cond (eqb v (p .of)) (p .are) (partnersIn ps v)
+
+unfoldable pub partner : ℕ → ℕ → Bool
+partner v c = has (partnersIn partnerTable v) c
+
+-- somewhere before the last vowel stands one of its partners, other vowels being skipped
+unfoldable pub harmony : List ℕ → Bool
+harmony cs = any (partner (lastVowel cs)) (beforeLastVowel cs)
+
+-- two or more vowels
+unfoldable pub moreThanOneSyllable : List ℕ → Bool
+moreThanOneSyllable cs = any vowel (beforeLastVowel cs)
