@@ -136,9 +136,11 @@ unfolding eqSB
 eqSB-out w s r e = rw e
 
 -- so does one where limit_backward comes before the literal
-pub eqSB-short : (w s : List ℕ) (r : Cursor) → r .cursor < r .«limit_backward» + length s → eqSB w s r ≡ notPassed r
+pub eqSB-short : (w s : List ℕ) (r : Cursor) → r .cursor - r .«limit_backward» < length s → eqSB w s r ≡ notPassed r
 unfolding eqSB
-eqSB-short w s r h = rw (lt-leb (r .«limit_backward» + length s) (r .cursor) h, and-false (stands w r))
+eqSB-short w s r h =
+    let short : r .cursor < r .«limit_backward» + length s = omega arith in
+    rw (lt-leb (r .«limit_backward» + length s) (r .cursor) short, and-false (stands w r))
 
 -- and one before whose cursor the literal does not stand
 pub eqSB-differs : (w s : List ℕ) (r : Cursor) → standsAt w (r .cursor - length s) s ≡ false → eqSB w s r ≡ notPassed r
@@ -150,6 +152,22 @@ pub eqSB-moves : (w s : List ℕ) (r : Cursor) → stands w r ≡ true → r .«
     → standsAt w (r .cursor - length s) s ≡ true → eqSB w s r ≡ passed r (r .cursor - length s)
 unfolding eqSB
 eqSB-moves w s r e h f = rw (e, le-leb (r .«limit_backward» + length s) (r .cursor) h, f)
+
+-- the record that a step makes then
+pub eqSB-made : (w s : List ℕ) (r n : Cursor) → stands w r ≡ true → length s ≤ r .cursor - r .«limit_backward»
+    → standsAt w (r .cursor - length s) s ≡ true → n ≡ moveTo r (r .cursor - length s) → record { moved = true; next = n } ≡ eqSB w s r
+eqSB-made w s r n e h f m =
+    let low = stands-within w r e .low in
+    ap (λ (x : Cursor). record { moved = true; next = x }) m ∙ sym (eqSB-moves w s r e (omega arith) f)
+
+-- a literal for which limit_backward leaves room lies within the word
+pub within-back : (w s : List ℕ) (r : Cursor) → stands w r ≡ true → length s ≤ r .cursor - r .«limit_backward» → r .cursor - length s + length s ≤ length w
+within-back w s r e h =
+    let i = stands-within w r e in
+    let low = i .low in
+    let high = i .high in
+    let end = i .end in
+    omega arith
 
 -- what is known where a literal was passed back: the record moved by it and no further than limit_backward, and it stood before the cursor
 pub record MovedBack (w s : List ℕ) (r n : Cursor) : Type 0 where
@@ -188,9 +206,11 @@ unfolding eqS
 eqS-edge w s r h = rw (le-ltb (r .cursor) (r .limit) h, and-false (stands w r))
 
 -- one where limit comes before the literal's end
-pub eqS-short : (w s : List ℕ) (r : Cursor) → r .limit < r .cursor + length s → eqS w s r ≡ notPassed r
+pub eqS-short : (w s : List ℕ) (r : Cursor) → r .limit - r .cursor < length s → eqS w s r ≡ notPassed r
 unfolding eqS
-eqS-short w s r h = rw (lt-leb (r .cursor + length s) (r .limit) h, and-false (stands w r && ltb (r .cursor) (r .limit)))
+eqS-short w s r h =
+    let short : r .limit < r .cursor + length s = omega arith in
+    rw (lt-leb (r .cursor + length s) (r .limit) short, and-false (stands w r && ltb (r .cursor) (r .limit)))
 
 -- and one at whose cursor the literal does not stand
 pub eqS-differs : (w s : List ℕ) (r : Cursor) → standsAt w (r .cursor) s ≡ false → eqS w s r ≡ notPassed r
@@ -202,6 +222,19 @@ pub eqS-moves : (w s : List ℕ) (r : Cursor) → stands w r ≡ true → r .cur
     → standsAt w (r .cursor) s ≡ true → eqS w s r ≡ passed r (r .cursor + length s)
 unfolding eqS
 eqS-moves w s r e l h f = rw (e, lt-ltb (r .cursor) (r .limit) l, le-leb (r .cursor + length s) (r .limit) h, f)
+
+-- the record that a step makes then
+pub eqS-made : (w s : List ℕ) (r n : Cursor) → stands w r ≡ true → r .cursor < r .limit → length s ≤ r .limit - r .cursor
+    → standsAt w (r .cursor) s ≡ true → n ≡ moveTo r (r .cursor + length s) → record { moved = true; next = n } ≡ eqS w s r
+eqS-made w s r n e l h f m = ap (λ (x : Cursor). record { moved = true; next = x }) m ∙ sym (eqS-moves w s r e l (omega arith) f)
+
+-- a literal for which limit leaves room lies within the word
+pub within-on : (w s : List ℕ) (r : Cursor) → stands w r ≡ true → length s ≤ r .limit - r .cursor → r .cursor + length s ≤ length w
+within-on w s r e h =
+    let i = stands-within w r e in
+    let high = i .high in
+    let end = i .end in
+    omega arith
 
 -- what is known where a literal was passed on: the record moved by it, and it stood at the cursor
 pub record MovedOn (w s : List ℕ) (r n : Cursor) : Type 0 where

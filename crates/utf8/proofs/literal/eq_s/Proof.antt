@@ -1,8 +1,7 @@
 -- `utf8::literal::eq_s` meets its contract: the tests that led to each `return` are the laws' hypotheses. Assumes nothing.
-use Rattle.utf8.proofs.Laws.Steps.{stands-within, eqS-out, eqS-edge, eqS-short, eqS-differs, eqS-moves}
+use Rattle.utf8.proofs.Laws.Steps.{eqS-out, eqS-edge, eqS-short, eqS-differs, eqS-made, within-on}
 use borrow.Author.Tests.{not-true, not-false}
 use denote.Ref.{now}
-use native.Mathlib.Omega.{arith}
 use mathlib.Core.Path.{sym, _∙_}
 use borrow.Author.Needs.{needs}
 use Rattle.utf8.proofs.literal.eq_s.Statement.{statement}
@@ -30,15 +29,13 @@ not-passed-requires-3 : tie.Need-not-passed-requires-3
 not-passed-requires-3 c κs = search needs
 
 returns-3 : tie.Need-returns-3
-returns-3 c =
-    let a = c .before .before .before .before .before .before .before .before .before .args in
-    c .not-passed3 .ensures ∙ sym (eqS-short (now (a .w)) (now (a .s)) (a .r) (omega arith))
+returns-3 c = c .not-passed3 .ensures ∙ sym (eqS-short _ _ _ (c .before .if3 .taken))
 
 stands-at-requires : tie.Need-stands-at-requires
 stands-at-requires c κs =
     let p = c .before .before .before .before in
     let a = p .before .before .before .before .args in
-    omega (arith, stands-within (now (a .w)) (a .r) (sym (p .before .stands-in .ensures) ∙ not-false _ (p .if1 .left)))
+    within-on (now (a .w)) (now (a .s)) (a .r) (sym (p .before .stands-in .ensures) ∙ not-false _ (p .if1 .left)) (c .if3 .left)
 
 not-passed-requires-4 : tie.Need-not-passed-requires-4
 not-passed-requires-4 c κs = search needs
@@ -55,10 +52,9 @@ moved-to-requires c κs = search needs
 returns-5 : tie.Need-returns-5
 returns-5 c =
     let p = c .before .before .before .before .before .before .before in
-    let a = p .before .before .before .before .args in
     let stood = sym (p .before .stands-in .ensures) ∙ not-false _ (p .if1 .left) in
     let equal = sym (c .before .before .stands-at .ensures) ∙ not-false _ (c .before .if4 .left) in
-    cc (c .moved-to .ensures, eqS-moves (now (a .w)) (now (a .s)) (a .r) stood (omega arith) (omega arith) equal)
+    eqS-made _ _ _ _ stood (c .before .before .before .before .before .if2 .left) (c .before .before .before .if3 .left) equal (c .moved-to .ensures)
 
 pub eq-s-spec : {M : Type 1} → statement M
 eq-s-spec =

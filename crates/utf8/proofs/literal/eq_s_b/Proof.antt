@@ -1,8 +1,7 @@
 -- `utf8::literal::eq_s_b` meets its contract: the tests that led to each `return` are the laws' hypotheses. Assumes nothing.
-use Rattle.utf8.proofs.Laws.Steps.{stands-within, eqSB-out, eqSB-short, eqSB-differs, eqSB-moves}
+use Rattle.utf8.proofs.Laws.Steps.{stands-within, eqSB-out, eqSB-short, eqSB-differs, eqSB-made, within-back}
 use borrow.Author.Tests.{not-true, not-false}
 use denote.Ref.{now}
-use native.Mathlib.Omega.{arith}
 use mathlib.Core.Path.{sym, _∙_}
 use borrow.Author.Needs.{needs}
 use Rattle.utf8.proofs.literal.eq_s_b.Statement.{statement}
@@ -18,18 +17,13 @@ returns : tie.Need-returns
 returns c = c .not-passed .ensures ∙ sym (eqSB-out _ _ _ (sym (c .before .before .stands-in .ensures) ∙ not-true _ (c .before .if1 .taken)))
 
 sub-if2 : tie.Need-sub-if2
-sub-if2 c =
-    let p = c .before in
-    let a = p .before .before .before .before .args in
-    omega (arith, stands-within (now (a .w)) (a .r) (sym (p .before .stands-in .ensures) ∙ not-false _ (p .if1 .left)))
+sub-if2 c = stands-within _ _ (sym (c .before .before .stands-in .ensures) ∙ not-false _ (c .before .if1 .left)) .low
 
 not-passed-requires-2 : tie.Need-not-passed-requires-2
 not-passed-requires-2 c κs = search needs
 
 returns-2 : tie.Need-returns-2
-returns-2 c =
-    let a = c .before .before .before .before .before .before .before .args in
-    c .not-passed2 .ensures ∙ sym (eqSB-short (now (a .w)) (now (a .s)) (a .r) (omega arith))
+returns-2 c = c .not-passed2 .ensures ∙ sym (eqSB-short _ _ _ (c .before .if2 .taken))
 
 sub-start : tie.Need-sub-start
 sub-start c = search needs
@@ -38,7 +32,7 @@ stands-at-requires : tie.Need-stands-at-requires
 stands-at-requires c κs =
     let p = c .before .before in
     let a = p .before .before .before .before .args in
-    omega (arith, stands-within (now (a .w)) (a .r) (sym (p .before .stands-in .ensures) ∙ not-false _ (p .if1 .left)))
+    within-back (now (a .w)) (now (a .s)) (a .r) (sym (p .before .stands-in .ensures) ∙ not-false _ (p .if1 .left)) (c .if2 .left)
 
 not-passed-requires-3 : tie.Need-not-passed-requires-3
 not-passed-requires-3 c κs = search needs
@@ -52,11 +46,9 @@ moved-to-requires c κs = search needs
 returns-4 : tie.Need-returns-4
 returns-4 c =
     let p = c .before .before .before .before .before in
-    let a = p .before .before .before .before .args in
     let stood = sym (p .before .stands-in .ensures) ∙ not-false _ (p .if1 .left) in
-    let fits = stands-within (now (a .w)) (a .r) stood in
     let equal = sym (c .before .before .stands-at .ensures) ∙ not-false _ (c .before .if3 .left) in
-    cc (c .moved-to .ensures, eqSB-moves (now (a .w)) (now (a .s)) (a .r) stood (omega (arith, fits)) equal)
+    eqSB-made _ _ _ _ stood (c .before .before .before .if2 .left) equal (c .moved-to .ensures)
 
 pub eq-s-b-spec : {M : Type 1} → statement M
 eq-s-b-spec =
