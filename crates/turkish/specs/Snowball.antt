@@ -33,7 +33,7 @@ ahead s = drop (s .cursor) (s .text)
 unfoldable pub place : State → ℕ
 place s = length (ahead s)
 
--- the bytes of the text (the Rust's `limit`)
+-- the bytes of the text: the Rust's `limit`, where nothing is set aside
 unfoldable pub limit : State → ℕ
 limit s = length (encodeAll (s .text))
 
@@ -156,7 +156,7 @@ deep body (suc n) s = body (deep body n) s
 
 -- ---- the slice, read backwards ----
 
--- the text from bra to ket becomes s′ (`replace_s`); a cursor at ket or behind it moves along, one inside goes to bra
+-- the text from bra to ket becomes the given one (`replace_s`); a cursor at ket or behind it moves along, one inside goes to bra
 unfoldable pub placeAfter : ℕ → ℕ → ℕ → ℕ → ℕ
 placeAfter bra ket n p = cond (leb ket p) (p + n - (ket - bra)) (cond (ltb bra p) bra p)
 

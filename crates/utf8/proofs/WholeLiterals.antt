@@ -25,7 +25,7 @@ use Rattle.utf8.proofs.TextCharacters.{encodeAll-append, scalars-append
 -- ---- bytes that stand at a place ----
 
 -- lists that the test finds equal are equal
-same-equal : (a b : List ℕ) → same a b ≡ true → a ≡ b
+pub same-equal : (a b : List ℕ) → same a b ≡ true → a ≡ b
 unfolding same
 same-equal [] [] e = refl
 same-equal [] (y ∷ ys) e = absurd (false≢true e)
@@ -36,7 +36,7 @@ same-equal (x ∷ xs) (y ∷ ys) e =
     cc
 
 -- a list is found equal to itself
-same-refl : (a : List ℕ) → same a a ≡ true
+pub same-refl : (a : List ℕ) → same a a ≡ true
 unfolding same
 same-refl [] = refl
 same-refl (x ∷ xs) = rw (eq-eqb x x refl) (same-refl xs)

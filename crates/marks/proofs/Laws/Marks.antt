@@ -179,14 +179,3 @@ agrees-bound cs e = rw e
 pub tabled-found : (w : List ℕ) (c : Cursor) {k : ℕ} {a : Among} → (k ≡ 12 → ⊥) → a ≡ found (tabled k) w c → a ≡ found (numbered k .keys) w c
 unfolding tabled
 tabled-found w c {k} n e = e ∙ ap (λ (ks : List (List ℕ)). found ks w c) (rw (ne-eqb k 12 n))
-
--- what fails last in a group adds nothing to it
-pub first-fail : (o : Out) → first o fail ≡ o
-unfolding first
-first-fail fail = refl
-first-fail (took k f) = refl
-
--- a group of one mark is the mark
-pub group-one : (cs : List ℕ) (k : ℕ) → firstOf (k ∷ []) cs ≡ markOf (numbered k) cs
-unfolding firstOf
-group-one cs k = first-fail (markOf (numbered k) cs)

@@ -25,7 +25,7 @@ use Rattle.letters.specs.Numbered.{numbered, firstOf}
 use Rattle.marks.specs.Reach.{reach, cutTo, triedTo}
 use Rattle.stages.specs.Outcome.{outcomeOf}
 use Rattle.letters.proofs.Laws.Ends.{someEnd-unfit}
-use Rattle.marks.proofs.Laws.Marks.{first-fail}
+use Rattle.turkish.proofs.Laws.Outcome.{first-fail}
 
 -- no answer both reaches and fails
 to-fails : {A : Type 0} {d : Cursor} {r : Marked} → r ≡ To d → r ≡ Fails → A

@@ -5,6 +5,12 @@ use mathlib.Core.Path.{_≡_, refl}
 use mathlib.Core.Bool.{Bool, true, false, cond, _&&_}
 use Rattle.turkish.specs.Simple.Grammar.{Out, fail, took, more, after, first, asking}
 
+-- what fails after an answer adds nothing to it
+pub first-fail : (o : Out) → first o fail ≡ o
+unfolding first
+first-fail fail = refl
+first-fail (took k f) = refl
+
 -- an answer that fails, or of whose number of characters and flag P holds
 pub data Gives (P : ℕ → Bool → Type 0) : Out → Type 0 where
   unfit : Gives P fail

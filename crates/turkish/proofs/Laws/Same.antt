@@ -1,30 +1,14 @@
--- Two lists that are the same, and a list that is one of several: what holds of each of those holds of it.
+-- A list that is one of several: what holds of each of those holds of it.
 -- Assumes nothing.
 use Prim.Native.Nat.{ℕ}
-use mathlib.Core.Path.{_≡_, refl, ap, ap₂, _∙_}
+use mathlib.Core.Path.{_≡_, refl, ap, _∙_}
 use mathlib.Core.Bool.{Bool, true, false, _||_, false≢true}
 use mathlib.Core.List.{List, [], _∷_}
-use lib.Dec.{eqb}
-use borrow.Author.Tests.{eqb-true, eq-eqb}
 use Rattle.utf8.specs.Steps.{same}
 use Rattle.encoding.proofs.Laws.Booleans.{and-left, and-right}
+use Rattle.utf8.proofs.WholeLiterals.{same-equal}
 use Rattle.turkish.proofs.Laws.Tests.{every}
 use Rattle.turkish.specs.Fronts.{oneOf}
-
--- lists that are the same are equal
-pub same-true : (xs ys : List ℕ) → same xs ys ≡ true → xs ≡ ys
-unfolding same
-same-true [] [] e = refl
-same-true [] (y ∷ ys) e = absurd (false≢true e)
-same-true (x ∷ xs) [] e = absurd (false≢true e)
-same-true (x ∷ xs) (y ∷ ys) e =
-    ap₂ _∷_ (eqb-true x y (and-left (eqb x y) (same xs ys) e)) (same-true xs ys (and-right (eqb x y) (same xs ys) e))
-
--- and a list is the same as itself
-pub same-refl : (xs : List ℕ) → same xs xs ≡ true
-unfolding same
-same-refl [] = refl
-same-refl (x ∷ xs) = rw (eq-eqb x x refl) (same-refl xs)
 
 -- a test that every one of the lists passes is passed by what is one of them
 pub oneOf-every : (f : List ℕ → Bool) (xs : List (List ℕ)) (w : List ℕ) → every f xs ≡ true → oneOf xs w ≡ true → f w ≡ true
@@ -33,5 +17,5 @@ oneOf-every f [] w h e = absurd (false≢true e)
 oneOf-every f (x ∷ xs) w h e = go (same w x) refl e (oneOf-every f xs w (and-right (f x) (every f xs) h))
   where
     go : (t : Bool) → same w x ≡ t → t || oneOf xs w ≡ true → (oneOf xs w ≡ true → f w ≡ true) → f w ≡ true
-    go true s e r = ap f (same-true w x s) ∙ and-left (f x) (every f xs) h
+    go true s e r = ap f (same-equal w x s) ∙ and-left (f x) (every f xs) h
     go false s e r = r e

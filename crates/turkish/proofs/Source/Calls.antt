@@ -3,14 +3,12 @@
 use Prim.Native.Nat.{ℕ}
 use mathlib.Core.Path.{_≡_, ap}
 use mathlib.Core.Bool.{true, false, cond, _&&_, or-false}
-use mathlib.Core.List.{List, []}
-use lib.ListN.{length}
-use lib.Dec.{eqb}
+use mathlib.Core.List.{List}
 use Rattle.utf8.specs.Steps.{same}
 use Rattle.turkish.specs.Letters.{fromEnd}
 use Rattle.turkish.specs.Answers.{syllableCheck, suffixStage, postludeOf}
 use Rattle.turkish.specs.WordPass.{Passed, passStage, pass}
-use Rattle.turkish.specs.Calls.{chars, bytes, refusal, accepted, syllableCall, stageText, stagePart, stageCall, postludeText, postludeRefusal, postludeCall}
+use Rattle.turkish.specs.Calls.{chars, bytes, refusal, accepted, syllableCall, postludeText}
 use Rattle.turkish.specs.Fronts.{oneOf, reachesReserved}
 use Rattle.turkish.specs.Simple.Harmony.{moreThanOneSyllable}
 use Rattle.turkish.specs.Simple.Stage.{stage, kept}
@@ -59,26 +57,6 @@ pub syllableCall-simple : (w : List ℕ) → syllableCall w ≡ cond (accepted w
 unfolding syllableCall
 syllableCall-simple w = rw (syllableCheck-simple (chars w))
 
-pub stageText-simple : (w : List ℕ) → stageText w ≡ bytes (kept (chars w))
-unfolding stageText
-stageText-simple w = ap bytes (suffixStage-text (chars w))
-
-pub stagePart-simple : (w : List ℕ) → stagePart w ≡ cond (accepted w) (bytes (kept (chars w))) []
-unfolding stagePart
-stagePart-simple w = rw (stageText-simple w)
-
-pub stageCall-simple : (w : List ℕ) → stageCall w ≡ cond (accepted w)
-    (record { refusal = 0; length = length (bytes (kept (chars w))); yes = stage (chars w) .yes; flag = stage (chars w) .flag })
-    (record { refusal = refusal w; length = 0; yes = false; flag = false })
-unfolding stageCall
-stageCall-simple w = rw (stageText-simple w, suffixStage-yes (chars w), suffixStage-flag (chars w))
-
 pub postludeText-simple : (w : List ℕ) → postludeText w ≡ bytes (postlude (chars w))
 unfolding postludeText
 postludeText-simple w = ap bytes (postludeOf-text (chars w))
-
-pub postludeCall-simple : (w : List ℕ) (room : ℕ) → postludeCall w room ≡ cond (eqb (postludeRefusal w room) 0)
-    (record { refusal = 0; length = length (bytes (postlude (chars w))); yes = postludeYes (chars w) })
-    (record { refusal = postludeRefusal w room; length = 0; yes = false })
-unfolding postludeCall
-postludeCall-simple w room = rw (postludeText-simple w, postludeOf-yes (chars w))

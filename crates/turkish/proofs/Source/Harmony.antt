@@ -14,8 +14,9 @@ use Rattle.turkish.specs.Simple.Grammar.{Out, fail, took, more, after, f
 use Rattle.turkish.specs.Snowball.{isIn, isLeft, backward, letters, _then_, _or_, test, not, goto, next, literal, grouping}
 use Rattle.turkish.specs.Source.{vowel1, vowel2, vowel3, vowel4, vowel5, vowel6, check-vowel-harmony, mark-suffix-with-optional-y-consonant}
 use Rattle.turkish.specs.Source as Source
+use Rattle.turkish.proofs.Laws.Outcome.{first-fail}
 use Rattle.turkish.proofs.Laws.Tests.{eqb-comm}
-use Rattle.turkish.proofs.Source.Means.{Means, means-as, means-then, means-or, means-test, means-not, means-next, means-literal, means-grouping, means-goto, takeIf, peeked, peeked-more, denied, sought, first-fail}
+use Rattle.turkish.proofs.Source.Means.{Means, means-as, means-then, means-or, means-test, means-not, means-next, means-literal, means-grouping, means-goto, takeIf, peeked, peeked-more, denied, sought}
 use Rattle.turkish.proofs.Source.LastVowel.{beforeLastVowel-none, lastVowel-vowel, means-test-goto-vowel}
 
 -- ---- a walk to a character of a grouping ----

@@ -12,6 +12,7 @@ use Rattle.turkish.specs.Letters.{text, starts}
 use Rattle.turkish.specs.Snowball.{State, ahead, moveTo, Result, done, failed, andThen, orElse, tested, negated, readIf, isLeft, isIn, Direction, letters, longest, keyAhead, fits, goPast, Command, _then_, _or_, test, not, goto, gopast, succeed, next, literal, grouping, among, enough, run}
 use Rattle.turkish.specs.Answers.{succeeded, left}
 use Rattle.turkish.specs.Simple.Grammar.{Out, fail, took, more, after, first}
+use Rattle.turkish.proofs.Laws.Outcome.{first-fail}
 
 -- ---- results and answers ----
 
@@ -189,11 +190,6 @@ means-succeed = record { on-state = λ self s. sym (moved-none s) }
 unfoldable pub sought : (List ℕ → Out) → List ℕ → Out
 sought f [] = f []
 sought f (c ∷ cs) = first (f (c ∷ cs)) (more 1 true (sought f cs))
-
-pub first-fail : (o : Out) → first o fail ≡ o
-unfolding first
-first-fail fail = refl
-first-fail (took k f) = refl
 
 past-result : (q : State → Result) (f : List ℕ → Out) → ((s : State) → settled (s .cursor) (q s) ≡ placed s (f (ahead s)))
     → (cs : List ℕ) (s : State) → ahead s ≡ cs → settled (s .cursor) (goPast (suc (length cs)) q s) ≡ placed s (sought f cs)

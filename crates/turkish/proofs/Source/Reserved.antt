@@ -21,7 +21,7 @@ use Rattle.turkish.specs.Simple.Postlude.{reserved}
 use Rattle.turkish.specs.Snowball.{State, ahead, limit, moveTo, withStrlen, Result, done, failed, andThen, orElse, tested, forward, letters}
 use Rattle.turkish.specs.Snowball.{Command, _then_, test, gopast, literal, strlen=, strlen==limit, run}
 use Rattle.turkish.specs.Source.{is-reserved-word}
-use Rattle.turkish.proofs.Laws.Same.{same-true, same-refl}
+use Rattle.utf8.proofs.WholeLiterals.{same-equal, same-refl}
 use Rattle.turkish.proofs.Laws.Syllables.{starts-split}
 use Rattle.turkish.proofs.Source.Means.{settled, placed, done-failed, done-state, failed-state, takeIf, sought, means-literal, means-gopast}
 
@@ -97,7 +97,7 @@ whole-same k cs a = partialOrderLaws .le-antisymm (whole k cs) (same (reverse cs
 
     back : same (reverse cs) (reverse k) ≡ true → whole k cs ≡ true
     back e =
-        let i : cs ≡ k = sym (reverse-reverse cs) ∙ ap reverse (same-true (reverse cs) (reverse k) e) ∙ reverse-reverse k in
+        let i : cs ≡ k = sym (reverse-reverse cs) ∙ ap reverse (same-equal (reverse cs) (reverse k) e) ∙ reverse-reverse k in
         rw (i, contains-refl k) (eq-eqb (length k) (length (encodeAll k)) (sym a))
 
 -- ---- a line of the routine ----
