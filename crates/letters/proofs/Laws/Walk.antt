@@ -2,7 +2,7 @@
 -- one, or comes to the word's start. Assumes nothing.
 use Prim.Native.Nat.{ℕ, _-_, _≤_, _<_}
 use mathlib.Core.Path.{_≡_, sym, ap, _∙_}
-use mathlib.Core.Bool.{Bool, true, false}
+use mathlib.Core.Bool.{true, false}
 use mathlib.Core.List.{List, [], _∷_}
 use native.Mathlib.Omega.{arith}
 use Rattle.utf8.specs.Characters.{lastWidth, lastChar, charAt, before}
@@ -26,24 +26,6 @@ before-charAt w at n ch h e d = before-step w at (omega arith) ∙ sym (rw (d, e
 -- no turn is left at the word's start
 pub before-start : (w : List ℕ) (at : ℕ) → at ≡ 0 → before w at ≡ []
 before-start w at e = ap (before w) e ∙ before-zero w
-
--- ---- some character passes a test ----
-
-module _ (f : ℕ → Bool) where
-  -- a character that fails it is skipped
-  pub any-skips : {l cs : List ℕ} {c : ℕ} → l ≡ c ∷ cs → f c ≡ false → any f cs ≡ any f l
-  unfolding any
-  any-skips e d = rw (e, d)
-
-  -- one that passes it ends the walk with yes
-  pub any-stops : {l cs : List ℕ} {c : ℕ} → l ≡ c ∷ cs → f c ≡ true → true ≡ any f l
-  unfolding any
-  any-stops e d = rw (e, d)
-
-  -- at the word's start none does
-  pub any-none : {l : List ℕ} → l ≡ [] → false ≡ any f l
-  unfolding any
-  any-none e = rw e
 
 -- ---- the last vowel ----
 

@@ -10,7 +10,7 @@ use lib.Seq.{drop-cons}
 use lib.Dec.{eqb}
 use borrow.Author.Tests.{eq-eqb, ne-eqb}
 use Rattle.turkish.specs.Letters.{has}
-use Rattle.letters.proofs.Laws.Walk.{any-skips, any-stops, any-none}
+use Rattle.turkish.proofs.Laws.Tests.{any-skips, any-stops, any-none}
 use Rattle.lines.specs.Line.{tab}
 
 module _ (w : List ℕ) (i : ℕ) where

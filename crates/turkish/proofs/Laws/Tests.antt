@@ -1,4 +1,5 @@
--- The members of a list that all pass one test, and a test for equality both ways round. Assumes nothing.
+-- The members of a list that all pass one test, the characters of which some passes one, and a test for equality both ways round.
+-- Assumes nothing.
 use Prim.Native.Nat.{ℕ, zero, suc}
 use mathlib.Core.Path.{_≡_, refl, sym, ap, _∙_}
 use mathlib.Core.Bool.{Bool, true, false, _&&_}
@@ -6,6 +7,7 @@ use mathlib.Core.List.{List, [], _∷_, List·Memᴰ, List·Memᴰ·head, List·
 use lib.ListN.{getD}
 use lib.Dec.{eqb}
 use borrow.Author.Tests.{eqb-true, eqb-false, eq-eqb, ne-eqb}
+use Rattle.turkish.specs.Letters.{any}
 use Rattle.encoding.proofs.Laws.Booleans.{and-left, and-right}
 
 -- it is no matter which of two numbers is held against the other
@@ -34,3 +36,21 @@ module _ {A : Type 0} where
   every-getD f [] n d e h = h
   every-getD f (x ∷ xs) zero d e h = and-left (f x) (every f xs) e
   every-getD f (x ∷ xs) (suc n) d e h = every-getD f xs n d (and-right (f x) (every f xs) e) h
+
+-- ---- some character passes a test ----
+
+module _ (f : ℕ → Bool) where
+  -- a character that fails it is skipped
+  pub any-skips : {l cs : List ℕ} {c : ℕ} → l ≡ c ∷ cs → f c ≡ false → any f cs ≡ any f l
+  unfolding any
+  any-skips e d = rw (e, d)
+
+  -- one that passes it ends the search with yes
+  pub any-stops : {l cs : List ℕ} {c : ℕ} → l ≡ c ∷ cs → f c ≡ true → true ≡ any f l
+  unfolding any
+  any-stops e d = rw (e, d)
+
+  -- where no character is left none does
+  pub any-none : {l : List ℕ} → l ≡ [] → false ≡ any f l
+  unfolding any
+  any-none e = rw e

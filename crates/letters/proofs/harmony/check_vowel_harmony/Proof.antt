@@ -9,7 +9,8 @@ use Rattle.turkish.specs.Letters.{any}
 use Rattle.turkish.specs.Simple.Harmony.{harmony}
 use Rattle.letters.specs.Sounds.{partners}
 use Rattle.letters.proofs.Laws.Sounds.{soundOf-noVowel, soundOf-aVowel, soundOf-partners}
-use Rattle.letters.proofs.Laws.Walk.{lastWidth-bounds, before-charAt, before-start, any-skips, any-stops, any-none, harmony-skips, harmony-stops, harmony-none}
+use Rattle.turkish.proofs.Laws.Tests.{any-skips, any-stops, any-none}
+use Rattle.letters.proofs.Laws.Walk.{lastWidth-bounds, before-charAt, before-start, harmony-skips, harmony-stops, harmony-none}
 use Rattle.letters.proofs.harmony.check_vowel_harmony.Statement.{statement}
 use Rattle.letters.proofs.harmony.check_vowel_harmony.Tie as tie
 
