@@ -4,6 +4,7 @@
 -- rest on simpler forms (Harmony, Grammar, Marks, Stage, Postlude), and that these are the same is proved here.
 -- Assumes nothing.
 use Prim.Native.Nat.{ℕ, _+_, _≤_, _<_}
+use Prim.Native.String.{String}
 use mathlib.Core.Path.{_≡_}
 use mathlib.Core.Bool.{true, false, cond}
 use mathlib.Core.List.{List, _++_, reverse, List·Memᴰ}
@@ -13,7 +14,7 @@ use lib.Dec.{eqb}
 use Rattle.encoding.specs.Validity.{isText}
 use Rattle.encoding.specs.Encoding.{continuation}
 use Rattle.turkish.specs.Letters.{starts}
-use Rattle.turkish.specs.Snowball.{State, ahead, Result, done, failed, Direction, forward, backward, Command, routine, run}
+use Rattle.turkish.specs.Snowball.{State, ahead, Result, done, failed, Direction, forward, backward, letters as letters-in, Command, _then_, try, literal, routine, itself, run}
 use Rattle.turkish.specs.Source as source
 use Rattle.turkish.specs.Answers.{called, stemmed, repaired}
 use Rattle.turkish.specs.Simple.Harmony.{harmony, moreThanOneSyllable}
@@ -30,7 +31,7 @@ use Rattle.turkish.proofs.Source.Marks.{yUm-means, sUn-means, yUz-means
 use Rattle.turkish.proofs.Source.Stage.{stage-answers}
 use Rattle.turkish.proofs.Source.Syllables.{syllables-run}
 use Rattle.turkish.proofs.Source.Postlude.{postlude-answers}
-use Rattle.turkish.proofs.Source.Recursion.{Reads, routine-text}
+use Rattle.turkish.proofs.Source.Recursion.{Reads, routine-text, calls-itself, calls-try, reads-literal}
 use Rattle.turkish.proofs.Laws.Bounds.{stage-most, stage-yes, stage-no}
 use Rattle.turkish.proofs.Laws.Leaves.{stage-within}
 use Rattle.turkish.proofs.Laws.Accepted.{accepted-iff}
@@ -102,6 +103,11 @@ marks-of-source =
 pub self-calls : (d : Direction) (self : State → Result) (p : Command) → Reads (λ again. run d again p)
     → (s : State) → run d self (routine p) s ≡ run d (run d self (routine p)) p s
 self-calls = routine-text
+
+-- as one that reads a literal and then may call itself
+pub literal-then-itself : (d : Direction) (self : State → Result) (l : String) → 0 < length (letters-in d l) → let p = literal l then try itself in
+    (s : State) → run d self (routine p) s ≡ run d (run d self (routine p)) p s
+literal-then-itself d self l n = routine-text d self (literal l then try itself) (reads-literal d l (try itself) n (calls-try d itself (calls-itself d)))
 
 -- ---- demand 3 ----
 
