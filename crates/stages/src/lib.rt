@@ -1,5 +1,4 @@
-// The port of the three stages under the Rust's names, its twelve marks by number. Nothing here refuses: the calls with their refusals
-// stand above, in words.
+// The port of the three stages under the Rust's names. Nothing here refuses: the calls with their refusals stand above, in words and texts.
 pub mod postlude;
 pub mod stage;
 pub mod syllable;

@@ -69,7 +69,8 @@ table =
     ∷ []
 
 -- what a misreading would get wrong ("Plausible, yet not Turkish as turkish.sbl has it"): branch 2's cut kept where ymUs_ fails, a
--- flag cleared wherever lAr fits, a y asked for, ğ repaired by the d/g rule, the postlude run after branch 3; the other two are starred
+-- flag cleared wherever lAr fits, ğ repaired by the d/g rule, the postlude run after branch 3; the other two are starred. And `abken`,
+-- which joins without a y
 unfoldable pub misread : List Row
 misread =
     stageOf "evcesine" "evcesine" false true

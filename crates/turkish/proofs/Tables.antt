@@ -14,7 +14,7 @@ use Rattle.encoding.proofs.Laws.Booleans.{and-left, and-right, and-each}
 use Rattle.turkish.specs.Letters.{text, fromEnd, starts}
 use Rattle.turkish.specs.Simple.Marks.{marked, yUm, sUn, yUz, sUnUz, lAr, nUz, DUr, cAsInA, yDU, ysA, ymUs, yken}
 use Rattle.turkish.specs.Simple.Postlude.{hardenings, hardKeys}
-use Rattle.turkish.specs.Simple.Tables.{Table, tables, letters, whole}
+use Rattle.turkish.specs.Simple.Tables.{Table, tables, nonzero, whole}
 use Rattle.turkish.specs.Calls.{bytes}
 use Rattle.turkish.proofs.Laws.Tests.{every, every-at, every-getD}
 
@@ -44,7 +44,7 @@ passes t = whole (t .width) (t .keys) && every begins (t .keys) && apart (t .key
 
 -- every table passes
 tables-pass : every passes tables ≡ true
-unfolding every passes whole letters apart neither starts begins begin continuation bytes encodeAll encode tables hardKeys hardenings marked yUm sUn yUz sUnUz lAr nUz DUr cAsInA yDU ysA ymUs yken fromEnd text
+unfolding every passes whole nonzero apart neither starts begins begin continuation bytes encodeAll encode tables hardKeys hardenings marked yUm sUn yUz sUnUz lAr nUz DUr cAsInA yDU ysA ymUs yken fromEnd text
 tables-pass = refl
 
 -- so each does
@@ -98,12 +98,12 @@ table-whole : {t : Table} → List·Memᴰ t tables → whole (t .width) (t .key
 table-whole t = table-passes t .0
 
 -- and each key of it alone has not
-whole-key : (width : ℕ) {ks : List (List ℕ)} {k : List ℕ} → whole width ks ≡ true → List·Memᴰ k ks → (length k ≤ width) × (letters k ≡ true)
+whole-key : (width : ℕ) {ks : List (List ℕ)} {k : List ℕ} → whole width ks ≡ true → List·Memᴰ k ks → (length k ≤ width) × (nonzero k ≡ true)
 unfolding whole
 whole-key width {k} e (List·Memᴰ·head {x} {xs} p) =
-    let a = and-each (leb (length x) width) (letters x) (whole width xs) e in
+    let a = and-each (leb (length x) width) (nonzero x) (whole width xs) e in
     rw p (leb-true (length x) width (a .0), a .1)
-whole-key width e (List·Memᴰ·tail {x} {xs} m) = whole-key width (and-each (leb (length x) width) (letters x) (whole width xs) e .2) m
+whole-key width e (List·Memᴰ·tail {x} {xs} m) = whole-key width (and-each (leb (length x) width) (nonzero x) (whole width xs) e .2) m
 
 -- bytes that pass are some, and the first goes on with no character
 begin-start : (w : List ℕ) → begin w ≡ true → (0 < length w) × (continuation (getD w 0 0) ≡ false)
@@ -113,7 +113,7 @@ begin-start (b ∷ bs) e = (omega arith, not-true (continuation b) e)
 
 module _ {t : Table} {k : List ℕ} (m : List·Memᴰ t tables) (i : List·Memᴰ k (t .keys)) where
   -- every key has a letter, no more of them than its table's width, and no 0
-  pub key-letters : (0 < length k) × (length k ≤ t .width) × (letters k ≡ true)
+  pub key-letters : (0 < length k) × (length k ≤ t .width) × (nonzero k ≡ true)
   unfolding begins begin bytes encodeAll
   key-letters = let f = whole-key (t .width) (table-whole m) i in (some k (every-at begins (table-passes m .1) i), f .0, f .1)
     where

@@ -5,33 +5,35 @@
 -- Assumes nothing.
 use Prim.Native.Nat.{ℕ, _+_, _≤_, _<_}
 use Prim.Native.String.{String}
-use mathlib.Core.Path.{_≡_}
+use mathlib.Core.Path.{_≡_, sym, _∙_}
 use mathlib.Core.Bool.{true, false, cond}
 use mathlib.Core.List.{List, _++_, reverse, List·Memᴰ}
 use mathlib.Core.Logic.{_↔_}
-use lib.ListN.{length, take, getD}
+use native.Mathlib.Omega.{arith}
+use lib.ListN.{length, take, drop, getD, length-drop}
 use lib.Dec.{eqb}
 use Rattle.encoding.specs.Validity.{isText}
 use Rattle.encoding.specs.Encoding.{continuation}
 use Rattle.turkish.specs.Letters.{starts}
-use Rattle.turkish.specs.Snowball.{State, ahead, Result, done, failed, Direction, forward, backward, letters as letters-in, Command, _then_, try, literal, routine, itself, run}
+use Rattle.turkish.specs.Snowball.{State, ahead, Result, done, failed, Direction, forward, backward, letters, deep, Command, _then_, try, literal, routine, itself, run}
 use Rattle.turkish.specs.Source as source
-use Rattle.turkish.specs.Answers.{called, stemmed, repaired}
+use Rattle.turkish.specs.Answers.{called, syllableCheck, stemmed, suffixStage, repaired, postludeOf}
 use Rattle.turkish.specs.Simple.Harmony.{harmony, moreThanOneSyllable}
 use Rattle.turkish.specs.Simple.Grammar.{optionalY, markOf}
 use Rattle.turkish.specs.Simple.Marks.{yUm, sUn, yUz, sUnUz, lAr, nUz, DUr, cAsInA, yDU, ysA, ymUs, yken}
 use Rattle.turkish.specs.Simple.Stage.{stage, kept}
 use Rattle.turkish.specs.Simple.Postlude.{reserved, appends, appendU, harden, postlude, postludeYes}
-use Rattle.turkish.specs.Simple.Tables.{Table, tables, letters}
+use Rattle.turkish.specs.Simple.Tables.{Table, tables, nonzero}
 use Rattle.turkish.specs.Calls.{chars, bytes, limit, accepted, stagePart, stageCall, postludeText, postludeRefusal, postludeOut, foldText, foldRefusal, foldOut, passText, passRefusal, passOut}
 use Rattle.turkish.specs.Fronts.{mostRemoved, front, Pair, reachesReserved, passGives, SameAnswers, leftEmpty, oneOf}
 use Rattle.turkish.proofs.Source.Means.{settled, Means, takeIf}
 use Rattle.turkish.proofs.Source.Harmony.{harmony-means, optionalY-means}
 use Rattle.turkish.proofs.Source.Marks.{yUm-means, sUn-means, yUz-means, sUnUz-means, lAr-means, nUz-means, DUr-means, cAsInA-means, yDU-means, ysA-means, ymUs-means, yken-means}
-use Rattle.turkish.proofs.Source.Stage.{stage-answers}
-use Rattle.turkish.proofs.Source.Syllables.{syllables-run}
+use Rattle.turkish.proofs.Source.Stage.{stage-answers, suffixStage-simple}
+use Rattle.turkish.proofs.Source.Syllables.{syllables-run, syllableCheck-simple}
 use Rattle.turkish.proofs.Source.Postlude.{postlude-answers}
-use Rattle.turkish.proofs.Source.Recursion.{Reads, routine-text, calls-itself, calls-try, reads-literal}
+use Rattle.turkish.proofs.Source.Calls.{suffixStage-text, postludeOf-text}
+use Rattle.turkish.proofs.Source.Recursion.{CallsBehind, deep-same, routine-text, calls-itself, calls-try, calls-behind, shortens-literal}
 use Rattle.turkish.proofs.Laws.Bounds.{stage-most, stage-yes, stage-no}
 use Rattle.turkish.proofs.Laws.Leaves.{stage-within}
 use Rattle.turkish.proofs.Laws.Accepted.{accepted-iff}
@@ -69,7 +71,7 @@ pub stage-of-source : (s : State) → s .cursor ≡ 0
     → stemmed (called backward source.stem-nominal-verb-suffixes s) ≡ record { yes = stage (s .text) .yes; text = kept (s .text); flag = stage (s .text) .flag }
 stage-of-source = stage-answers
 
--- at the text's start, the syllable check answers the simple form's and changes nothing
+-- from any place, the syllable check answers what the simple form answers of the characters ahead, and changes nothing
 pub syllables-of-source : (s : State) → settled (s .cursor) (called forward source.more-than-one-syllable-word s)
     ≡ cond (moreThanOneSyllable (reverse (ahead s))) (done s) (failed s)
 unfolding called
@@ -98,16 +100,22 @@ pub marks-of-source : Means backward source.mark-yUm (markOf yUm) × Means backw
 marks-of-source =
     (yUm-means, sUn-means, yUz-means, sUnUz-means, lAr-means, nUz-means, DUr-means, cAsInA-means, yDU-means, ysA-means, ymUs-means, yken-means)
 
--- a routine that calls itself is its own text with itself called in it, where each call has read something: how deep the definition
--- goes does not matter
-pub self-calls : (d : Direction) (self : State → Result) (p : Command) → Reads (λ again. run d again p)
+-- a routine that calls itself, where each call has read something: how many calls deep the definition goes does not matter
+pub depth-is-free : (d : Direction) (p : Command) → CallsBehind (λ again. run d again p) → (m n : ℕ) (s : State)
+    → length (ahead s) < m → length (ahead s) < n → deep (λ again. run d again p) m s ≡ deep (λ again. run d again p) n s
+depth-is-free d p r = deep-same r
+
+-- and the routine is its own text with itself called in it
+pub self-calls : (d : Direction) (self : State → Result) (p : Command) → CallsBehind (λ again. run d again p)
     → (s : State) → run d self (routine p) s ≡ run d (run d self (routine p)) p s
 self-calls = routine-text
 
 -- as one that reads a literal and then may call itself
-pub literal-then-itself : (d : Direction) (self : State → Result) (l : String) → 0 < length (letters-in d l) → let p = literal l then try itself in
+pub literal-then-itself : (d : Direction) (self : State → Result) (l : String) → 0 < length (letters d l) → let p = literal l then try itself in
     (s : State) → run d self (routine p) s ≡ run d (run d self (routine p)) p s
-literal-then-itself d self l n = routine-text d self (literal l then try itself) (reads-literal d l (try itself) n (calls-try d itself (calls-itself d)))
+literal-then-itself d self l n =
+    let calls = calls-behind d (literal l) (try itself) (shortens-literal d l n) (calls-try d itself (calls-itself d)) in
+    routine-text d self (literal l then try itself) calls
 
 -- ---- demand 3 ----
 
@@ -137,25 +145,29 @@ misreadings-told = Starred.outcomes .1
 
 -- ---- the suffix stage ----
 
--- it removes at most 15 characters
-pub removes-at-most-15 : (w : List ℕ) → stage (chars w) .removed ≤ mostRemoved
-removes-at-most-15 w = stage-most (chars w)
-
--- and never more than there are
-pub removes-what-is-there : (cs : List ℕ) → stage cs .removed ≤ length cs
-removes-what-is-there = stage-within
+-- it leaves a front part of the word's characters, and removes at most 15
+pub removes-at-most-15 : (cs : List ℕ) → (k : ℕ) × (k ≤ mostRemoved) × (k ≤ length cs) × (suffixStage cs .text ≡ drop k cs)
+unfolding kept
+removes-at-most-15 cs = (stage cs .removed, stage-most cs, stage-within cs, suffixStage-text cs)
 
 -- what it hands back is a front part of the word's bytes
 pub keeps-a-front : (w : List ℕ) → stagePart w ≡ take (length (stagePart w)) w
 keeps-a-front = stagePart-front
 
 -- a yes means that something was removed; a no that nothing was, and then the flag is true
-pub yes-removes : (cs : List ℕ) → (stage cs .yes ≡ true → 0 < stage cs .removed) × (stage cs .yes ≡ false → (stage cs .removed ≡ 0) × (stage cs .flag ≡ true))
-yes-removes cs = (stage-yes cs, stage-no cs)
+pub yes-removes : (cs : List ℕ) → (suffixStage cs .yes ≡ true → length (suffixStage cs .text) < length cs)
+    × (suffixStage cs .yes ≡ false → suffixStage cs ≡ record { yes = false; text = cs; flag = true })
+unfolding kept
+yes-removes cs =
+    rw (suffixStage-simple cs)
+    (λ e. omega (arith, length-drop (stage cs .removed) cs, stage-yes cs e, stage-within cs), λ e. rw (e, stage-no cs e .0, stage-no cs e .1))
 
 -- where the syllable check says no, the stage says no with flag true
-pub one-syllable-has-no-ending : (cs : List ℕ) → moreThanOneSyllable cs ≡ false → stage cs ≡ record { removed = 0; yes = false; flag = true }
-one-syllable-has-no-ending = moreThanOneSyllable-no
+pub one-syllable-has-no-ending : (cs : List ℕ) → syllableCheck cs ≡ false → suffixStage cs ≡ record { yes = false; text = cs; flag = true }
+unfolding kept
+one-syllable-has-no-ending cs e =
+    let none = moreThanOneSyllable-no cs (sym (syllableCheck-simple cs) ∙ e) in
+    suffixStage-simple cs ∙ rw none
 
 -- ---- the key tables and the postlude's rules ----
 
@@ -165,7 +177,7 @@ pub at-most-one-key : (cs : List ℕ) {t : Table} {j k : List ℕ} → List·Mem
 at-most-one-key = one-key
 
 -- a key has a letter, no more letters than its table's width, and none that is 0
-pub keys-have-letters : {t : Table} {k : List ℕ} → List·Memᴰ t tables → List·Memᴰ k (t .keys) → (0 < length k) × (length k ≤ t .width) × (letters k ≡ true)
+pub keys-have-letters : {t : Table} {k : List ℕ} → List·Memᴰ t tables → List·Memᴰ k (t .keys) → (0 < length k) × (length k ≤ t .width) × (nonzero k ≡ true)
 keys-have-letters = key-letters
 
 -- keys match only from a character's start: the first byte of each is a lead byte
@@ -174,5 +186,5 @@ pub keys-begin-characters : {t : Table} {k : List ℕ} → List·Memᴰ t tables
 keys-begin-characters = key-start
 
 -- the postlude's three rules never act together: a reserved word stays, a vowel is gained, or the last consonant hardens
-pub one-rule-acts : (cs : List ℕ) → postlude cs ≡ cond (reserved cs) cs (cond (appends cs) (appendU cs) (harden cs))
-one-rule-acts = postlude-one
+pub one-rule-acts : (cs : List ℕ) → postludeOf cs .text ≡ cond (reserved cs) cs (cond (appends cs) (appendU cs) (harden cs))
+one-rule-acts cs = postludeOf-text cs ∙ postlude-one cs

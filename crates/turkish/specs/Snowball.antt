@@ -1,6 +1,7 @@
 -- Snowball's commands as far as turkish.sbl's routines use them here, and what they mean: a state, and one interpreter for both
 -- directions of reading. Held against the Rust's environment (snowball_env.rs) and against what its Snowball compiler makes of each
--- command in turkish.rs. Assumes nothing.
+-- command in turkish.rs. To be read so: `cond t a b` is a where t holds, else b; `eqb`, `ltb`, `leb` ask for =, <, ≤; `-` stops at 0;
+-- `unfoldable` lets a proof look inside. Assumes nothing.
 use Prim.Native.Nat.{ℕ, zero, suc, _+_, _-_}
 use Prim.Native.String.{String}
 use mathlib.Core.Bool.{Bool, true, false, cond, _&&_}
@@ -14,8 +15,8 @@ use Rattle.turkish.specs.Letters.{text, fromEnd, has, starts}
 -- ---- the state ----
 
 -- The characters stand in the direction of reading. The cursor is the number of them that are passed: what the Rust saves and
--- restores as `v`, forwards `cursor`, backwards `limit - cursor`. What stands before limit_backward is not in the text, and ket and
--- bra are places counted from there.
+-- restores as `v`, forwards `cursor`, backwards `limit - cursor`, counted in characters where the Rust counts bytes. What stands before
+-- limit_backward is not in the text, and ket and bra are places counted from there.
 pub record State : Type 0 where
   pub text : List ℕ
   pub cursor : ℕ
@@ -135,12 +136,13 @@ fits k = ltb 0 (k .number)
 
 -- ---- loops ----
 
--- `gopast`: the command is tried from here, then one character on, and so on; a failure at the edge. n is more than the turns there are.
+-- `gopast`: the command is tried from here, then one character on, and so on; a failure at the edge. n is at least the turns there are.
 unfoldable pub goPast : ℕ → (State → Result) → State → Result
 goPast zero f s = failed s
 goPast (suc n) f s = orElse (s .cursor) (f s) (λ t. andThen (readIf (isLeft (ahead t)) 1 t) (goPast n f))
 
--- `atleast`: as often as the command succeeds; a failure where that is less often than wanted. n is more than the turns there are.
+-- `atleast`: as often as the command succeeds; a failure where that is less often than wanted. n is at least the turns
+-- there are.
 unfoldable pub oneTurn : ℕ → ℕ → Result → (State → Result) → Result
 oneTurn wanted c (done s) q = q s
 oneTurn wanted c (failed s) q = cond (eqb wanted 0) (done (moveTo s c)) (failed (moveTo s c))
@@ -228,9 +230,9 @@ pub data Command : Type 0 where
   literal : String → Command
   grouping : String → Command  -- a character of the grouping
   among : List String → Command  -- the longest key
-  substring : List String → Command  -- the same, and its number is kept
-  case : ℕ → Command → Command  -- where that is its number
-  ⟦ : Command  -- turkish.sbl's `[` and `]`
+  substring : List String → Command  -- the same, and its place in the table is kept
+  case : ℕ → Command → Command  -- where that is its place
+  ⟦ : Command  -- turkish.sbl's `[` and `]`, read backwards
   ⟧ : Command
   delete : Command
   <-_ : String → Command

@@ -1,5 +1,5 @@
--- turkish.sbl, the routines of the three stages: its groupings, its keys and its commands, in its own order. Each line ends with its
--- number in turkish.sbl. Held by a program against the comments and the code of the Rust (turkish.rs), from which the numbers are: the
+-- turkish.sbl, the routines of the three stages: its groupings, its keys and its commands, in its own order. A line ends with its number
+-- in turkish.sbl where the Rust's comments give one. Held by a program against the comments and the code of the Rust (turkish.rs), from which the numbers are: the
 -- sequence of commands with their lines and parentheses, literals, groupings and keys. A `_` in a name is a `-` here, one command after
 -- another is `then`, `[` and `]` are ⟦ and ⟧, `true` is `succeed`. Assumes nothing.
 use Prim.Native.String.{String}

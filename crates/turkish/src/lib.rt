@@ -1,2 +1,2 @@
-// The Turkish stages. Their meaning stands in specs/.
+// What the calls answer. The meaning of the stages stands in specs/.
 pub mod answer;

@@ -178,6 +178,10 @@ encodeAll-injective cs ds h k e =
     let r : reverse cs ≡ reverse ds = sym (before-end cs h) ∙ ap (λ (w : List ℕ). before w (length w)) e ∙ before-end ds k in
     sym (reverse-reverse cs) ∙ ap reverse r ∙ reverse-reverse ds
 
+-- read back from its end a text has the scalar values that it encodes
+pub before-whole : (w : List ℕ) (t : TextOf w) → before w (length w) ≡ reverse (t .chars)
+before-whole w t = rw (← t .encoded) (before-end (t .chars) (t .valid))
+
 -- a text's characters, encoded again, are the text
 pub encode-before : (w : List ℕ) → TextOf w → encodeAll (reverse (before w (length w))) ≡ w
 encode-before w t = rw (← t .encoded, before-end (t .chars) (t .valid), reverse-reverse)

@@ -11,19 +11,19 @@ use Rattle.encoding.specs.Encoding.{encodeAll}
 use Rattle.encoding.specs.Text.{TextOf}
 use Rattle.utf8.specs.Characters.{before, back}
 use Rattle.utf8.specs.Steps.{stands, moveTo, stay, previousChar, nextChar, passed, eqSB, eqS}
-use Rattle.utf8.proofs.TextCharacters.{encode-before, take-back}
+use Rattle.utf8.proofs.TextCharacters.{before-whole, encode-before, take-back}
 use Rattle.utf8.proofs.WholeCharacters.{Between, previousChar-edge, nextChar-edge, previousChar-within, nextChar-within, eqSB-within, eqS-within}
 use Rattle.utf8.proofs.WholeCharacters.{previousChar-whole, nextChar-whole}
 use Rattle.utf8.proofs.WholeLiterals.{PassedBack, PassedOn, eqSB-before, eqSB-whole, eqSB-passes, eqS-whole, eqS-passes}
 
 -- ---- the characters before a place ----
 
--- read back from a text's end they are its characters: encoded again they give the text, and without the nearest n the part before the
--- place n characters back
-pub text-read-back : (w : List ℕ) → TextOf w
-    → (encodeAll (reverse (before w (length w))) ≡ w)
+-- read back from a text's end they are the scalar values that it encodes, the last one first; encoded again they give the text, and
+-- without the nearest n the part before the place n characters back
+pub text-read-back : (w : List ℕ) (t : TextOf w) → (before w (length w) ≡ reverse (t .chars))
+    × (encodeAll (reverse (before w (length w))) ≡ w)
     × ((n : ℕ) → take (back w (length w) n) w ≡ encodeAll (reverse (drop n (before w (length w)))))
-text-read-back w t = (encode-before w t, take-back w t)
+text-read-back w t = (before-whole w t, encode-before w t, take-back w t)
 
 -- ---- the limits ----
 

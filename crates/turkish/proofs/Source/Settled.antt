@@ -65,11 +65,11 @@ unfolding run settled
 does-insert l = record { on-state = λ self s. refl }
 
 -- the second of two runs from where the first one's question failed
-or-result : (s : State) (b : Bool) (t : State) (q : State → Result)
+insert-or : (s : State) (b : Bool) (t : State) (q : State → Result)
     → settled (s .cursor) (orElse (s .cursor) (cond b (done t) (failed s)) q) ≡ cond b (done t) (settled (s .cursor) (q s))
 unfolding settled orElse moveTo
-or-result s true t q = refl
-or-result s false t q = refl
+insert-or s true t q = refl
+insert-or s false t q = refl
 
 -- an insertion behind a test, or else another command, whose turn comes where the test does not hold
 pub does-insert-or : {d : Direction} {p q : Command} {b : List ℕ → Bool} {g : State → Result}
@@ -82,5 +82,5 @@ does-insert-or {d} {p} {q} {b} {g} x l y = record { on-state = on }
     on self s =
         ap (settled (s .cursor)) (sym (orElse-settled (s .cursor) (run d self (p then <+ l) s) (run d self q)))
         ∙ ap (λ (r : Result). settled (s .cursor) (orElse (s .cursor) r (run d self q))) (does-behind x (does-insert l) .on-state self s)
-        ∙ or-result s (b (ahead s)) (inserted (letters d l) s) (run d self q)
+        ∙ insert-or s (b (ahead s)) (inserted (letters d l) s) (run d self q)
         ∙ ap (cond (b (ahead s)) (done (inserted (letters d l) s))) (y .on-state self s)

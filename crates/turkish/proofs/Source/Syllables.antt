@@ -18,7 +18,7 @@ use Rattle.turkish.specs.Source.{vowel as vowelLetters, more-than-one-sy
 use Rattle.turkish.specs.Answers.{entered, called, succeeded, syllableCheck}
 use Rattle.turkish.proofs.Laws.Syllables.{any-append, moreThanOneSyllable-append}
 use Rattle.turkish.proofs.Source.Means.{settled, placed, Means, done-failed, done-state, failed-state, ahead-on, moved-none, settled-on}
-use Rattle.turkish.proofs.Source.Means.{takeIf, peeked, sought, means-test, means-grouping, means-gopast}
+use Rattle.turkish.proofs.Source.Means.{takeIf, peeked, peeked-more, sought, means-test, means-grouping, means-gopast}
 
 -- ---- atleast ----
 
@@ -121,12 +121,6 @@ often-step (suc n) cs = go (any vowel cs)
     go : (t : Bool) → t && often n (beforeLastVowel cs) ≡ cond t (often (suc n - 1) (beforeLastVowel cs)) (eqb (suc n) 0)
     go true = let e : n ≡ suc n - 1 = omega arith in ap (λ (k : ℕ). often k (beforeLastVowel cs)) e
     go false = sym (ne-eqb (suc n) 0 (λ e. omega arith))
-
--- looking only, so many characters more make no difference
-peeked-more : (k : ℕ) (f : Bool) (o : Out) → peeked (more k f o) ≡ peeked o
-unfolding peeked more
-peeked-more k f fail = refl
-peeked-more k f (took j g) = refl
 
 -- a turn, looking only
 peeked-turn : (wanted k : ℕ) (t : Bool) (g : ℕ → Out) → peeked (turn wanted (takeIf t k) g) ≡ cond t (peeked (g k)) (takeIf (eqb wanted 0) 0)

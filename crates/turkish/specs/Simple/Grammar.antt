@@ -59,6 +59,7 @@ markOf m cs =
 
 -- a mark; one after the other; the first of two that fits; nothing; and `unset` of the flag. A deletion stands nowhere: nothing that
 -- follows one can fail, so all that a branch takes is deleted.
+-- `then` binds tighter here, `or` in Snowball
 infixr 35 _then_
 infixr 30 _or_
 pub data Command : Type 0 where

@@ -29,11 +29,11 @@ tables =
     ∷ tableOf 6 cAsInA ∷ tableOf 3 yDU ∷ tableOf 3 ysA ∷ tableOf 3 ymUs ∷ tableOf 3 yken ∷ hardTable ∷ []
 
 -- no character of the key is 0
-unfoldable pub letters : List ℕ → Bool
-letters [] = true
-letters (c ∷ cs) = ltb 0 c && letters cs
+unfoldable pub nonzero : List ℕ → Bool
+nonzero [] = true
+nonzero (c ∷ cs) = ltb 0 c && nonzero cs
 
 -- no key of the table has a 0 or more than `width` characters
 unfoldable pub whole : ℕ → List (List ℕ) → Bool
 whole width [] = true
-whole width (k ∷ ks) = leb (length k) width && letters k && whole width ks
+whole width (k ∷ ks) = leb (length k) width && nonzero k && whole width ks
