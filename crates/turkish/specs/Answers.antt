@@ -14,6 +14,7 @@ entered t = record { text = t; cursor = 0; ket = 0; bra = 0; flag = false; strle
 unfoldable pub called : Direction → Command → State → Result
 called d p s = run d failed p s
 
+-- whether it succeeded, and the state that it left
 unfoldable pub succeeded : Result → Bool
 succeeded (done s) = true
 succeeded (failed s) = false

@@ -38,6 +38,7 @@ place s = length (ahead s)
 unfoldable pub limit : State → ℕ
 limit s = length (encodeAll (s .text))
 
+-- the same with another cursor, slice, flag, strlen or key found
 unfoldable pub moveTo : State → ℕ → State
 moveTo s c = record { text = s .text; cursor = c; ket = s .ket; bra = s .bra; flag = s .flag; strlen = s .strlen; found = s .found }
 
@@ -128,6 +129,7 @@ unfoldable pub longest : ℕ → List (List ℕ) → List ℕ → Key
 longest i [] cs = record { number = 0; size = 0 }
 longest i (k ∷ ks) cs = longer (starts k cs) (record { number = i; size = length k }) (longest (i + 1) ks cs)
 
+-- the longest key of a table ahead, and whether there is one
 unfoldable pub keyAhead : Direction → List String → State → Key
 keyAhead d keys s = longest 1 (map (letters d) keys) (ahead s)
 
@@ -162,9 +164,11 @@ deep body (suc n) s = body (deep body n) s
 unfoldable pub placeAfter : ℕ → ℕ → ℕ → ℕ → ℕ
 placeAfter bra ket n p = cond (leb ket p) (p + n - (ket - bra)) (cond (ltb bra p) bra p)
 
+-- another text, with the cursor at place p
 unfoldable pub withText : State → List ℕ → ℕ → State
 withText s t p = record { text = t; cursor = length t - p; ket = s .ket; bra = s .bra; flag = s .flag; strlen = s .strlen; found = s .found }
 
+-- `<-`, and `delete` where it is nothing
 unfoldable pub sliceFrom : List ℕ → State → State
 sliceFrom cs s =
     let n = length (s .text) in

@@ -16,6 +16,7 @@ foldChar c =
     (cond (eqb c (code "Ş")) (code "ş")
     (cond (eqb c (code "Ü")) (code "ü") c)))))
 
+-- all of a text's
 unfoldable pub fold : List ℕ → List ℕ
 fold cs = map foldChar cs
 

@@ -17,10 +17,11 @@ use Rattle.turkish.proofs.Source.Syllables.{syllableCheck-simple}
 use Rattle.turkish.proofs.Source.Stage.{suffixStage-simple}
 use Rattle.turkish.proofs.Source.Postlude.{postludeOf-simple}
 
--- the stage's answer and flag
+-- the stage's answer
 pub suffixStage-yes : (cs : List ℕ) → suffixStage cs .yes ≡ stage cs .yes
 suffixStage-yes cs = rw (suffixStage-simple cs)
 
+-- its flag
 pub suffixStage-flag : (cs : List ℕ) → suffixStage cs .flag ≡ stage cs .flag
 suffixStage-flag cs = rw (suffixStage-simple cs)
 
@@ -28,10 +29,11 @@ suffixStage-flag cs = rw (suffixStage-simple cs)
 pub suffixStage-text : (cs : List ℕ) → suffixStage cs .text ≡ kept cs
 suffixStage-text cs = rw (suffixStage-simple cs)
 
--- the postlude's answer and text
+-- the postlude's answer
 pub postludeOf-yes : (cs : List ℕ) → postludeOf cs .yes ≡ postludeYes cs
 postludeOf-yes cs = rw (postludeOf-simple cs)
 
+-- and its text
 pub postludeOf-text : (cs : List ℕ) → postludeOf cs .text ≡ postlude cs
 postludeOf-text cs = rw (postludeOf-simple cs)
 
@@ -42,6 +44,7 @@ simplePass cs =
     (record { text = cond (stage cs .flag) (postlude (kept cs)) (kept cs); syllable = true; yes = stage cs .yes; flag = stage cs .flag })
     (record { text = cs; syllable = false; yes = false; flag = true })
 
+-- is the pass over what the source answers
 pub pass-simple : (cs : List ℕ) → pass cs ≡ simplePass cs
 unfolding pass passStage simplePass
 pass-simple cs = rw (syllableCheck-simple cs, suffixStage-simple cs, postludeOf-text (kept cs))
@@ -53,10 +56,12 @@ reachesReserved-simple cs = rw (syllableCheck-simple cs, suffixStage-simple cs, 
 
 -- ---- the calls ----
 
+-- the syllable check's answer
 pub syllableCall-simple : (w : List ℕ) → syllableCall w ≡ cond (accepted w) (record { refusal = 0; yes = moreThanOneSyllable (chars w) }) (record { refusal = refusal w; yes = false })
 unfolding syllableCall
 syllableCall-simple w = rw (syllableCheck-simple (chars w))
 
+-- and the postlude's text
 pub postludeText-simple : (w : List ℕ) → postludeText w ≡ bytes (postlude (chars w))
 unfolding postludeText
 postludeText-simple w = ap bytes (postludeOf-text (chars w))

@@ -58,6 +58,7 @@ each-has {P} c (_⊹_ {c = x} {cs = xs} p ps) h = go (eqb c x) refl (each-has c 
 unfoldable pub partnerAhead : String → String → List ℕ → Out
 partnerAhead v g cs = after (takeIf (starts (letters backward v) cs) (length (letters backward v))) (λ k. walk (text g) (drop k cs))
 
+-- all eight
 unfoldable pub partners : List ℕ → Out
 partners cs =
     first (partnerAhead "a" vowel1 cs) (first (partnerAhead "e" vowel2 cs) (first (partnerAhead "ı" vowel3 cs) (first (partnerAhead "i" vowel4 cs)
@@ -128,6 +129,7 @@ joint-same (c ∷ v ∷ cs) = go (eqb 0x79 c) (has vowels v) refl (eqb-comm c 0x
     go false true e s h = rw (s, e, h)
     go false false e s h = rw (s, e, h)
 
+-- so the routine is the simple form's one clause
 pub optionalY-means : Means backward mark-suffix-with-optional-y-consonant (optionalY 0x79)
 unfolding mark-suffix-with-optional-y-consonant joint vowels letters fromEnd text
 optionalY-means =

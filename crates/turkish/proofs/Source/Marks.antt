@@ -86,11 +86,12 @@ harmonic j ks x = means-as (means-then harmony-means x) (λ cs. go cs (harmony c
     go cs true = more-none (after (among (map fromEnd ks) cs) (λ k. cond j (optionalY 0x79 (drop k cs)) (took 0 true)))
     go cs false = refl
 
--- a mark of a key alone, and of a key with an optional y
+-- a mark of a key alone
 bare : (ks : List String) → apart (map fromEnd ks) ≡ true → Means backward (Snowball.among ks) (markOf (marked false ks false))
 unfolding markOf marked asking
 bare ks a = means-as (among-means ks a) (after-none (map fromEnd ks))
 
+-- and of a key with an optional y
 joining : (ks : List String) → apart (map fromEnd ks) ≡ true
     → Means backward (Snowball.among ks then mark-suffix-with-optional-y-consonant) (markOf (marked false ks true))
 unfolding markOf marked asking
@@ -98,7 +99,7 @@ joining ks a = means-then (among-means ks a) optionalY-means
 
 -- ---- the marks ----
 
--- that no key of a mark is the tail of another is known of every table by its place in the list
+-- one a mark, in the order of the tables; that no key of it is the tail of another is known by its table's place in the list
 pub yUm-means : Means backward mark-yUm (markOf yUm)
 unfolding mark-yUm yUm marked tables
 yUm-means = harmonic true A-12 (joining A-12 (apart-at 0))

@@ -46,6 +46,7 @@ pub done-state : {s t : State} → done s ≡ done t → s ≡ t
 unfolding left
 done-state e = ap left e
 
+-- whether it failed or not
 pub failed-state : {s t : State} → failed s ≡ failed t → s ≡ t
 unfolding left
 failed-state e = ap left e
@@ -81,6 +82,7 @@ settled-on s k f q o h =
 
 -- ---- one after the other, and the first of two ----
 
+-- the second runs where the first left the cursor, and takes so many more
 then-result : (s : State) (q : State → Result) (g : List ℕ → Out)
     → ((t : State) → settled (t .cursor) (q t) ≡ placed t (g (ahead t)))
     → (r : Result) (o : Out) → settled (s .cursor) r ≡ placed s o → settled (s .cursor) (andThen r q) ≡ placed s (after o (λ k. g (drop k (ahead s))))
@@ -93,11 +95,13 @@ then-result s q g h (done t) (took k f) e =
 then-result s q g h (failed t) fail e = e
 then-result s q g h (failed t) (took k f) e = done-failed (sym e)
 
+-- so one command after another takes what both take
 pub means-then : {d : Direction} {p q : Command} {f g : List ℕ → Out} → Means d p f → Means d q g → Means d (p then q) (λ cs. after (f cs) (λ k. g (drop k cs)))
 unfolding run
 means-then {d} {p} {q} {f} {g} x y =
     record { on-state = λ self s. then-result s (run d self q) g (y .on-state self) (run d self p s) (f (ahead s)) (x .on-state self s) }
 
+-- where the first fails, the second runs from the same state
 or-result : (s : State) (q : State → Result) (r : Result) (o u : Out)
     → settled (s .cursor) r ≡ placed s o → settled (s .cursor) (q s) ≡ placed s u → settled (s .cursor) (orElse (s .cursor) r q) ≡ placed s (first o u)
 unfolding settled placed orElse first
@@ -106,6 +110,7 @@ or-result s q (done t) (took k f) u e h = e
 or-result s q (failed t) fail u e h = ap (λ (v : State). settled (s .cursor) (q v)) (failed-state e) ∙ h
 or-result s q (failed t) (took k f) u e h = done-failed (sym e)
 
+-- so `or` takes what the first takes that does not fail
 pub means-or : {d : Direction} {p q : Command} {f g : List ℕ → Out} → Means d p f → Means d q g → Means d (p or q) (λ cs. first (f cs) (g cs))
 unfolding run
 means-or {d} {p} {q} {f} {g} x y =
@@ -129,6 +134,7 @@ unfolding peeked more
 peeked-more k f fail = refl
 peeked-more k f (took j g) = refl
 
+-- a test that succeeds leaves the state as it was
 test-result : (s : State) (r : Result) (o : Out) → settled (s .cursor) r ≡ placed s o → settled (s .cursor) (tested (s .cursor) r) ≡ placed s (peeked o)
 unfolding settled placed tested peeked moveTo
 test-result s (done t) fail e = done-failed e
@@ -136,10 +142,12 @@ test-result s (done t) (took k f) e = ap (λ (u : State). done (moveTo u (s .cur
 test-result s (failed t) fail e = e
 test-result s (failed t) (took k f) e = done-failed (sym e)
 
+-- so `test` takes nothing
 pub means-test : {d : Direction} {p : Command} {f : List ℕ → Out} → Means d p f → Means d (test p) (λ cs. peeked (f cs))
 unfolding run
 means-test {d} {p} {f} x = record { on-state = λ self s. test-result s (run d self p s) (f (ahead s)) (x .on-state self s) }
 
+-- what fails leaves the state as it was
 not-result : (s : State) (r : Result) (o : Out) → settled (s .cursor) r ≡ placed s o → settled (s .cursor) (negated (s .cursor) r) ≡ placed s (denied o)
 unfolding settled placed negated denied moveTo
 not-result s (done t) fail e = done-failed e
@@ -147,6 +155,7 @@ not-result s (done t) (took k f) e = ap (λ (u : State). failed (moveTo u (s .cu
 not-result s (failed t) fail e = ap done (failed-state e) ∙ sym (moved-none s)
 not-result s (failed t) (took k f) e = done-failed (sym e)
 
+-- so `not` succeeds, taking nothing, where its command fails
 pub means-not : {d : Direction} {p : Command} {f : List ℕ → Out} → Means d p f → Means d (not p) (λ cs. denied (f cs))
 unfolding run
 means-not {d} {p} {f} x = record { on-state = λ self s. not-result s (run d self p s) (f (ahead s)) (x .on-state self s) }
@@ -157,19 +166,23 @@ means-not {d} {p} {f} x = record { on-state = λ self s. not-result s (run d sel
 unfoldable pub takeIf : Bool → ℕ → Out
 takeIf b n = cond b (took n true) fail
 
+-- so many are passed, or the state stays
 read-result : (s : State) (b : Bool) (n : ℕ) → settled (s .cursor) (readIf b n s) ≡ placed s (takeIf b n)
 unfolding settled placed readIf takeIf moveTo
 read-result s true n = refl
 read-result s false n = refl
 
+-- a character, if one is left
 pub means-next : {d : Direction} → Means d next (λ cs. takeIf (isLeft cs) 1)
 unfolding run
 means-next = record { on-state = λ self s. read-result s (isLeft (ahead s)) 1 }
 
+-- a literal's letters
 pub means-literal : {d : Direction} (l : String) → Means d (literal l) (λ cs. takeIf (starts (letters d l) cs) (length (letters d l)))
 unfolding run
 means-literal {d} l = record { on-state = λ self s. read-result s (starts (letters d l) (ahead s)) (length (letters d l)) }
 
+-- a character of a grouping
 pub means-grouping : {d : Direction} (g : String) → Means d (grouping g) (λ cs. takeIf (isIn (text g) cs) 1)
 unfolding run
 means-grouping g = record { on-state = λ self s. read-result s (isIn (text g) (ahead s)) 1 }
@@ -180,6 +193,7 @@ unfolding run keyAhead
 means-among {d} ks =
     record { on-state = λ self s. let k = longest 1 (map (letters d) ks) (ahead s) in read-result s (fits k) (k .size) }
 
+-- nothing, and success
 pub means-succeed : {d : Direction} → Means d succeed (λ cs. took 0 true)
 unfolding run settled placed
 means-succeed = record { on-state = λ self s. sym (moved-none s) }
@@ -191,6 +205,7 @@ unfoldable pub sought : (List ℕ → Out) → List ℕ → Out
 sought f [] = f []
 sought f (c ∷ cs) = first (f (c ∷ cs)) (more 1 true (sought f cs))
 
+-- a walk from place to place, with one turn for each character ahead and one at the edge
 past-result : (q : State → Result) (f : List ℕ → Out) → ((s : State) → settled (s .cursor) (q s) ≡ placed s (f (ahead s)))
     → (cs : List ℕ) (s : State) → ahead s ≡ cs → settled (s .cursor) (goPast (suc (length cs)) q s) ≡ placed s (sought f cs)
 unfolding goPast sought readIf isLeft andThen settled placed moveTo
@@ -206,15 +221,18 @@ past-result q f h (c ∷ cs) s e =
     or-result s (λ t. andThen (readIf (isLeft (ahead t)) 1 t) (goPast n q)) (q s) (f (c ∷ cs)) (more 1 true (sought f cs)) here
     (on ∙ settled-on s 1 true (goPast n q) (sought f cs) there)
 
+-- so `gopast` goes to where its command first succeeds, and past it
 pub means-gopast : {d : Direction} {p : Command} {f : List ℕ → Out} → Means d p f → Means d (gopast p) (sought f)
 unfolding run enough
 means-gopast {d} {p} {f} x = record { on-state = λ self s. past-result (run d self p) f (x .on-state self) (ahead s) s refl }
 
+-- and `goto` stays before it
 pub means-goto : {d : Direction} {p : Command} {f : List ℕ → Out} → Means d p f → Means d (goto p) (sought (λ cs. peeked (f cs)))
 unfolding run
 means-goto x = record { on-state = means-gopast (means-test x) .on-state }
 
 -- ---- another function with the same answers ----
 
+-- what a command means may be said otherwise
 pub means-as : {d : Direction} {p : Command} {f g : List ℕ → Out} → Means d p f → ((cs : List ℕ) → f cs ≡ g cs) → Means d p g
 means-as x e = record { on-state = λ self s. x .on-state self s ∙ ap (placed s) (e (ahead s)) }

@@ -89,6 +89,7 @@ unfoldable pub amount : Out → ℕ
 amount fail = 0
 amount (took k f) = k
 
+-- the flag that it leaves, true where it fails
 unfoldable pub flagOf : Out → Bool
 flagOf fail = true
 flagOf (took k f) = f
@@ -225,36 +226,43 @@ line325 = (mark-sUnUz or mark-yUz or mark-sUn or mark-yUm) then ⟧ then delete 
 abbrev line327 : Command
 line327 = mark-DUr then ⟧ then delete then try (⟦ then persons then mark-ymUs-)
 
+-- the group takes what the simple form's takes
 persons-means : Means backward persons (Grammar.run person)
 unfolding Grammar.run person
 persons-means = means-or sUnUz-means (means-or lAr-means (means-or yUm-means (means-or sUn-means (means-or yUz-means means-succeed))))
 
 -- each cuts what the simple form's takes, entered with the slice opened at the text's end
 module _ (self : State → Result) (t : List ℕ) (b : ℕ) (s : State) where
+  -- line 314
   cuts-1 : Cuts (opened t b s) (Grammar.run branch1 t) (run backward self line314 (opened t b s))
   unfolding Grammar.run branch1
   cuts-1 = cuts-means self t b s (means-or ymUs-means (means-or yDU-means (means-or ysA-means yken-means))) (branch1-keeps t)
 
+  -- line 316
   cuts-2 : Cuts (opened t b s) (Grammar.run branch2 t) (run backward self line316 (opened t b s))
   unfolding Grammar.run branch2
   cuts-2 = cuts-means self t b s (means-then cAsInA-means (means-then persons-means ymUs-means)) (branch2-keeps t)
 
+  -- lines 319 and 320, which take the flag down
   cuts-3 : Cuts (opened t b s) (Grammar.run branch3 t) (run backward self line319 (opened t b s))
   unfolding Grammar.run branch3 Grammar.try
   cuts-3 =
       let may = means-or DUr-means (means-or yDU-means (means-or ysA-means ymUs-means)) in
       cuts-deleted self _ _ false t b s lAr-means (λ k. follows-unset self (drop k t) (length t) (opened t b s) may) (branch3-lowers t)
 
+  -- line 323
   cuts-4 : Cuts (opened t b s) (Grammar.run branch4 t) (run backward self line323 (opened t b s))
   unfolding Grammar.run branch4
   cuts-4 = cuts-means self t b s (means-then nUz-means (means-or yDU-means ysA-means)) (branch4-keeps t)
 
+  -- line 325
   cuts-5 : Cuts (opened t b s) (Grammar.run branch5 t) (run backward self line325 (opened t b s))
   unfolding Grammar.run branch5 Grammar.try opened withFlag
   cuts-5 =
       let begins = means-or sUnUz-means (means-or yUz-means (means-or sUn-means yUm-means)) in
       cuts-deleted self _ _ true t b s begins (λ k. follows-try self (drop k t) (length t) (opened t b s) ymUs-means refl) (branch5-keeps t)
 
+  -- line 327
   cuts-6 : Cuts (opened t b s) (Grammar.run branch6 t) (run backward self line327 (opened t b s))
   unfolding Grammar.run branch6 Grammar.try opened withFlag
   cuts-6 =

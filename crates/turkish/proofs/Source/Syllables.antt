@@ -87,6 +87,7 @@ drop-overVowel (c ∷ cs) = go (vowel c) (drop-overVowel cs)
 vowelAhead : List ℕ → Out
 vowelAhead = sought (λ cs. takeIf (isIn (text vowelLetters) cs) 1)
 
+-- where there is a vowel, as far as the next one goes
 vowelAhead-takes : (cs : List ℕ) → vowelAhead cs ≡ takeIf (any vowel cs) (overVowel cs)
 unfolding vowelAhead sought isIn takeIf any overVowel first more vowel vowels
 vowelAhead-takes [] = refl
