@@ -23,8 +23,17 @@ pub fn oracle_source() -> PathBuf {
 
 /// The definition's transcription of turkish.sbl.
 pub fn transcription() -> PathBuf {
-    let turkish = concat!(env!("CARGO_MANIFEST_DIR"), "/../../crates/turkish");
-    PathBuf::from(turkish).join("specs/Source.antt")
+    definition("Source.antt")
+}
+
+/// The definition's meaning of Snowball's commands.
+pub fn commands() -> PathBuf {
+    definition("Snowball.antt")
+}
+
+fn definition(name: &str) -> PathBuf {
+    let specs = concat!(env!("CARGO_MANIFEST_DIR"), "/../../crates/turkish/specs");
+    PathBuf::from(specs).join(name)
 }
 
 fn named(variable: &str, otherwise: &str) -> PathBuf {

@@ -43,10 +43,21 @@ pub struct Definition {
     pub routines: Vec<Declared<Routine>>,
 }
 
+// Where names may come from.
+const MODULES: [&str; 3] = [
+    "Prim.Native.String.{",
+    "mathlib.Core.List.{",
+    "Rattle.turkish.specs.Snowball.{",
+];
+
 /// Reads the whole file; what is neither imported nor one of the three is refused by a message.
 pub fn read(text: &str) -> Result<Definition, String> {
     let items = items(text)?;
-    let mut items = items.iter().filter(|item| item[0].word() != Some("use"));
+    let is_import = |item: &&Vec<Token>| item[0].word() == Some("use");
+    for item in items.iter().filter(is_import) {
+        import(item)?;
+    }
+    let mut items = items.iter().filter(|item| !is_import(item));
     let mut definition = Definition::default();
     while let Some(signature) = items.next() {
         let words: Vec<&str> = signature.iter().filter_map(Token::word).collect();
@@ -71,6 +82,20 @@ pub fn read(text: &str) -> Result<Definition, String> {
         }
     }
     Ok(definition)
+}
+
+// Every name is what its module calls it: a command under another's name would be read as that.
+fn import(tokens: &[Token]) -> Result<(), String> {
+    unnumbered(tokens)?;
+    let words: Vec<&str> = tokens.iter().skip(1).filter_map(Token::word).collect();
+    let module = words.first().copied().unwrap_or_default();
+    if !MODULES.iter().any(|known| module.starts_with(known)) {
+        return Err(tokens[0].wrong("an import that is neither texts, lists nor commands"));
+    }
+    match words.contains(&"as") {
+        true => Err(tokens[0].wrong("a name under another")),
+        false => Ok(()),
+    }
 }
 
 // A name, `=`, and the value that is yet to be read.

@@ -289,3 +289,13 @@ fn an_edit_of_the_rust() {
         }
     }
 }
+
+#[test]
+fn a_command_under_another_name() {
+    let sides = Sides::new();
+    let renamed = |old: &str, new: &str| sides.source.replacen(old, new, 1);
+    sides.noticed(vec![
+        renamed("goto, gopast,", "goto as gopast, gopast as goto,"),
+        renamed("specs.Snowball.{", "specs.Simple.Grammar.{"),
+    ]);
+}

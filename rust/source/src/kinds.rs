@@ -60,7 +60,7 @@ mod tests {
     use crate::held::paragraphs;
 
     const SOURCE: &str = r#"-- Short texts.
-use Somewhere.{Command}
+use Rattle.turkish.specs.Snowball.{Command}
 
 abbrev pub ad : String
 ad = "da"

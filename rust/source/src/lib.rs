@@ -5,6 +5,7 @@ mod command;
 mod definition;
 pub mod held;
 pub mod kinds;
+pub mod precedence;
 mod reached;
 mod routine;
 mod tokens;

@@ -5,6 +5,7 @@ use shared::command::command;
 use shared::places;
 use source::held::paragraphs;
 use source::kinds::kinds;
+use source::precedence;
 use std::fs;
 use std::path::Path;
 use std::process::ExitCode;
@@ -34,6 +35,7 @@ fn run() -> Result<(), String> {
     let source = read(&places::transcription())?;
     let rust = read(&places::oracle_source().join("src/snowball/algorithms/turkish.rs"))?;
     let rust = paragraphs(&rust);
+    precedence::hold(&read(&places::commands())?)?;
     let kinds = kinds(&source)?;
     let mut differing = 0;
     for kind in &kinds {
