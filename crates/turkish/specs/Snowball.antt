@@ -189,28 +189,14 @@ inserted cs s =
 -- `backwards`: what stands before the cursor is set aside (limit_backward = cursor), the rest is read from its end
 unfoldable pub turned : State → State
 turned s =
-    record {
-      text = reverse (ahead s);
-      cursor = 0;
-      ket = s .ket - s .cursor;
-      bra = s .bra - s .cursor;
-      flag = s .flag;
-      strlen = s .strlen;
-      found = s .found;
-    }
+    let c = s .cursor in
+    record { text = reverse (ahead s); cursor = 0; ket = s .ket - c; bra = s .bra - c; flag = s .flag; strlen = s .strlen; found = s .found }
 
 -- and afterwards the cursor stands where it stood
 unfoldable pub turnedBack : List ℕ → State → State
 turnedBack front s =
-    record {
-      text = front ++ reverse (s .text);
-      cursor = length front;
-      ket = s .ket + length front;
-      bra = s .bra + length front;
-      flag = s .flag;
-      strlen = s .strlen;
-      found = s .found;
-    }
+    let c = length front in
+    record { text = front ++ reverse (s .text); cursor = c; ket = s .ket + c; bra = s .bra + c; flag = s .flag; strlen = s .strlen; found = s .found }
 
 -- ---- commands and their meaning ----
 
