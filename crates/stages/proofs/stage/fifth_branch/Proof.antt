@@ -34,12 +34,7 @@ look-back-requires c κs =
     open-cut _ _ _ (b .before .before .before .before .before .pre .0 .opens) (b .first-of .ensures) (a .c .given .1) (c .deleted .ensures)
 
 one-of-requires : tie.Need-one-of-requires
-one-of-requires c κs =
-    let d = c .before in
-    let a = d .before .before in
-    let b = a .before .before in
-    let opens = open-cut _ _ _ (b .before .before .before .before .before .pre .0 .opens) (b .first-of .ensures) (a .c .given .1) (d .deleted .ensures) in
-    (sees-made _ _ (c .look-back .ensures) opens, hears-unasked _ (c .look-back .result .c))
+one-of-requires c κs = (sees-made _ _ (c .look-back .ensures) (look-back-requires (c .before) κs), hears-unasked _ (c .look-back .result .c))
 
 returns-3 : tie.Need-returns-3
 unfolding run try branch5 numbered

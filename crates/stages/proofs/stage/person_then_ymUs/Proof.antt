@@ -20,9 +20,7 @@ look-back-requires : tie.Need-look-back-requires
 look-back-requires c κs = open-tried _ _ _ (c .before .before .before .pre) (c .try-of .ensures)
 
 one-of-requires : tie.Need-one-of-requires
-one-of-requires c κs =
-    let b = c .before in
-    (sees-made _ _ (c .look-back .ensures) (open-tried _ _ _ (b .before .before .before .pre) (b .try-of .ensures)), hears-unasked _ (c .look-back .result .c))
+one-of-requires c κs = (sees-made _ _ (c .look-back .ensures) (look-back-requires (c .before) κs), hears-unasked _ (c .look-back .result .c))
 
 returns : tie.Need-returns
 unfolding run numbered
