@@ -1,7 +1,10 @@
 -- What a passed test says of its parts, and how its parts make it pass or fail, for the whole repository. Assumes nothing.
+use Prim.Native.Nat.{ℕ, _≤_, _<_}
 use mathlib.Core.Path.{_≡_, refl}
 use mathlib.Core.Logic.{_⊎_, inl, inr}
 use mathlib.Core.Bool.{Bool, true, false, cond, not, _&&_, _||_, or-false, false≢true}
+use lib.Dec.{ltb}
+use borrow.Author.Tests.{ltb-true, ltb-false}
 
 -- two tests that pass together pass each: the first
 pub and-left : (a b : Bool) → a && b ≡ true → a ≡ true
@@ -56,3 +59,11 @@ chosen false p q = refl
 pub not-eq-false : (a : Bool) → not a ≡ true → a ≡ false
 not-eq-false true e = absurd (false≢true e)
 not-eq-false false e = refl
+
+-- one number is below another, or it is not
+pub lt-or-le : {P : Type 0} (a b : ℕ) → (a < b → P) → (b ≤ a → P) → P
+lt-or-le {P} a b p q = go (ltb a b) refl
+  where
+    go : (t : Bool) → ltb a b ≡ t → P
+    go true e = p (ltb-true a b e)
+    go false e = q (ltb-false a b e)

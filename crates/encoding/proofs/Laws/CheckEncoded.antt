@@ -3,7 +3,7 @@
 use Prim.Native.Nat.{ℕ, suc, _+_, _/_, _%_, _≤_, _<_}
 use mathlib.Core.Path.{_≡_, refl, ap, _∙_}
 use mathlib.Core.Bool.{false, _&&_}
-use mathlib.Core.List.{List, [], _∷_, _++_}
+use mathlib.Core.List.{List, _∷_, _++_}
 use native.Mathlib.Omega.{arith}
 use lib.Dec.{leb}
 use borrow.Author.Tests.{le-leb, lt-leb}
@@ -11,13 +11,10 @@ use Rattle.encoding.specs.Scalar.{scalar}
 use Rattle.encoding.specs.Encoding.{encode}
 use Rattle.encoding.specs.Validity.{table37, due, accepts, isText}
 use Rattle.encoding.proofs.Laws.Scalar.{is-scalar, is-surrogate, surrogate-not-scalar, above-not-scalar}
-use Rattle.encoding.proofs.Laws.Encoding.{two, three, four, by-test, encode-elim}
+use Rattle.encoding.proofs.Laws.Encoding.{two, three, four, encode-elim}
+use Rattle.encoding.proofs.Laws.Booleans.{lt-or-le}
 use Rattle.encoding.proofs.Laws.Table37.{rowAt, InRow}
 use Rattle.encoding.proofs.Laws.Validity.{isText-row, isText-above, accepts-due, accepts-six}
-
--- a case on a bound
-below : {P : Type 0} (a b : ℕ) → (a < b → P) → (b ≤ a → P) → P
-below {P} a b f g = by-test (λ bs. P) a b [] [] f g
 
 -- with the first byte in row k, the row tests the second, and n more are due
 isText-second : (k n b b₁ : ℕ) (bs : List ℕ) → InRow k b → rowAt k .more ≡ suc n → isText (b ∷ b₁ ∷ bs) ≡ leb (rowAt k .low) b₁ && leb b₁ (rowAt k .high) && accepts (due n 0x80 0xBF) bs
@@ -63,20 +60,20 @@ module _ (c : ℕ) (rest : List ℕ) where
   isText-three : 0x800 ≤ c → c < 0x10000 → isText (three c ++ rest) ≡ scalar c && isText rest
   unfolding table37
   isText-three l h =
-      below c 0x1000 (λ h₁. goes-on 2 1 _ _ _ last-one (omega arith)) λ l₁.
-      below c 0xD000 (λ h₂. goes-on 3 1 _ _ _ last-one (omega arith)) λ l₂.
-      below c 0xD800 (λ h₃. goes-on 4 1 _ _ _ last-one (omega arith)) λ l₃.
-      below c 0xE000 (λ h₄. refuses 4 1 _ _ _ (omega arith) (surrogate-not-scalar c (is-surrogate c l₃ (omega arith)))) λ l₄.
+      lt-or-le c 0x1000 (λ h₁. goes-on 2 1 _ _ _ last-one (omega arith)) λ l₁.
+      lt-or-le c 0xD000 (λ h₂. goes-on 3 1 _ _ _ last-one (omega arith)) λ l₂.
+      lt-or-le c 0xD800 (λ h₃. goes-on 4 1 _ _ _ last-one (omega arith)) λ l₃.
+      lt-or-le c 0xE000 (λ h₄. refuses 4 1 _ _ _ (omega arith) (surrogate-not-scalar c (is-surrogate c l₃ (omega arith)))) λ l₄.
       goes-on 5 1 _ _ _ last-one (omega arith)
 
   -- four bytes, by the rows from 0xF0 to 0xF4 and past them
   isText-four : 0x10000 ≤ c → isText (four c ++ rest) ≡ scalar c && isText rest
   unfolding table37
   isText-four l =
-      below c 0x40000 (λ h₁. goes-on 6 2 _ _ _ last-two (omega arith)) λ l₁.
-      below c 0x100000 (λ h₂. goes-on 7 2 _ _ _ last-two (omega arith)) λ l₂.
-      below c 0x110000 (λ h₃. goes-on 8 2 _ _ _ last-two (omega arith)) λ l₃.
-      below c 0x140000 (λ h₄. refuses 8 2 _ _ _ (omega arith) (above-not-scalar c l₃)) λ l₄.
+      lt-or-le c 0x40000 (λ h₁. goes-on 6 2 _ _ _ last-two (omega arith)) λ l₁.
+      lt-or-le c 0x100000 (λ h₂. goes-on 7 2 _ _ _ last-two (omega arith)) λ l₂.
+      lt-or-le c 0x110000 (λ h₃. goes-on 8 2 _ _ _ last-two (omega arith)) λ l₃.
+      lt-or-le c 0x140000 (λ h₄. refuses 8 2 _ _ _ (omega arith) (above-not-scalar c l₃)) λ l₄.
       isText-above _ _ (omega arith) ∙ rw (above-not-scalar c l₃)
 
   -- a character's bytes before others are accepted where it is a scalar value and the others are

@@ -15,7 +15,8 @@ use Rattle.lines.specs.Put.{put, lineRoom}
 use Rattle.listing.specs.Feed.{most, fedOut, fedLine}
 use Rattle.listing.specs.Fed.{Fed, standing, endLine, holdByte, feedByte, feedBytes}
 use Rattle.listing.proofs.Blocks.{fedLine-append, fedOut-append}
-use Rattle.listing.proofs.Laws.Held.{lf-or-other, lt-or-le, heldNext-le, take-heldNext}
+use Rattle.encoding.proofs.Laws.Booleans.{lt-or-le}
+use Rattle.listing.proofs.Laws.Held.{lf-or-other, heldNext-le, take-heldNext}
 use Rattle.lines.proofs.Laws.Put.{put-nothing, put-put, length-put, put-end}
 use Rattle.lines.proofs.Laws.LineText.{listLine-size}
 

@@ -9,7 +9,8 @@ use native.Mathlib.Numerals.{add-one}
 use lib.ListN.{length, take, set, length-append, length-take}
 use lib.Seq.{take-all, take-append-le, take-suc-set, set-out}
 use lib.Dec.{eqb, ltb}
-use borrow.Author.Tests.{ltb-true, ltb-false, lt-ltb, le-ltb}
+use borrow.Author.Tests.{lt-ltb, le-ltb}
+use Rattle.encoding.proofs.Laws.Booleans.{lt-or-le}
 use Rattle.turkish.specs.Calls.{limit, refusal}
 use Rattle.lines.specs.Line.{lf, lineRefusal, refusedLine, listLine}
 use Rattle.listing.specs.Listing.{unclosed, listAll}
@@ -23,14 +24,6 @@ lf-or-other {P} b = go (eqb b lf)
     go : (t : Bool) → (t ≡ true → P) → (t ≡ false → P) → P
     go true p q = p refl
     go false p q = q refl
-
--- one number is below another, or it is not
-pub lt-or-le : {P : Type 0} (a b : ℕ) → (a < b → P) → (b ≤ a → P) → P
-lt-or-le {P} a b p q = go (ltb a b) refl
-  where
-    go : (t : Bool) → ltb a b ≡ t → P
-    go true e = p (ltb-true a b e)
-    go false e = q (ltb-false a b e)
 
 -- ---- the part held ----
 
