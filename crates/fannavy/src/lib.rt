@@ -1,8 +1,8 @@
 // What a host program links: thin calls under C's convention, each with its contract by the library's own definitions. None asks
 // anything of its caller beyond what the signature says.
 use folding::fold;
-use texts::pass;
-use texts::postlude;
+use outputs::pass;
+use outputs::postlude;
 use turkish::answer::FoldAnswer;
 use turkish::answer::PassAnswer;
 use turkish::answer::PostludeAnswer;

@@ -4,7 +4,7 @@ use mathlib.Core.Path.{_≡_, refl, _∙_}
 use mathlib.Core.List.{List, _++_}
 use lib.ListN.{length, take, drop}
 use borrow.Author.Tests.{lt-ltb, le-ltb}
-use Rattle.texts.proofs.Laws.Writing.{copy-written}
+use Rattle.outputs.proofs.Laws.Writing.{copy-written}
 use Rattle.probe.specs.Part.{partLength, partOut}
 
 -- a part longer than the output: length 0, and the output stays

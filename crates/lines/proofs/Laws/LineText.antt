@@ -18,7 +18,7 @@ use Rattle.stages.specs.declared.postlude.Repair.{Repair}
 use Rattle.stages.specs.Outcome.{outcomeOf}
 use Rattle.stages.specs.Repairs.{repairText, repairOf}
 use Rattle.words.proofs.Laws.WordCalls.{kept-le}
-use Rattle.texts.proofs.Laws.RepairCalls.{pass-short, pass-kept, pass-repaired}
+use Rattle.outputs.proofs.Laws.RepairCalls.{pass-short, pass-kept, pass-repaired}
 use Rattle.lines.specs.Line.{tab, lf, yesNo, oneZero, answers, fields, lineRefusal, refusedLine, listLine}
 use Rattle.lines.specs.Put.{lineRoom}
 use Rattle.lines.proofs.Laws.LineRefusals.{lineRefusal-accepted, listLine-fields, listLine-refused}

@@ -1,16 +1,16 @@
--- `texts::pass::pass_word` meets its contract: the number, the syllable answer and the flag say which case of `passCall` and
+-- `outputs::pass::pass_word` meets its contract: the number, the syllable answer and the flag say which case of `passCall` and
 -- `passOut` holds. Assumes nothing.
 use Rattle.words.proofs.Laws.Refusals.{into-room}
-use Rattle.texts.proofs.Laws.RepairCalls.{word-fits, front-fits, repair-fits}
-use Rattle.texts.proofs.Laws.RepairCalls.{passCall-passOut-refused, passCall-passOut-short, passCall-passOut-kept, passCall-passOut-repaired}
-use Rattle.texts.proofs.Laws.Writing.{copy-written}
+use Rattle.outputs.proofs.Laws.RepairCalls.{word-fits, front-fits, repair-fits}
+use Rattle.outputs.proofs.Laws.RepairCalls.{passCall-passOut-refused, passCall-passOut-short, passCall-passOut-kept, passCall-passOut-repaired}
+use Rattle.outputs.proofs.Laws.Writing.{copy-written}
 use Rattle.words.proofs.Laws.WordCalls.{kept-le, kept-length-take}
 use Rattle.turkish.specs.Calls.{chars}
 use borrow.Author.Tests.{not-true, not-false}
 use mathlib.Core.Path.{sym, _∙_}
 use borrow.Author.Needs.{needs}
-use Rattle.texts.proofs.pass.pass_word.Statement.{statement}
-use Rattle.texts.proofs.pass.pass_word.Tie as tie
+use Rattle.outputs.proofs.pass.pass_word.Statement.{statement}
+use Rattle.outputs.proofs.pass.pass_word.Tie as tie
 
 add-refusal-into : tie.Need-add-refusal-into
 add-refusal-into c = search needs

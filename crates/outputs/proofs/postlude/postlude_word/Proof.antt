@@ -1,11 +1,11 @@
--- `texts::postlude::postlude_word` meets its contract: the number found says which case of `postludeCall` and `postludeOut` holds;
+-- `outputs::postlude::postlude_word` meets its contract: the number found says which case of `postludeCall` and `postludeOut` holds;
 -- the repair fits the output. Assumes nothing.
 use Rattle.words.proofs.Laws.Refusals.{into-room}
-use Rattle.texts.proofs.Laws.RepairCalls.{repair-fits, postludeCall-postludeOut-refused, postludeCall-postludeOut-given}
+use Rattle.outputs.proofs.Laws.RepairCalls.{repair-fits, postludeCall-postludeOut-refused, postludeCall-postludeOut-given}
 use native.Mathlib.Omega.{arith}
 use borrow.Author.Needs.{needs}
-use Rattle.texts.proofs.postlude.postlude_word.Statement.{statement}
-use Rattle.texts.proofs.postlude.postlude_word.Tie as tie
+use Rattle.outputs.proofs.postlude.postlude_word.Statement.{statement}
+use Rattle.outputs.proofs.postlude.postlude_word.Tie as tie
 
 add-refusal-into : tie.Need-add-refusal-into
 add-refusal-into c = search needs

@@ -1,11 +1,11 @@
--- `texts::repair::write_two` meets its contract: each of its three ends has stored as many bytes as `more` says.
+-- `outputs::repair::write_two` meets its contract: each of its three ends has stored as many bytes as `more` says.
 -- Assumes nothing.
 use native.Mathlib.Omega.{arith}
 use lib.ListN.{length-set}
 use borrow.Author.Needs.{needs}
-use Rattle.texts.proofs.Laws.Writing.{two-none, two-first, two-both}
-use Rattle.texts.proofs.repair.write_two.Statement.{statement}
-use Rattle.texts.proofs.repair.write_two.Tie as tie
+use Rattle.outputs.proofs.Laws.Writing.{two-none, two-first, two-both}
+use Rattle.outputs.proofs.repair.write_two.Statement.{statement}
+use Rattle.outputs.proofs.repair.write_two.Tie as tie
 
 returns : tie.Need-returns
 returns c = two-none _ _ _ _ _ (c .before .pre .1) (c .if1 .taken)

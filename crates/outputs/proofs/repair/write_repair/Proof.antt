@@ -1,11 +1,11 @@
--- `texts::repair::write_repair` meets its contract: the bytes kept are copied, and those that follow them are stored after them.
+-- `outputs::repair::write_repair` meets its contract: the bytes kept are copied, and those that follow them are stored after them.
 -- Assumes nothing.
 use native.Mathlib.Omega.{arith}
 use lib.ListN.{length-take}
 use borrow.Author.Needs.{needs}
-use Rattle.texts.proofs.Laws.Writing.{length-repair, written-repair}
-use Rattle.texts.proofs.repair.write_repair.Statement.{statement}
-use Rattle.texts.proofs.repair.write_repair.Tie as tie
+use Rattle.outputs.proofs.Laws.Writing.{length-repair, written-repair}
+use Rattle.outputs.proofs.repair.write_repair.Statement.{statement}
+use Rattle.outputs.proofs.repair.write_repair.Tie as tie
 
 slice-aggregate-copy : tie.Need-slice-aggregate-copy
 slice-aggregate-copy c = simp length-take (omega arith)
