@@ -18,7 +18,7 @@ use utf8::step;
 ghost use mathlib.Core.Path.{_≡_};
 ghost use Rattle.utf8.specs.Behind.{behind, Open};
 ghost use Rattle.turkish.specs.Simple.Grammar.{optionalY, markOf};
-ghost use Rattle.turkish.specs.Simple.Marks.{yken};
+ghost use Rattle.turkish.specs.Simple.Marks.{yDU, yken};
 ghost use Rattle.letters.specs.Search.{found};
 ghost use Rattle.letters.specs.Seen.{Sees};
 ghost use Rattle.letters.specs.Told.{Hears};
@@ -106,7 +106,7 @@ fn mark_yken(w: &[u8], c: Cursor) -> Passed
 // yDU's search, apart from the others: a function builds every table that it names when it is entered, and this one is long.
 fn find_yDU(w: &[u8], s: Seen) -> Among
     requires { ⌜ Sees (now w) s ⌝ }
-    ensures { λ r. ⌜ r ≡ found (tabled 9) (now (w .entry)) (s .c) ⌝ }
+    ensures { λ r. ⌜ r ≡ found (yDU .keys) (now (w .entry)) (s .c) ⌝ }
 {
     find_among_b(w, s, &tables::A_20, 3)
 }

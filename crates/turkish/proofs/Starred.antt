@@ -69,8 +69,8 @@ table =
     ∷ []
 
 -- what a misreading would get wrong ("Plausible, yet not Turkish as turkish.sbl has it"): branch 2's cut kept where ymUs_ fails, a
--- flag cleared wherever lAr fits, ğ repaired by the d/g rule, the postlude run after branch 3; the other two are starred. And `abken`,
--- which joins without a y
+-- flag cleared wherever lAr fits, ğ repaired by the d/g rule, the postlude run after branch 3; the other two are starred. Besides
+-- `abken`, which joins without a y, `lar`, whose one vowel is no two syllables, and `aa`, of vowels alone
 unfoldable pub misread : List Row
 misread =
     stageOf "evcesine" "evcesine" false true
@@ -79,6 +79,8 @@ misread =
     ∷ stageOf "abken" "ab" true true
     ∷ postludeOf "ayağ" "ayak" true
     ∷ passOf "kitablar" "kitab" true true false
+    ∷ passOf "lar" "lar" false false true
+    ∷ passOf "aa" "aa" true false true
     ∷ []
 
 -- each row has what is expected

@@ -67,6 +67,7 @@ returns-8 c =
     c .find-among-b8 .ensures ∙ found-tabled _ _ (sym (c .before .before .match .keys8))
 
 returns-9 : tie.Need-returns-9
+unfolding tabled numbered
 returns-9 c = c .find-yDU .ensures ∙ found-tabled _ _ (sym (c .before .match .keys9))
 
 returns-10 : tie.Need-returns-10

@@ -2,13 +2,12 @@
 use Rattle.turkish.specs.Letters.{text, fromEnd}
 use Rattle.turkish.specs.Simple.Marks.{marked, yDU}
 use Rattle.letters.specs.Keys.{upToZero, row, rowsWithin, rows}
-use Rattle.letters.specs.Numbered.{numbered, tabled}
 use borrow.Author.Needs.{needs}
 use Rattle.marks.proofs.mark.find_yDU.Statement.{statement}
 use Rattle.marks.proofs.mark.find_yDU.Tie as tie
 
 returns : tie.Need-returns
-unfolding tabled numbered yDU marked fromEnd text rows rowsWithin row upToZero
+unfolding yDU marked fromEnd text rows rowsWithin row upToZero
 returns c = c .find-among-b .ensures
 
 pub find-yDU-spec : {M : Type 1} → statement M
