@@ -8,7 +8,7 @@ use Rattle.turkish.specs.Simple.Marks.{yUm, sUn, yUz, sUnUz, lAr, nUz, DUr, cAs
 
 -- a mark that never fits
 unfoldable pub never : Mark
-never = record { harmonic = true; keys = []; joins = false }
+never = record { kind = 0; harmonic = true; keys = []; joins = false }
 
 unfoldable pub numbered : ℕ → Mark
 numbered n =
@@ -29,13 +29,13 @@ numbered n =
 unfoldable pub tabled : ℕ → List (List ℕ)
 tabled k = cond (eqb k 12) [] (numbered k .keys)
 
--- a mark without its harmony test
+-- a mark without its harmony test, and without its number
 unfoldable pub unharmonic : Mark → Mark
-unharmonic m = record { harmonic = false; keys = m .keys; joins = m .joins }
+unharmonic m = record { kind = 0; harmonic = false; keys = m .keys; joins = m .joins }
 
 -- a key of these, with or without an optional y before it, and no harmony test
 unfoldable pub keyedBy : List (List ℕ) → Bool → Mark
-keyedBy ks joins = record { harmonic = false; keys = ks; joins = joins }
+keyedBy ks joins = record { kind = 0; harmonic = false; keys = ks; joins = joins }
 
 -- the first of a group that fits
 unfoldable pub firstOf : List ℕ → List ℕ → Out

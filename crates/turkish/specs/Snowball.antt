@@ -205,6 +205,7 @@ infix 40 <+_
 infixr 35 _or_
 infixr 30 _then_
 pub data Command : Type 0 where
+  define : String → Command → Command  -- a routine, by its name: its commands
   _then_ : Command → Command → Command  -- one after the other, which turkish.sbl writes without a word
   _or_ : Command → Command → Command  -- it binds tighter, as in Snowball
   test : Command → Command
@@ -240,6 +241,7 @@ enough s = suc (length (ahead s))
 
 -- what a command does, read in a direction, inside a routine whose call is `self`
 unfoldable pub run : Direction → (State → Result) → Command → State → Result
+run d self (define n p) s = run d self p s
 run d self (p then q) s = andThen (run d self p s) (run d self q)
 run d self (p or q) s = orElse (s .cursor) (run d self p s) (run d self q)
 run d self (test p) s = tested (s .cursor) (run d self p s)

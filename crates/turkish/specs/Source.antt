@@ -4,7 +4,7 @@
 -- another is `then`, `[` and `]` are ⟦ and ⟧, `true` is `succeed`. Assumes nothing.
 use Prim.Native.String.{String}
 use mathlib.Core.List.{List, [], _∷_}
-use Rattle.turkish.specs.Snowball.{Command, _then_, _or_, test, not, try, «do», goto, gopast, atleast, backwards, succeed, next, literal, grouping, among, substring, case, ⟦, ⟧, delete, <-_, <+_, set, unset, strlen=, strlen==limit}
+use Rattle.turkish.specs.Snowball.{Command, define, _then_, _or_, test, not, try, «do», goto, gopast, atleast, backwards, succeed, next, literal, grouping, among, substring, case, ⟦, ⟧, delete, <-_, <+_, set, unset, strlen=, strlen==limit}
 
 -- ---- groupings ----
 
@@ -74,7 +74,7 @@ A-23 = "b" ∷ "c" ∷ "d" ∷ "ğ" ∷ []
 -- ---- routines ----
 
 unfoldable pub check-vowel-harmony : Command
-check-vowel-harmony = ( -- 111
+check-vowel-harmony = define "check_vowel_harmony" ( -- 111
     test  -- 112
     ( -- 113
     (goto (grouping vowel)) then  -- 114
@@ -91,74 +91,74 @@ check-vowel-harmony = ( -- 111
     ))
 
 unfoldable pub mark-suffix-with-optional-y-consonant : Command
-mark-suffix-with-optional-y-consonant = ( -- 153
+mark-suffix-with-optional-y-consonant = define "mark_suffix_with_optional_y_consonant" ( -- 153
     (literal "y" then (test (grouping vowel)))  -- 154
     or  -- 155
     ((not (test (literal "y"))) then test (next then grouping vowel)))  -- 156
 
 unfoldable pub mark-yUm : Command
-mark-yUm = ( -- 246
+mark-yUm = define "mark_yUm" ( -- 246
     check-vowel-harmony then  -- 247
     among A-12 then  -- 248
     (mark-suffix-with-optional-y-consonant))  -- 249
 
 unfoldable pub mark-sUn : Command
-mark-sUn = ( -- 252
+mark-sUn = define "mark_sUn" ( -- 252
     check-vowel-harmony then  -- 253
     among A-13)  -- 254
 
 unfoldable pub mark-yUz : Command
-mark-yUz = ( -- 257
+mark-yUz = define "mark_yUz" ( -- 257
     check-vowel-harmony then  -- 258
     among A-14 then  -- 259
     (mark-suffix-with-optional-y-consonant))  -- 260
 
 unfoldable pub mark-sUnUz : Command
-mark-sUnUz = ( -- 263
+mark-sUnUz = define "mark_sUnUz" ( -- 263
     among A-15)  -- 264
 
 unfoldable pub mark-lAr : Command
-mark-lAr = ( -- 267
+mark-lAr = define "mark_lAr" ( -- 267
     check-vowel-harmony then  -- 268
     among A-16)  -- 269
 
 unfoldable pub mark-nUz : Command
-mark-nUz = ( -- 272
+mark-nUz = define "mark_nUz" ( -- 272
     check-vowel-harmony then  -- 273
     among A-17)  -- 274
 
 unfoldable pub mark-DUr : Command
-mark-DUr = ( -- 277
+mark-DUr = define "mark_DUr" ( -- 277
     check-vowel-harmony then  -- 278
     among A-18)  -- 279
 
 unfoldable pub mark-cAsInA : Command
-mark-cAsInA = ( -- 282
+mark-cAsInA = define "mark_cAsInA" ( -- 282
     among A-19)  -- 283
 
 unfoldable pub mark-yDU : Command
-mark-yDU = ( -- 286
+mark-yDU = define "mark_yDU" ( -- 286
     check-vowel-harmony then  -- 287
     among A-20 then  -- 288
     (mark-suffix-with-optional-y-consonant))  -- 292
 
 unfoldable pub mark-ysA : Command
-mark-ysA = ( -- 296
+mark-ysA = define "mark_ysA" ( -- 296
     among A-21 then  -- 297
     (mark-suffix-with-optional-y-consonant))  -- 298
 
 unfoldable pub mark-ymUs- : Command
-mark-ymUs- = ( -- 301
+mark-ymUs- = define "mark_ymUs_" ( -- 301
     check-vowel-harmony then  -- 302
     among A-22 then  -- 303
     (mark-suffix-with-optional-y-consonant))  -- 304
 
 unfoldable pub mark-yken : Command
-mark-yken = ( -- 307
+mark-yken = define "mark_yken" ( -- 307
     literal "ken" then (mark-suffix-with-optional-y-consonant))  -- 308
 
 unfoldable pub stem-nominal-verb-suffixes : Command
-stem-nominal-verb-suffixes = ( -- 311
+stem-nominal-verb-suffixes = define "stem_nominal_verb_suffixes" ( -- 311
     ⟦ then  -- 312
     set then  -- 313
     (mark-ymUs- or mark-yDU or mark-ysA or mark-yken)  -- 314
@@ -181,7 +181,7 @@ stem-nominal-verb-suffixes = ( -- 311
     ⟧ then delete)  -- 328
 
 unfoldable pub post-process-last-consonants : Command
-post-process-last-consonants = ( -- 415
+post-process-last-consonants = define "post_process_last_consonants" ( -- 415
     ⟦ then substring A-23 then ⟧ then  -- 416
     case 1 (<- "p") then  -- 417
     case 2 (<- "ç") then  -- 418
@@ -189,7 +189,7 @@ post-process-last-consonants = ( -- 415
     case 4 (<- "k"))  -- 420
 
 unfoldable pub append-U-to-stems-ending-with-d-or-g : Command
-append-U-to-stems-ending-with-d-or-g = ( -- 430
+append-U-to-stems-ending-with-d-or-g = define "append_U_to_stems_ending_with_d_or_g" ( -- 430
     test (literal "d" or literal "g") then  -- 431
     (test ((goto (grouping vowel)) then literal "a" or literal "ı") then <+ "ı")  -- 432
     or  -- 433
@@ -200,17 +200,17 @@ append-U-to-stems-ending-with-d-or-g = ( -- 430
     (test ((goto (grouping vowel)) then literal "ö" or literal "ü") then <+ "ü"))  -- 438
 
 unfoldable pub more-than-one-syllable-word : Command
-more-than-one-syllable-word = ( -- 445
+more-than-one-syllable-word = define "more_than_one_syllable_word" ( -- 445
     test (atleast 2 (gopast (grouping vowel))))  -- 446
 
 unfoldable pub is-reserved-word : Command
-is-reserved-word = ( -- 449
+is-reserved-word = define "is_reserved_word" ( -- 449
     test (gopast (literal "ad") then (strlen= 2) then (strlen==limit))  -- 450
     or  -- 451
     test (gopast (literal "soyad") then (strlen= 5) then (strlen==limit)))  -- 452
 
 unfoldable pub postlude : Command
-postlude = ( -- 455
+postlude = define "postlude" ( -- 455
     not (is-reserved-word) then  -- 456
     backwards ( -- 457
     «do» append-U-to-stems-ending-with-d-or-g then  -- 458

@@ -65,12 +65,14 @@ impl Node {
     }
 }
 
-/// Reads all of the tokens as one command; the error is a message.
+/// Reads all of the tokens as what `define` has after the name: a parenthesis, or a word without an
+/// argument. The error is a message.
 pub fn read(tokens: &[Token]) -> Result<Node, String> {
     let mut reader = Reader { tokens };
-    let node = reader.sequence()?;
+    let token = reader.take()?;
+    let node = reader.atom(token)?;
     match reader.tokens.first() {
-        Some(token) => Err(token.wrong("neither `then` nor `or` nor the end stands here")),
+        Some(token) => Err(token.wrong("a routine that goes on after its commands")),
         None => Ok(node),
     }
 }
@@ -163,6 +165,7 @@ impl<'a> Reader<'a> {
                 "succeed" => Command::Succeed,
                 "next" => Command::Next,
                 "strlen==limit" => Command::StrlenIsLimit,
+                "define" => return Err(token.wrong("a `define` inside a routine")),
                 name => Command::Call(name.to_string()),
             },
         };

@@ -2,6 +2,7 @@
 
 use crate::command::{self, Node};
 use crate::tokens::{items, Place, Symbol, Token};
+use crate::written::rust_name;
 
 /// A declaration, and the line on which its value begins.
 pub struct Declared<T> {
@@ -138,8 +139,18 @@ impl Equation<'_> {
         }
     }
 
+    // `define` with the name that turkish.sbl has for it, and its commands.
     fn routine(self) -> Result<Declared<Routine>, String> {
-        let body = command::read(self.value())?;
+        let name = rust_name(self.name);
+        let message = format!("a routine that does not begin with `define \"{name}\"`");
+        let body = match self.value() {
+            [define, named, body @ ..]
+                if define.word() == Some("define") && named.symbol == Symbol::Text(name) =>
+            {
+                command::read(body)?
+            }
+            _ => return Err(self.tokens[0].wrong(&message)),
+        };
         let places = self.tokens.iter().map(|token| token.place).collect();
         Ok(self.declared(Routine { body, places }))
     }

@@ -92,6 +92,17 @@ impl Sides {
         found.filter(alone).collect()
     }
 
+    // Where each routine's `define` stands with its name, and both as a text.
+    fn defines(&self) -> Vec<(usize, &str)> {
+        let found = self.source.match_indices("define \"");
+        let named = found.map(|(at, define)| {
+            let name = self.source[at + define.len()..].find('"');
+            let length = define.len() + name.expect("a name's end") + 1;
+            (at, &self.source[at..at + length])
+        });
+        named.collect()
+    }
+
     // A place's line up to it, which has no comment if the place is code.
     fn line_to(&self, at: usize) -> &str {
         self.source[..at].rsplit('\n').next().unwrap_or_default()
@@ -251,6 +262,56 @@ fn a_name_for_another() {
         let names = kind.pieces.iter().map(|piece| piece.name.as_str());
         sides.words_noticed(&names.collect::<Vec<_>>());
     }
+}
+
+#[test]
+fn a_define_by_another_name() {
+    let sides = Sides::new();
+    let mut edited = Vec::new();
+    for (at, define) in sides.defines() {
+        let others = sides.defines().into_iter().map(|(_, other)| other);
+        let others = others.chain(["define \"\"", "define \"x\""]);
+        let others = others.filter(|&other| other != define);
+        edited.extend(others.map(|other| sides.with(at, define.len(), other)));
+    }
+    sides.noticed(edited);
+}
+
+#[test]
+fn two_defines_exchanged() {
+    let sides = Sides::new();
+    let mut edited = Vec::new();
+    for (first, one) in sides.defines() {
+        for (second, other) in sides.defines().into_iter().filter(|(at, _)| *at > first) {
+            let before = &sides.source[..first];
+            let between = &sides.source[first + one.len()..second];
+            let after = &sides.source[second + other.len()..];
+            edited.push([before, other, between, one, after].concat());
+        }
+    }
+    sides.noticed(edited);
+}
+
+#[test]
+fn a_define_left_out() {
+    let sides = Sides::new();
+    let defines = sides.defines().into_iter();
+    let edited = defines.map(|(at, define)| sides.with(at, define.len(), ""));
+    sides.noticed(edited.collect());
+}
+
+// Before any parenthesis, that of the whole routine too.
+#[test]
+fn a_define_inside() {
+    let sides = Sides::new();
+    let mut edited = Vec::new();
+    for (at, _) in sides.source.match_indices('(') {
+        if sides.is_code(at) {
+            let defines = sides.defines().into_iter();
+            edited.extend(defines.map(|(_, define)| sides.with(at, 0, &format!("{define} "))));
+        }
+    }
+    sides.noticed(edited);
 }
 
 // The Rust's comments are the same ones in the same order.

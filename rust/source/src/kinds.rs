@@ -69,15 +69,15 @@ abbrev pub A-7 : List String
 A-7 = "bı" ∷ "s" ∷ []
 
 unfoldable pub stem-nominal-verb-suffixes : Command
-stem-nominal-verb-suffixes = ( -- 3
+stem-nominal-verb-suffixes = define "stem_nominal_verb_suffixes" ( -- 3
     literal "ş" then test      -- 4
     (among A-7))               -- 5
 
 unfoldable pub more-than-one-syllable-word : Command
-more-than-one-syllable-word = (gopast (grouping ad)) -- 7
+more-than-one-syllable-word = define "more_than_one_syllable_word" (gopast (grouping ad)) -- 7
 
 unfoldable pub postlude : Command
-postlude = (literal "a")       -- 9
+postlude = define "postlude" (literal "a") -- 9
 "#;
 
     const RUST: &str = r#"static A_7: &'static [Among<Context>; 2] = &[
@@ -167,11 +167,31 @@ fn r_postlude(env: &mut SnowballEnv, context: &mut Context) -> bool {
         assert!(said(&edited, RUST)[0].contains("static G_ad: &'static [u8; 1] = &[3];"));
     }
 
+    fn unread(edited: &str, message: &str) {
+        assert_eq!(said(edited, RUST), [format!("Source.antt{message}")]);
+    }
+
+    #[test]
+    fn a_routine_is_one_define() {
+        let without = ", line 19: a routine that does not begin with `define \"postlude\"`";
+        let inside = ", line 19: a `define` inside a routine";
+        let longer = ", line 19: a routine that goes on after its commands";
+        let define = r#"define "postlude" (literal "a")"#;
+        for (edited, message) in [
+            (r#"(literal "a")"#, without),
+            (r#"define "prelude" (literal "a")"#, without),
+            (r#"define postlude (literal "a")"#, without),
+            (r#"define "postlude" (define "postlude" (next))"#, inside),
+            (r#"define "postlude" (test define)"#, inside),
+            (r#"define "postlude" (literal "a") then next"#, longer),
+            (r#"define "postlude""#, ": a routine breaks off"),
+        ] {
+            unread(&SOURCE.replace(define, edited), message);
+        }
+    }
+
     #[test]
     fn all_is_reached_and_in_order() {
-        let unread = |edited: &str, message: &str| {
-            assert_eq!(said(edited, RUST), [format!("Source.antt{message}")]);
-        };
         unread(&SOURCE.replace("A-7)", "A-8)"), " declares no A-8");
         unread(
             &SOURCE.replace("gopast (grouping ad)", "next"),

@@ -16,7 +16,7 @@ use Rattle.turkish.specs.Source.{vowel1, vowel2, vowel3, vowel4, vowel5,
 use Rattle.turkish.specs.Source as Source
 use Rattle.turkish.proofs.Laws.Outcome.{first-fail}
 use Rattle.turkish.proofs.Laws.Tests.{eqb-comm}
-use Rattle.turkish.proofs.Source.Means.{Means, means-as, means-then, means-or, means-test, means-not, means-next, means-literal, means-grouping, means-goto, takeIf, peeked, peeked-more, denied, sought}
+use Rattle.turkish.proofs.Source.Means.{Means, means-define, means-as, means-then, means-or, means-test, means-not, means-next, means-literal, means-grouping, means-goto, takeIf, peeked, peeked-more, denied, sought}
 use Rattle.turkish.proofs.Source.LastVowel.{beforeLastVowel-none, lastVowel-vowel, means-test-goto-vowel}
 
 -- ---- a walk to a character of a grouping ----
@@ -101,7 +101,7 @@ harmony-means =
     let lines =
     means-or (alternative "a" vowel1) (means-or (alternative "e" vowel2) (means-or (alternative "ı" vowel3) (means-or (alternative "i" vowel4)
     (means-or (alternative "o" vowel5) (means-or (alternative "ö" vowel6) (means-or (alternative "u" vowel5) (alternative "ü" vowel6))))))) in
-    means-as (means-test-goto-vowel lines) partners-last
+    means-define _ (means-as (means-test-goto-vowel lines) partners-last)
 
 -- ---- the optional y ----
 
@@ -133,7 +133,8 @@ joint-same (c ∷ v ∷ cs) = go (eqb 0x79 c) (has vowels v) refl (eqb-comm c 0x
 pub optionalY-means : Means backward mark-suffix-with-optional-y-consonant (optionalY 0x79)
 unfolding mark-suffix-with-optional-y-consonant joint vowels letters fromEnd text
 optionalY-means =
-    means-as
+    means-define _
+    (means-as
     (means-or (means-then (means-literal "y") (means-test (means-grouping Source.vowel)))
     (means-then (means-not (means-test (means-literal "y"))) (means-test (means-then means-next (means-grouping Source.vowel)))))
-    joint-same
+    joint-same)

@@ -20,7 +20,7 @@ use Rattle.turkish.specs.Simple.Postlude.{gained, appends, appendU, hard
 use Rattle.turkish.proofs.Laws.Tests.{eqb-comm}
 use Rattle.turkish.proofs.Source.Means.{placed, peeked, takeIf, means-or, means-test, means-literal}
 use Rattle.turkish.proofs.Source.LastVowel.{lastVowel-none, means-test-goto-vowel}
-use Rattle.turkish.proofs.Source.Settled.{carriedOut-settled, Does, Asks, does-behind, does-insert, does-insert-or}
+use Rattle.turkish.proofs.Source.Settled.{carriedOut-settled, Does, Asks, does-define, does-behind, does-insert, does-insert-or}
 
 -- ---- letters ----
 
@@ -100,11 +100,12 @@ gains v s =
 append-does : Does backward source.append-U-to-stems-ending-with-d-or-g (λ s. cond (isIn (text "dg") (ahead s)) (gains (lastVowel (ahead s)) s) (failed s))
 unfolding source.append-U-to-stems-ending-with-d-or-g gains letters fromEnd text has any
 append-does =
-    does-behind asks-d-or-g
+    does-define _
+    (does-behind asks-d-or-g
     (does-insert-or (asks-lastVowel "a" "ı" (code "a") (code "ı") refl refl refl) "ı"
     (does-insert-or (asks-lastVowel "e" "i" (code "e") (code "i") refl refl refl) "i"
     (does-insert-or (asks-lastVowel "o" "u" (code "o") (code "u") refl refl refl) "u"
-    (does-behind (asks-lastVowel "ö" "ü" (code "ö") (code "ü") refl refl refl) (does-insert "ü")))))
+    (does-behind (asks-lastVowel "ö" "ü" (code "ö") (code "ü") refl refl refl) (does-insert "ü"))))))
 
 -- it is the simple form's, and where that has none it fails
 gains-gained : (v : ℕ) (s : State) → gains v s ≡ cond (not (eqb (gained v) 0)) (done (inserted (gained v ∷ []) s)) (failed s)

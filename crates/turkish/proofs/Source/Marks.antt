@@ -21,7 +21,7 @@ use Rattle.turkish.specs.Source.{A-12, A-13, A-14, A-15, A-16, A-17, A-1
 use Rattle.turkish.proofs.Laws.Tests.{every}
 use Rattle.turkish.specs.Simple.Tables.{tables}
 use Rattle.turkish.proofs.Tables.{neither, apart, neither-both, apart-at}
-use Rattle.turkish.proofs.Source.Means.{Means, means-as, means-then, means-literal, means-among, takeIf}
+use Rattle.turkish.proofs.Source.Means.{Means, means-define, means-as, means-then, means-literal, means-among, takeIf}
 use Rattle.turkish.proofs.Source.Harmony.{harmony-means, optionalY-means}
 
 -- ---- the longest key is the first ----
@@ -77,73 +77,74 @@ after-none (k ∷ ks) cs = go (starts k cs) (after-none ks cs)
     go false r = r
 
 -- a mark with harmony, from the rest of it
-harmonic : {p : Command} (j : Bool) (ks : List String) → Means backward p (markOf (marked false ks j)) → Means backward (check-vowel-harmony then p) (markOf (marked true ks j))
+harmonic : {p : Command} (n : ℕ) (j : Bool) (ks : List String)
+    → Means backward p (markOf (marked n false ks j)) → Means backward (check-vowel-harmony then p) (markOf (marked n true ks j))
 unfolding markOf marked asking after takeIf
-harmonic j ks x = means-as (means-then harmony-means x) (λ cs. go cs (harmony cs))
+harmonic n j ks x = means-as (means-then harmony-means x) (λ cs. go cs (harmony cs))
   where
-    go : (cs : List ℕ) (b : Bool) → after (takeIf b 0) (λ k. markOf (marked false ks j) (drop k cs))
+    go : (cs : List ℕ) (b : Bool) → after (takeIf b 0) (λ k. markOf (marked n false ks j) (drop k cs))
         ≡ asking b (after (among (map fromEnd ks) cs) (λ k. cond j (optionalY 0x79 (drop k cs)) (took 0 true)))
     go cs true = more-none (after (among (map fromEnd ks) cs) (λ k. cond j (optionalY 0x79 (drop k cs)) (took 0 true)))
     go cs false = refl
 
 -- a mark of a key alone
-bare : (ks : List String) → apart (map fromEnd ks) ≡ true → Means backward (Snowball.among ks) (markOf (marked false ks false))
+bare : (n : ℕ) (ks : List String) → apart (map fromEnd ks) ≡ true → Means backward (Snowball.among ks) (markOf (marked n false ks false))
 unfolding markOf marked asking
-bare ks a = means-as (among-means ks a) (after-none (map fromEnd ks))
+bare n ks a = means-as (among-means ks a) (after-none (map fromEnd ks))
 
 -- and of a key with an optional y
-joining : (ks : List String) → apart (map fromEnd ks) ≡ true
-    → Means backward (Snowball.among ks then mark-suffix-with-optional-y-consonant) (markOf (marked false ks true))
+joining : (n : ℕ) (ks : List String) → apart (map fromEnd ks) ≡ true
+    → Means backward (Snowball.among ks then mark-suffix-with-optional-y-consonant) (markOf (marked n false ks true))
 unfolding markOf marked asking
-joining ks a = means-then (among-means ks a) optionalY-means
+joining n ks a = means-then (among-means ks a) optionalY-means
 
 -- ---- the marks ----
 
 -- one a mark, in the order of the tables; that no key of it is the tail of another is known by its table's place in the list
 pub yUm-means : Means backward mark-yUm (markOf yUm)
 unfolding mark-yUm yUm marked tables
-yUm-means = harmonic true A-12 (joining A-12 (apart-at 0))
+yUm-means = means-define _ (harmonic 1 true A-12 (joining 1 A-12 (apart-at 0)))
 
 pub sUn-means : Means backward mark-sUn (markOf sUn)
 unfolding mark-sUn sUn marked tables
-sUn-means = harmonic false A-13 (bare A-13 (apart-at 1))
+sUn-means = means-define _ (harmonic 2 false A-13 (bare 2 A-13 (apart-at 1)))
 
 pub yUz-means : Means backward mark-yUz (markOf yUz)
 unfolding mark-yUz yUz marked tables
-yUz-means = harmonic true A-14 (joining A-14 (apart-at 2))
+yUz-means = means-define _ (harmonic 3 true A-14 (joining 3 A-14 (apart-at 2)))
 
 pub sUnUz-means : Means backward mark-sUnUz (markOf sUnUz)
 unfolding mark-sUnUz sUnUz marked tables
-sUnUz-means = bare A-15 (apart-at 3)
+sUnUz-means = means-define _ (bare 4 A-15 (apart-at 3))
 
 pub lAr-means : Means backward mark-lAr (markOf lAr)
 unfolding mark-lAr lAr marked tables
-lAr-means = harmonic false A-16 (bare A-16 (apart-at 4))
+lAr-means = means-define _ (harmonic 5 false A-16 (bare 5 A-16 (apart-at 4)))
 
 pub nUz-means : Means backward mark-nUz (markOf nUz)
 unfolding mark-nUz nUz marked tables
-nUz-means = harmonic false A-17 (bare A-17 (apart-at 5))
+nUz-means = means-define _ (harmonic 6 false A-17 (bare 6 A-17 (apart-at 5)))
 
 pub DUr-means : Means backward mark-DUr (markOf DUr)
 unfolding mark-DUr DUr marked tables
-DUr-means = harmonic false A-18 (bare A-18 (apart-at 6))
+DUr-means = means-define _ (harmonic 7 false A-18 (bare 7 A-18 (apart-at 6)))
 
 pub cAsInA-means : Means backward mark-cAsInA (markOf cAsInA)
 unfolding mark-cAsInA cAsInA marked tables
-cAsInA-means = bare A-19 (apart-at 7)
+cAsInA-means = means-define _ (bare 8 A-19 (apart-at 7))
 
 pub yDU-means : Means backward mark-yDU (markOf yDU)
 unfolding mark-yDU yDU marked tables
-yDU-means = harmonic true A-20 (joining A-20 (apart-at 8))
+yDU-means = means-define _ (harmonic 9 true A-20 (joining 9 A-20 (apart-at 8)))
 
 pub ysA-means : Means backward mark-ysA (markOf ysA)
 unfolding mark-ysA ysA marked tables
-ysA-means = joining A-21 (apart-at 9)
+ysA-means = means-define _ (joining 10 A-21 (apart-at 9))
 
 pub ymUs-means : Means backward mark-ymUs- (markOf ymUs)
 unfolding mark-ymUs- ymUs marked tables
-ymUs-means = harmonic true A-22 (joining A-22 (apart-at 10))
+ymUs-means = means-define _ (harmonic 11 true A-22 (joining 11 A-22 (apart-at 10)))
 
 pub yken-means : Means backward mark-yken (markOf yken)
 unfolding mark-yken yken marked markOf asking among takeIf letters
-yken-means = means-then (means-literal "ken") optionalY-means
+yken-means = means-define _ (means-then (means-literal "ken") optionalY-means)

@@ -9,7 +9,7 @@ use native.Mathlib.Omega.{arith}
 use lib.ListN.{length, drop}
 use lib.Seq.{drop-drop}
 use Rattle.turkish.specs.Letters.{text, starts}
-use Rattle.turkish.specs.Snowball.{State, ahead, moveTo, Result, done, failed, andThen, orElse, tested, negated, readIf, isLeft, isIn, Direction, letters, longest, keyAhead, fits, goPast, Command, _then_, _or_, test, not, goto, gopast, succeed, next, literal, grouping, among, enough, run}
+use Rattle.turkish.specs.Snowball.{State, ahead, moveTo, Result, done, failed, andThen, orElse, tested, negated, readIf, isLeft, isIn, Direction, letters, longest, keyAhead, fits, goPast, Command, define, _then_, _or_, test, not, goto, gopast, succeed, next, literal, grouping, among, enough, run}
 use Rattle.turkish.specs.Answers.{succeeded, left}
 use Rattle.turkish.specs.Simple.Grammar.{Out, fail, took, more, after, first}
 use Rattle.turkish.proofs.Laws.Outcome.{first-fail}
@@ -79,6 +79,13 @@ pub settled-on : (s : State) (k : ℕ) (f : Bool) (q : State → Result) (o : Ou
 settled-on s k f q o h =
     let t = moveTo s (s .cursor + k) in
     sym (settled-again (s .cursor) (t .cursor) (q t)) ∙ ap (settled (s .cursor)) h ∙ placed-more s k f o
+
+-- ---- a routine ----
+
+-- a routine means what its commands mean
+pub means-define : {d : Direction} {p : Command} {f : List ℕ → Out} (n : String) → Means d p f → Means d (define n p) f
+unfolding run
+means-define n x = record { on-state = λ self s. x .on-state self s }
 
 -- ---- one after the other, and the first of two ----
 

@@ -5,7 +5,7 @@ use Prim.Native.String.{String}
 use mathlib.Core.Path.{_≡_, refl, sym, ap, _∙_}
 use mathlib.Core.Bool.{Bool, true, false, cond}
 use mathlib.Core.List.{List}
-use Rattle.turkish.specs.Snowball.{State, ahead, moveTo, Result, done, failed, andThen, orElse, negated, carriedOut, Direction, letters, inserted, Command, _then_, _or_, <+_, run}
+use Rattle.turkish.specs.Snowball.{State, ahead, moveTo, Result, done, failed, andThen, orElse, negated, carriedOut, Direction, letters, inserted, Command, define, _then_, _or_, <+_, run}
 use Rattle.turkish.proofs.Source.Means.{settled, placed, moved-none, Means, takeIf}
 
 -- `or` does not see where the cursor stood after the first one's failure
@@ -35,6 +35,11 @@ andThen-settled c (failed s) q = refl
 -- in any state the command, read in the direction, results in what the function says of the state
 pub record Does (d : Direction) (p : Command) (f : State → Result) : Type 0 where
   pub on-state : (self : State → Result) (s : State) → settled (s .cursor) (run d self p s) ≡ f s
+
+-- a routine does what its commands do
+pub does-define : {d : Direction} {p : Command} {f : State → Result} (n : String) → Does d p f → Does d (define n p) f
+unfolding run
+does-define n x = record { on-state = λ self s. x .on-state self s }
 
 -- the command takes nothing, and asks whether the test holds of the characters ahead
 pub record Asks (d : Direction) (p : Command) (b : List ℕ → Bool) : Type 0 where

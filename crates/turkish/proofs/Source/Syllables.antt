@@ -17,7 +17,7 @@ use Rattle.turkish.specs.Snowball.{State, ahead, moveTo, Result, done, f
 use Rattle.turkish.specs.Source.{vowel as vowelLetters, more-than-one-syllable-word}
 use Rattle.turkish.specs.Answers.{entered, called, succeeded, syllableCheck}
 use Rattle.turkish.proofs.Laws.Syllables.{any-append, moreThanOneSyllable-append}
-use Rattle.turkish.proofs.Source.Means.{settled, placed, Means, done-failed, done-state, failed-state, ahead-on, moved-none, settled-on}
+use Rattle.turkish.proofs.Source.Means.{means-define, settled, placed, Means, done-failed, done-state, failed-state, ahead-on, moved-none, settled-on}
 use Rattle.turkish.proofs.Source.Means.{takeIf, peeked, peeked-more, sought, means-test, means-grouping, means-gopast}
 
 -- ---- atleast ----
@@ -229,7 +229,7 @@ unfolding more-than-one-syllable-word vowelAhead
 syllables-run self s =
     let cs : List ℕ = ahead s in
     let two = repeated-often (length cs) 2 cs (omega arith) ∙ ap (λ (b : Bool). takeIf b 0) (often-two cs ∙ sym (moreThanOneSyllable-reverse cs)) in
-    means-test (means-atleast 2 (means-gopast (means-grouping vowelLetters))) .on-state self s
+    means-define _ (means-test (means-atleast 2 (means-gopast (means-grouping vowelLetters)))) .on-state self s
     ∙ ap (placed s) two ∙ placed-none s (moreThanOneSyllable (reverse cs))
 
 -- where the cursor is put back, the answer stays

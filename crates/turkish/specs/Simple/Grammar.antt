@@ -45,8 +45,10 @@ optionalY y [] = fail
 optionalY y (c ∷ []) = fail
 optionalY y (c ∷ v ∷ cs) = cond (vowel v) (took (cond (eqb c y) 1 0) true) fail
 
--- a mark: whether it tests harmony, its keys from their ends, and whether an optional y stands before the key
+-- a mark: its number, 1 to 12 in the order of document 01's mark tables with yken last; whether it tests harmony, its keys from their
+-- ends, and whether an optional y stands before the key
 pub record Mark : Type 0 where
+  pub kind : ℕ
   pub harmonic : Bool
   pub keys : List (List ℕ)
   pub joins : Bool

@@ -14,7 +14,7 @@ use Rattle.marks.proofs.mark.mark.Statement.{statement}
 use Rattle.marks.proofs.mark.mark.Tie as tie
 
 returns : tie.Need-returns
-unfolding numbered unharmonic yken marked
+unfolding numbered unharmonic yken marked markOf
 returns c =
     let s = c .before .before .before in
     c .mark-yken .ensures ∙ ap (λ (k : ℕ). passes (now (s .args .w)) (s .args .s .c) (markOf (unharmonic (numbered k)) (behind (now (s .args .w)) (s .args .s .c))))
