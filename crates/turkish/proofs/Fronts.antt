@@ -9,7 +9,7 @@ use lib.Seq.{take-append-seam}
 use borrow.Author.Tests.{le-ltb}
 use Rattle.encoding.specs.Text.{TextOf}
 use Rattle.turkish.specs.WordPass.{Passed, pass}
-use Rattle.turkish.specs.Calls.{chars, bytes, accepted, refusalInto, written, passText, passRefusal, passCall, passOut}
+use Rattle.turkish.specs.Calls.{chars, bytes, accepted, refusalShort, written, passText, passRefusal, passCall, passOut}
 use Rattle.turkish.specs.Fronts.{front, end, Pair, reachesReserved, passGives, SameAnswers}
 use Rattle.turkish.proofs.Laws.Words.{bytes-append, chars-parts, front-bytes, end-long}
 use Rattle.turkish.proofs.Laws.Accepted.{accepted-text}
@@ -21,7 +21,7 @@ inBytes p = record { text = bytes (p .text); syllable = p .syllable; yes = p .ye
 
 -- a call on an accepted word, with room enough, gives what the pass of its characters gives
 passGives-pass : (w out : List ℕ) → accepted w ≡ true → length w + 2 ≤ length out → passGives w out ≡ inBytes (pass (chars w))
-unfolding passGives passCall passOut passRefusal refusalInto accepted written passText inBytes
+unfolding passGives passCall passOut passRefusal refusalShort accepted written passText inBytes
 passGives-pass w out h l = rw (h, le-ltb (length out) (length w + 2) l, take-append-seam (passText w) (drop (length (passText w)) out))
 
 -- a text whose characters are x and then the front's has the front's bytes and then those of x

@@ -17,7 +17,7 @@ use Rattle.turkish.specs.Snowball.{ahead, place, limit as textLimit, mov
 use Rattle.turkish.specs.Source.{check-vowel-harmony, mark-suffix-with-optional-y-consonant, mark-yUm, mark-sUn, mark-yUz, mark-sUnUz, mark-lAr, mark-nUz, mark-DUr, mark-cAsInA, mark-yDU, mark-ysA, mark-ymUs-, mark-yken, stem-nominal-verb-suffixes, post-process-last-consonants, append-U-to-stems-ending-with-d-or-g, more-than-one-syllable-word, is-reserved-word, postlude}
 use Rattle.turkish.specs.Answers.{entered, called, succeeded, left, syllableCheck, stemmed, suffixStage, repaired, postludeOf as repairOfSource}
 use Rattle.turkish.specs.WordPass.{passStage, pass}
-use Rattle.turkish.specs.Calls.{chars, bytes, limit, refusal, refusalInto, accepted, stageText, stagePart, stageCall, postludeText, postludeRefusal, postludeCall, passText, passRefusal, passCall}
+use Rattle.turkish.specs.Calls.{chars, bytes, limit, refusal, refusalShort, accepted, stageText, stagePart, stageCall, postludeText, postludeRefusal, postludeCall, passText, passRefusal, passCall}
 
 -- a word of bytes, written as text
 unfoldable pub word : String → List ℕ
@@ -90,7 +90,7 @@ Met rows = map found rows ≡ map expected rows
 -- every word of both tables has its outcome, computed from turkish.sbl's own commands
 pub outcomes : Met table × Met misread
 unfolding table misread found expected word
-    stageCall stagePart stageText postludeCall postludeText postludeRefusal passCall passText passRefusal refusalInto accepted refusal limit chars bytes
+    stageCall stagePart stageText postludeCall postludeText postludeRefusal passCall passText passRefusal refusalShort accepted refusal limit chars bytes
     encodeAll encode decode isText accepts next lead leadIn table37 due refused before beforeWithin lastChar charAt lastWidth width goesOn continuation
     pass passStage syllableCheck suffixStage stemmed repairOfSource repaired entered called succeeded left
     run enough ahead place textLimit moveTo withSlice withFlag withStrlen withFound withText andThen orElse tested negated eitherWay carriedOut

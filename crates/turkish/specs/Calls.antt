@@ -35,9 +35,13 @@ limit = 1024
 unfoldable pub refusal : List ℕ → ℕ
 refusal w = cond (ltb limit (length w)) 1 (cond (isText w) 0 2)
 
--- the host program: 3 where the output is shorter than the call needs
-unfoldable pub refusalInto : List ℕ → ℕ → ℕ → ℕ
-refusalInto w need room = cond (eqb (refusal w) 0) (cond (ltb room need) 3 0) (refusal w)
+-- the host program: a number of its own where the output is shorter than the call needs
+unfoldable pub refusalShort : ℕ → List ℕ → ℕ → ℕ → ℕ
+refusalShort number w need room = cond (eqb (refusal w) 0) (cond (ltb room need) number 0) (refusal w)
+
+-- 3 for an output
+abbrev pub refusalInto : List ℕ → ℕ → ℕ → ℕ
+refusalInto w need room = refusalShort 3 w need room
 
 -- a word is accepted when neither number 1 nor number 2 applies to it
 unfoldable pub accepted : List ℕ → Bool

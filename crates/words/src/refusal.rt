@@ -1,7 +1,7 @@
 // Why a call refuses a word, as document 01's number; 0 where it does not.
 use encoding::validity;
 ghost use mathlib.Core.Path.{_≡_};
-ghost use Rattle.turkish.specs.Calls.{refusal, refusalInto};
+ghost use Rattle.turkish.specs.Calls.{refusal, refusalShort, refusalInto};
 
 // The longest word, in bytes.
 pub const LIMIT: usize = 1024;
@@ -19,16 +19,23 @@ pub fn refusal_of(w: &[u8]) -> u32
     2
 }
 
-// The same, and 3 where an output of `room` bytes is shorter than the call needs.
-pub fn refusal_into(w: &[u8], need: usize, room: usize) -> u32
-    ensures { λ r. ⌜ r ≡ refusalInto (now (w .entry)) need room ⌝ }
+// The same, and the call's own number where a buffer of `room` bytes is shorter than it needs.
+pub fn refusal_short(w: &[u8], number: u32, need: usize, room: usize) -> u32
+    ensures { λ r. ⌜ r ≡ refusalShort number (now (w .entry)) need room ⌝ }
 {
     let n = refusal_of(w);
     if n != 0 {
         return n;
     }
     if room < need {
-        return 3;
+        return number;
     }
     0
+}
+
+// 3 where that is an output.
+pub fn refusal_into(w: &[u8], need: usize, room: usize) -> u32
+    ensures { λ r. ⌜ r ≡ refusalInto (now (w .entry)) need room ⌝ }
+{
+    refusal_short(w, 3, need, room)
 }
