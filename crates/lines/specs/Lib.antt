@@ -1,3 +1,3 @@
--- What the output line of one word is, and how it is written.
+-- What the output line of one word is, and the room that it takes.
 pub mod Line
-pub mod Put
+pub mod Room

@@ -4,16 +4,9 @@ use Prim.Native.Char.{code}
 use mathlib.Core.Bool.{Bool, cond}
 use mathlib.Core.List.{List, [], _∷_, _++_}
 use lib.Dec.{eqb}
-use Rattle.turkish.specs.Letters.{has}
+use Rattle.turkish.specs.Letters.{tab, lf, has}
 use Rattle.turkish.specs.Answers.{syllableCheck, suffixStage}
 use Rattle.turkish.specs.Calls.{chars, refusal, stageText, passText}
-
--- the two bytes that part the input and the output
-unfoldable pub tab : ℕ
-tab = 0x09
-
-unfoldable pub lf : ℕ
-lf = 0x0A
 
 -- number 4, the list's author's, after the word's author's numbers: a tab in a line
 unfoldable pub lineRefusal : List ℕ → ℕ

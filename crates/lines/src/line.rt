@@ -1,22 +1,23 @@
 // The output line of one word (document 01, "stemlist"). Each stage runs once.
-use crate::put;
 use stages::postlude;
 use stages::postlude::Repair;
 use stages::stage;
 use stages::stage::Outcome;
 use stages::syllable;
 use words::refusal;
+use writing::put;
 ghost use mathlib.Core.Path.{_≡_};
 ghost use mathlib.Core.Bool.{true, cond};
 ghost use Prim.Native.Nat.{_+_, _≤_, _<_};
 ghost use lib.ListN.{length};
-ghost use Rattle.turkish.specs.Letters.{has};
+ghost use Rattle.turkish.specs.Letters.{tab, has};
 ghost use Rattle.turkish.specs.Simple.Harmony.{moreThanOneSyllable};
 ghost use Rattle.turkish.specs.Calls.{chars, accepted, passText};
 ghost use Rattle.stages.specs.Outcome.{outcomeOf};
 ghost use Rattle.stages.specs.Repairs.{repairText};
-ghost use Rattle.lines.specs.Line.{tab, lineRefusal, answers, fields, refusedLine, listLine};
-ghost use Rattle.lines.specs.Put.{put, lineRoom};
+ghost use Rattle.writing.specs.Put.{put};
+ghost use Rattle.lines.specs.Line.{lineRefusal, answers, fields, refusedLine, listLine};
+ghost use Rattle.lines.specs.Room.{lineRoom};
 
 const TAB: u8 = 0x09;
 

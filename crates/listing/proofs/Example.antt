@@ -3,13 +3,13 @@ use mathlib.Core.Path.{_≡_, refl}
 use Rattle.encoding.specs.Encoding.{encode, encodeAll, decode, continuation}
 use Rattle.encoding.specs.Validity.{table37, due, refused, leadIn, lead, next, accepts, isText}
 use Rattle.utf8.specs.Characters.{width, goesOn, lastWidth, charAt, lastChar, beforeWithin, before}
-use Rattle.turkish.specs.Letters.{text, fromEnd, any, has, starts}
+use Rattle.turkish.specs.Letters.{text, fromEnd, tab, lf, any, has, starts}
 use Rattle.turkish.specs.Snowball.{ahead, place, limit as textLimit, moveTo, withSlice, withFlag, withStrlen, withFound, withText, andThen, orElse, tested, negated, eitherWay, carriedOut, readIf, isLeft, isIn, letters, longer, longest, keyAhead, fits, goPast, oneTurn, atLeast, placeAfter, sliceFrom, shifted, inserted, turned, turnedBack, enough, run}
 use Rattle.turkish.specs.Source.{check-vowel-harmony, mark-suffix-with-optional-y-consonant, mark-yUm, mark-sUn, mark-yUz, mark-sUnUz, mark-lAr, mark-nUz, mark-DUr, mark-cAsInA, mark-yDU, mark-ysA, mark-ymUs-, mark-yken, stem-nominal-verb-suffixes, post-process-last-consonants, append-U-to-stems-ending-with-d-or-g, more-than-one-syllable-word, is-reserved-word, postlude}
 use Rattle.turkish.specs.Answers.{entered, called, succeeded, left, syllableCheck, stemmed, suffixStage, repaired, postludeOf as repairOfSource}
 use Rattle.turkish.specs.WordPass.{passStage, pass}
 use Rattle.turkish.specs.Calls.{chars, bytes, limit, refusal, accepted, stageText, passText}
-use Rattle.lines.specs.Line.{tab, lf, lineRefusal, yesNo, oneZero, answers, fields, listLine}
+use Rattle.lines.specs.Line.{lineRefusal, yesNo, oneZero, answers, fields, listLine}
 use Rattle.listing.specs.Listing.{unclosed, linesFrom, listAll, listing}
 
 -- the input lines `evler` and `siniz` give document 01's two lines; the second ends in two tabs

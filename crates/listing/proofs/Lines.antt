@@ -7,9 +7,9 @@ use lib.ListN.{length}
 use lib.Dec.{eqb}
 use borrow.Author.Tests.{eqb-true, eqb-false, eq-eqb, ne-eqb, le-ltb}
 use Rattle.encoding.specs.Validity.{isText}
-use Rattle.turkish.specs.Letters.{text, any, has}
+use Rattle.turkish.specs.Letters.{text, tab, lf, any, has}
 use Rattle.turkish.specs.Calls.{limit, refusal, accepted}
-use Rattle.lines.specs.Line.{tab, lf, lineRefusal, fields, refusedLine, listLine}
+use Rattle.lines.specs.Line.{lineRefusal, fields, refusedLine, listLine}
 use Rattle.listing.specs.Listing.{unclosed, linesFrom, listAll, listing}
 use Rattle.listing.proofs.Laws.Held.{listLine-long}
 

@@ -6,11 +6,11 @@ use mathlib.Core.Bool.{true, false}
 use mathlib.Core.List.{List, [], _∷_, _++_, flatten}
 use lib.ListN.{length, take, drop}
 use Rattle.encoding.specs.Validity.{isText}
-use Rattle.turkish.specs.Letters.{text, has}
+use Rattle.turkish.specs.Letters.{text, tab, lf, has}
 use Rattle.turkish.specs.Calls.{limit, accepted}
-use Rattle.lines.specs.Line.{tab, lf, fields, listLine}
+use Rattle.lines.specs.Line.{fields, listLine}
 use Rattle.listing.specs.Listing.{listing}
-use Rattle.lines.specs.Put.{lineRoom}
+use Rattle.lines.specs.Room.{lineRoom}
 use Rattle.listing.specs.Feed.{most}
 use Rattle.listing.specs.Fed.{feeding}
 use Rattle.listing.specs.Blocks.{fedAll, Call, takenBy, writtenBy}

@@ -4,8 +4,10 @@ use mathlib.Core.Bool.{cond}
 use mathlib.Core.List.{List, [], _∷_}
 use lib.ListN.{length, take, drop, set}
 use lib.Dec.{eqb, ltb}
-use Rattle.lines.specs.Line.{lf, listLine}
-use Rattle.lines.specs.Put.{put, lineRoom}
+use Rattle.turkish.specs.Letters.{lf}
+use Rattle.writing.specs.Put.{put}
+use Rattle.lines.specs.Line.{listLine}
+use Rattle.lines.specs.Room.{lineRoom}
 use Rattle.listing.specs.Feed.{most}
 
 -- `used` bytes of the block are taken, the first `held` bytes of `line` are held, and the first `written` bytes of `out` are written

@@ -5,7 +5,8 @@ use mathlib.Core.Bool.{cond}
 use mathlib.Core.List.{List, [], _∷_, _++_}
 use lib.ListN.{take}
 use lib.Dec.{eqb}
-use Rattle.lines.specs.Line.{lf, listLine}
+use Rattle.turkish.specs.Letters.{lf}
+use Rattle.lines.specs.Line.{listLine}
 use Rattle.listing.specs.Listing.{unclosed, listAll}
 -- the longest word, in bytes
 unfoldable pub use Rattle.turkish.specs.Calls.{limit}

@@ -3,7 +3,8 @@ use Prim.Native.Nat.{ℕ}
 use mathlib.Core.Bool.{cond}
 use mathlib.Core.List.{List, [], _∷_, _++_}
 use lib.Dec.{eqb}
-use Rattle.lines.specs.Line.{lf, listLine}
+use Rattle.turkish.specs.Letters.{lf}
+use Rattle.lines.specs.Line.{listLine}
 
 -- the words of an input, with `line` read so far: each ended by a line feed; a last one without it counts if it is not empty
 unfoldable pub unclosed : List ℕ → List (List ℕ)

@@ -5,8 +5,9 @@ use words::refusal;
 ghost use mathlib.Core.Path.{_≡_};
 ghost use Prim.Native.Nat.{_+_, _≤_};
 ghost use lib.ListN.{length, take, set};
+ghost use Rattle.writing.specs.Put.{put};
 ghost use Rattle.listing.specs.Feed.{most, lastOut};
-ghost use Rattle.lines.specs.Put.{put, lineRoom};
+ghost use Rattle.lines.specs.Room.{lineRoom};
 ghost use Rattle.listing.specs.Fed.{standing, heldNext, feedByte, feeding};
 
 // The bytes held of a line that is not ended: one more than the limit, since a longer line is refused whatever follows.

@@ -8,7 +8,8 @@ ghost use mathlib.Core.Path.{_≡_};
 ghost use mathlib.Core.Bool.{true};
 ghost use Prim.Native.Nat.{_≤_};
 ghost use lib.ListN.{length, take};
-ghost use Rattle.lines.specs.Put.{put, lineRoom};
+ghost use Rattle.writing.specs.Put.{put};
+ghost use Rattle.lines.specs.Room.{lineRoom};
 ghost use Rattle.listing.specs.Feed.{most, fedLine, lastOut};
 
 // Whether all was written, and how many bytes of the line are held.

@@ -14,6 +14,13 @@ text (String._∷_ c s) = code c ∷ text s
 unfoldable pub fromEnd : String → List ℕ
 fromEnd s = reverse (text s)
 
+-- the two bytes that part fields and lines
+unfoldable pub tab : ℕ
+tab = 0x09
+
+unfoldable pub lf : ℕ
+lf = 0x0A
+
 -- some character passes the test
 unfoldable pub any : (ℕ → Bool) → List ℕ → Bool
 any f [] = false

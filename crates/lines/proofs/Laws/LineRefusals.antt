@@ -9,9 +9,9 @@ use lib.ListN.{length}
 use lib.Dec.{eqb, ltb, eqb·suc-zero}
 use borrow.Author.Tests.{eq-eqb, ne-eqb}
 use Rattle.encoding.specs.Validity.{isText}
-use Rattle.turkish.specs.Letters.{has}
+use Rattle.turkish.specs.Letters.{tab, has}
 use Rattle.turkish.specs.Calls.{limit, refusal, accepted}
-use Rattle.lines.specs.Line.{tab, lineRefusal, fields, refusedLine, listLine}
+use Rattle.lines.specs.Line.{lineRefusal, fields, refusedLine, listLine}
 
 -- ---- the number, by the tests ----
 

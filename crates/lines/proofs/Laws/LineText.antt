@@ -6,6 +6,7 @@ use mathlib.Core.Bool.{Bool, true, false}
 use mathlib.Core.List.{List, [], _∷_, _++_, append-assoc, append-nil}
 use native.Mathlib.Omega.{arith}
 use lib.ListN.{length, take, length-append, length-take}
+use Rattle.turkish.specs.Letters.{tab, lf}
 use Rattle.turkish.specs.Simple.Harmony.{moreThanOneSyllable}
 use Rattle.turkish.specs.Simple.Stage.{stage, keptLength}
 use Rattle.turkish.specs.Calls.{chars, limit, accepted, passText}
@@ -19,8 +20,8 @@ use Rattle.stages.specs.Outcome.{outcomeOf}
 use Rattle.stages.specs.Repairs.{repairText, repairOf}
 use Rattle.words.proofs.Laws.WordCalls.{kept-le}
 use Rattle.outputs.proofs.Laws.RepairCalls.{pass-short, pass-kept, pass-repaired}
-use Rattle.lines.specs.Line.{tab, lf, yesNo, oneZero, answers, fields, lineRefusal, refusedLine, listLine}
-use Rattle.lines.specs.Put.{lineRoom}
+use Rattle.lines.specs.Line.{yesNo, oneZero, answers, fields, lineRefusal, refusedLine, listLine}
+use Rattle.lines.specs.Room.{lineRoom}
 use Rattle.lines.proofs.Laws.LineRefusals.{lineRefusal-accepted, listLine-fields, listLine-refused}
 
 -- ---- the text of a repair ----

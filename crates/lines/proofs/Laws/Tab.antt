@@ -9,9 +9,8 @@ use lib.ListN.{length, drop, getD, drop-of-length-le}
 use lib.Seq.{drop-cons}
 use lib.Dec.{eqb}
 use borrow.Author.Tests.{eq-eqb, ne-eqb}
-use Rattle.turkish.specs.Letters.{has}
+use Rattle.turkish.specs.Letters.{tab, has}
 use Rattle.turkish.proofs.Laws.Tests.{any-skips, any-stops, any-none}
-use Rattle.lines.specs.Line.{tab}
 
 module _ (w : List ℕ) (i : ℕ) where
   -- a tab at the place ends the search with yes

@@ -10,14 +10,16 @@ use lib.ListN.{length, take, drop, getD, length-append, length-set, drop-of-leng
 use lib.Seq.{drop-cons}
 use lib.Dec.{eqb}
 use borrow.Author.Tests.{eq-eqb, ne-eqb, lt-ltb, le-ltb}
-use Rattle.lines.specs.Line.{lf, listLine}
-use Rattle.lines.specs.Put.{put, lineRoom}
+use Rattle.turkish.specs.Letters.{lf}
+use Rattle.writing.specs.Put.{put}
+use Rattle.lines.specs.Line.{listLine}
+use Rattle.lines.specs.Room.{lineRoom}
 use Rattle.listing.specs.Feed.{most, fedOut, fedLine}
 use Rattle.listing.specs.Fed.{Fed, standing, endLine, holdByte, feedByte, feedBytes}
 use Rattle.listing.proofs.Blocks.{fedLine-append, fedOut-append}
 use Rattle.encoding.proofs.Laws.Booleans.{lt-or-le}
 use Rattle.listing.proofs.Laws.Held.{lf-or-other, heldNext-le, take-heldNext}
-use Rattle.lines.proofs.Laws.Put.{put-nothing, put-put, length-put, put-end}
+use Rattle.writing.proofs.Laws.Put.{put-nothing, put-put, length-put, put-end}
 use Rattle.lines.proofs.Laws.LineText.{listLine-size}
 
 -- ---- the steps ----

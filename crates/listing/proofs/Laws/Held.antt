@@ -11,8 +11,9 @@ use lib.Seq.{take-all, take-append-le, take-suc-set, set-out}
 use lib.Dec.{eqb, ltb}
 use borrow.Author.Tests.{lt-ltb, le-ltb}
 use Rattle.encoding.proofs.Laws.Booleans.{lt-or-le}
+use Rattle.turkish.specs.Letters.{lf}
 use Rattle.turkish.specs.Calls.{limit, refusal}
-use Rattle.lines.specs.Line.{lf, lineRefusal, refusedLine, listLine}
+use Rattle.lines.specs.Line.{lineRefusal, refusedLine, listLine}
 use Rattle.listing.specs.Listing.{unclosed, listAll}
 use Rattle.listing.specs.Feed.{most, hold, lastOut}
 use Rattle.listing.specs.Fed.{heldNext}

@@ -7,7 +7,8 @@ use native.Mathlib.Omega.{arith}
 use native.Mathlib.Nat.{zero-add}
 use lib.ListN.{length, take, drop, length-append, length-drop, drop-of-length-le}
 use lib.Seq.{take-append-seam, drop-append-seam, drop-drop}
-use Rattle.lines.specs.Put.{put, lineRoom}
+use Rattle.writing.specs.Put.{put}
+use Rattle.lines.specs.Room.{lineRoom}
 use Rattle.listing.specs.Feed.{most, fedOut, fedLine}
 use Rattle.listing.specs.Fed.{Fed, standing, feeding}
 use Rattle.listing.proofs.Blocks.{fedLine-append}

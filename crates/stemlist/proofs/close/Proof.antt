@@ -1,5 +1,5 @@
 -- `stemlist::close` meets its contract: what was written ends within the output, which kept its length. Assumes nothing.
-use Rattle.lines.proofs.Laws.Put.{put-end}
+use Rattle.writing.proofs.Laws.Put.{put-end}
 use Rattle.listing.specs.Feed.{lastOut}
 use denote.Ref.{now}
 use native.Mathlib.Omega.{arith}

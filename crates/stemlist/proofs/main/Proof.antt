@@ -5,7 +5,7 @@ use lib.ListN.{length}
 use mathlib.Core.Path.{_≡_}
 use Prim.Native.Nat.{_≤_}
 use Rattle.listing.specs.Feed.{limit, most}
-use Rattle.lines.specs.Put.{lineRoom}
+use Rattle.lines.specs.Room.{lineRoom}
 use Rattle.stemlist.proofs.main.Statement.{statement}
 use Rattle.stemlist.proofs.main.Tie as tie
 

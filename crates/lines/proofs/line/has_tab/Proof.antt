@@ -5,8 +5,7 @@ use mathlib.Core.Path.{_≡_, refl, _∙_}
 use native.Mathlib.Omega.{arith}
 use lib.ListN.{length, drop}
 use borrow.Author.Needs.{needs}
-use Rattle.turkish.specs.Letters.{has}
-use Rattle.lines.specs.Line.{tab}
+use Rattle.turkish.specs.Letters.{tab, has}
 use Rattle.lines.proofs.Laws.Tab.{tab-stops, tab-skips, tab-none}
 use Rattle.lines.proofs.line.has_tab.Statement.{statement}
 use Rattle.lines.proofs.line.has_tab.Tie as tie

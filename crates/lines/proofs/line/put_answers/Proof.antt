@@ -1,8 +1,9 @@
 -- `lines::line::put_answers` meets its contract: seven bytes written one after the other are the answers.
 -- Assumes nothing.
 use borrow.Author.Needs.{needs}
-use Rattle.lines.specs.Line.{tab, yesNo, oneZero, answers}
-use Rattle.lines.proofs.Laws.Put.{wrote-nothing, wrote-byte, wrote-all}
+use Rattle.turkish.specs.Letters.{tab}
+use Rattle.lines.specs.Line.{yesNo, oneZero, answers}
+use Rattle.writing.proofs.Laws.Put.{wrote-nothing, wrote-byte, wrote-all}
 use Rattle.lines.proofs.Laws.LineText.{answers-bytes}
 use Rattle.lines.proofs.line.put_answers.Statement.{statement}
 use Rattle.lines.proofs.line.put_answers.Tie as tie

@@ -4,10 +4,10 @@ use mathlib.Core.Path.{refl}
 use native.Mathlib.Omega.{arith}
 use borrow.Author.Needs.{needs}
 use denote.Ref.{now}
+use Rattle.turkish.specs.Letters.{tab, lf}
 use Rattle.turkish.specs.Calls.{chars, passText}
-use Rattle.lines.specs.Line.{tab, lf}
-use Rattle.lines.specs.Put.{lineRoom}
-use Rattle.lines.proofs.Laws.Put.{wrote-nothing, wrote-text, wrote-byte, wrote-bytes, wrote-whole, wrote-all}
+use Rattle.lines.specs.Room.{lineRoom}
+use Rattle.writing.proofs.Laws.Put.{wrote-nothing, wrote-text, wrote-byte, wrote-bytes, wrote-whole, wrote-all}
 use Rattle.lines.proofs.Laws.LineText.{length-answers, fields-parts, fields-sizes}
 use Rattle.lines.proofs.line.put_fields.Statement.{statement}
 use Rattle.lines.proofs.line.put_fields.Tie as tie

@@ -4,8 +4,8 @@ use native.Mathlib.Omega.{arith}
 use borrow.Author.Needs.{needs}
 use denote.Ref.{now}
 use Rattle.lines.specs.Line.{refusedLine}
-use Rattle.lines.specs.Put.{lineRoom}
-use Rattle.lines.proofs.Laws.Put.{put-equal}
+use Rattle.lines.specs.Room.{lineRoom}
+use Rattle.writing.proofs.Laws.Put.{put-equal}
 use Rattle.lines.proofs.Laws.LineRefusals.{lineRefusal-most, lineRefusal-accepted, listLine-fields, listLine-refused}
 use Rattle.lines.proofs.line.put_line.Statement.{statement}
 use Rattle.lines.proofs.line.put_line.Tie as tie

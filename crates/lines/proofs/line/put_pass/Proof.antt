@@ -7,7 +7,7 @@ use denote.Ref.{now}
 use borrow.Author.Tests.{not-true, not-false}
 use Rattle.words.proofs.Laws.WordCalls.{kept-le}
 use Rattle.outputs.proofs.Laws.RepairCalls.{repair-fits}
-use Rattle.lines.proofs.Laws.Put.{put-equal, wrote-nothing, wrote-bytes, wrote-whole, wrote-all}
+use Rattle.writing.proofs.Laws.Put.{put-equal, wrote-nothing, wrote-bytes, wrote-whole, wrote-all}
 use Rattle.lines.proofs.Laws.LineText.{passText-short, passText-cut, passText-repaired}
 use Rattle.lines.proofs.line.put_pass.Statement.{statement}
 use Rattle.lines.proofs.line.put_pass.Tie as tie

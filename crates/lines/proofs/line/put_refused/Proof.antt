@@ -2,8 +2,9 @@
 -- Assumes nothing.
 use mathlib.Core.Path.{refl}
 use borrow.Author.Needs.{needs}
-use Rattle.lines.specs.Line.{tab, lf, refusedLine}
-use Rattle.lines.proofs.Laws.Put.{wrote-nothing, wrote-byte, wrote-all}
+use Rattle.turkish.specs.Letters.{tab, lf}
+use Rattle.lines.specs.Line.{refusedLine}
+use Rattle.writing.proofs.Laws.Put.{wrote-nothing, wrote-byte, wrote-all}
 use Rattle.lines.proofs.line.put_refused.Statement.{statement}
 use Rattle.lines.proofs.line.put_refused.Tie as tie
 

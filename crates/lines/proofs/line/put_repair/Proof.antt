@@ -2,7 +2,7 @@
 -- Assumes nothing.
 use native.Mathlib.Omega.{arith}
 use borrow.Author.Needs.{needs}
-use Rattle.lines.proofs.Laws.Put.{wrote-nothing, wrote-byte, wrote-bytes, wrote-all}
+use Rattle.writing.proofs.Laws.Put.{wrote-nothing, wrote-byte, wrote-bytes, wrote-all}
 use Rattle.lines.proofs.Laws.LineText.{repair-none, repair-one, repair-two}
 use Rattle.lines.proofs.line.put_repair.Statement.{statement}
 use Rattle.lines.proofs.line.put_repair.Tie as tie

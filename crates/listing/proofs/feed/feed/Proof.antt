@@ -6,7 +6,7 @@ use native.Mathlib.Omega.{arith}
 use denote.Ref.{now}
 use lib.ListN.{length, drop, getD}
 use Rattle.turkish.specs.Calls.{limit}
-use Rattle.lines.specs.Put.{lineRoom}
+use Rattle.lines.specs.Room.{lineRoom}
 use Rattle.listing.specs.Fed.{standing, feedBytes, feeding}
 use Rattle.listing.proofs.Laws.Fed.{feedBytes-full, feedBytes-end, feedBytes-turn, left-parts, Within, within-turn}
 use Rattle.listing.proofs.feed.feed.Statement.{statement}

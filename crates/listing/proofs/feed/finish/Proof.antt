@@ -6,7 +6,7 @@ use lib.ListN.{length-take}
 use native.Mathlib.Omega.{arith}
 use borrow.Author.Needs.{needs}
 use Rattle.listing.proofs.Laws.Held.{lastOut-none, lastOut-some}
-use Rattle.lines.proofs.Laws.Put.{put-nothing}
+use Rattle.writing.proofs.Laws.Put.{put-nothing}
 use Rattle.listing.proofs.feed.finish.Statement.{statement}
 use Rattle.listing.proofs.feed.finish.Tie as tie
 

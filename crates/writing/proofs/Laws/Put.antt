@@ -8,7 +8,7 @@ use native.Mathlib.Nat.{add-zero, add-assoc}
 use native.Mathlib.Numerals.{add-one}
 use lib.ListN.{length, take, drop, getD, set, length-append, length-take, length-drop, take-append-drop}
 use lib.Seq.{length-take-le, take-length, take-append-seam, drop-append-add, drop-drop, set-split, paste, paste-suc}
-use Rattle.lines.specs.Put.{put}
+use Rattle.writing.specs.Put.{put}
 
 -- ---- one text ----
 

@@ -3,10 +3,10 @@ ghost use mathlib.Core.Path.{_≡_};
 ghost use mathlib.Core.List.{[], _∷_};
 ghost use Prim.Native.Nat.{_+_, _≤_, _<_};
 ghost use lib.ListN.{length, take};
-ghost use Rattle.lines.specs.Put.{put};
+ghost use Rattle.writing.specs.Put.{put};
 
 // Writes one byte at place `at`, and gives the place after it.
-pub(crate) fn put_byte(out: &mut [u8], at: usize, b: u8) -> usize
+pub fn put_byte(out: &mut [u8], at: usize, b: u8) -> usize
     requires { ⌜ at < length (now out) ⌝ }
     ensures { λ r. ⌜ r ≡ at + 1 ⌝ }
     ensures { λ r. ⌜ now (out .exit) ≡ put at (b ∷ []) (now (out .entry)) ⌝ }
@@ -16,7 +16,7 @@ pub(crate) fn put_byte(out: &mut [u8], at: usize, b: u8) -> usize
 }
 
 // Writes the first n bytes of s at place `at`, and gives the place after them.
-pub(crate) fn put_bytes(out: &mut [u8], at: usize, s: &[u8], n: usize) -> usize
+pub fn put_bytes(out: &mut [u8], at: usize, s: &[u8], n: usize) -> usize
     requires { ⌜ n ≤ length (now s) ⌝ }
     requires { ⌜ at + n ≤ length (now out) ⌝ }
     ensures { λ r. ⌜ r ≡ at + n ⌝ }

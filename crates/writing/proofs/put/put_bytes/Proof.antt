@@ -1,14 +1,14 @@
--- `lines::put::put_bytes` meets its contract. The loop's invariant: the bytes passed are written, and the output keeps its length.
+-- `writing::put::put_bytes` meets its contract. The loop's invariant: the bytes passed are written, and the output keeps its length.
 -- The measure is what is left of them. Assumes nothing.
 use Prim.Native.Nat.{_-_, _≤_}
 use mathlib.Core.Path.{_≡_, refl, _∙_}
 use native.Mathlib.Omega.{arith}
 use lib.ListN.{length, take, length-set}
 use borrow.Author.Needs.{needs}
-use Rattle.lines.specs.Put.{put}
-use Rattle.lines.proofs.Laws.Put.{put-nothing, set-next}
-use Rattle.lines.proofs.put.put_bytes.Statement.{statement}
-use Rattle.lines.proofs.put.put_bytes.Tie as tie
+use Rattle.writing.specs.Put.{put}
+use Rattle.writing.proofs.Laws.Put.{put-nothing, set-next}
+use Rattle.writing.proofs.put.put_bytes.Statement.{statement}
+use Rattle.writing.proofs.put.put_bytes.Tie as tie
 
 abbrev Inv-loop : tie.InvT-loop
 Inv-loop out₀ at s n i₀ out i = (i ≤ n) × (length out ≡ length out₀) × (out ≡ put at (take i s) out₀)

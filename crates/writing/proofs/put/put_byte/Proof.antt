@@ -1,10 +1,10 @@
--- `lines::put::put_byte` meets its contract: a byte stored is a text of one byte written.
+-- `writing::put::put_byte` meets its contract: a byte stored is a text of one byte written.
 -- Assumes nothing.
 use mathlib.Core.Path.{refl}
 use borrow.Author.Needs.{needs}
-use Rattle.lines.proofs.Laws.Put.{set-put}
-use Rattle.lines.proofs.put.put_byte.Statement.{statement}
-use Rattle.lines.proofs.put.put_byte.Tie as tie
+use Rattle.writing.proofs.Laws.Put.{set-put}
+use Rattle.writing.proofs.put.put_byte.Statement.{statement}
+use Rattle.writing.proofs.put.put_byte.Tie as tie
 
 slice-write-out : tie.Need-slice-write-out
 slice-write-out c = search needs

@@ -1,0 +1,2 @@
+-- The laws of what is written.
+pub mod Put

@@ -1,0 +1,2 @@
+// Bytes written at a place of a lent output.
+pub mod put;
