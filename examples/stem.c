@@ -1,5 +1,7 @@
-/* Prints the stems of a few Turkish words, three of them in steps, the stem of a heading, and two
-   refusals. Build: cc -std=c11 -I include examples/stem.c target/staticlib/libfannavy.a -o stem */
+/* Prints the stems of a few Turkish words, three of them in steps, the stem of a heading, the pieces
+   of removed endings, and three refusals. Given words as arguments, it prints the pieces of these,
+   a line for each word, and nothing else.
+   Build: cc -std=c11 -I include examples/stem.c target/staticlib/libfannavy.a -o stem */
 #include "fannavy.h"
 
 #include <stdio.h>
@@ -20,6 +22,8 @@ static const char *message(uint32_t refusal) {
         return "the word is not UTF-8";
     case FANNAVY_OUTPUT_TOO_SHORT:
         return "the output is too short";
+    case FANNAVY_BUFFER_TOO_SHORT:
+        return "the buffer for pieces is too short";
     }
     return "a number that this program does not know";
 }
@@ -96,7 +100,66 @@ static void print_heading(const char *heading) {
     print_stem(small, FANNAVY_PASS_ROOM(fold.length));
 }
 
-int main(void) {
+/* The kinds' names by their numbers. */
+static const char *const kinds[] = {
+    [FANNAVY_YUM] = "yUm",     [FANNAVY_SUN] = "sUn",       [FANNAVY_YUZ] = "yUz",
+    [FANNAVY_SUNUZ] = "sUnUz", [FANNAVY_LAR] = "lAr",       [FANNAVY_NUZ] = "nUz",
+    [FANNAVY_DUR] = "DUr",     [FANNAVY_CASINA] = "cAsInA", [FANNAVY_YDU] = "yDU",
+    [FANNAVY_YSA] = "ysA",     [FANNAVY_YMUS] = "ymUs_",    [FANNAVY_YKEN] = "yken",
+};
+
+/* How a piece joined, for the six kinds that may join with a y. */
+static const char *joined(uint8_t kind, const char *letters) {
+    if (kinds[kind][0] != 'y') {
+        return "";
+    }
+    return letters[0] == 'y' ? ", with a y" : ", after a vowel and one character";
+}
+
+/* The piece that begins at this distance from the kept text's end. */
+static const uint8_t *piece_at(size_t distance, const uint8_t *pieces, size_t count) {
+    for (size_t i = 0; i < count; i++) {
+        if (pieces[3 * i + 1] == distance) {
+            return pieces + 3 * i;
+        }
+    }
+    return NULL;
+}
+
+/* What was removed, piece by piece as the word has them. The order in which the call writes the
+   pieces is free, so each is looked for by its distance: they lie end to end. */
+static void print_pieces(const char *word) {
+    uint8_t out[FANNAVY_PIECES_ROOM];
+    FannavyPieces pieces = fannavy_pieces(bytes(word), strlen(word), out, sizeof out);
+
+    if (refused(pieces.refusal)) {
+        return;
+    }
+    printf("'%s' is '%.*s'", word, (int)pieces.length, word);
+    const char *removed = word + pieces.length;
+    const uint8_t *piece = piece_at(0, out, pieces.count);
+    while (piece != NULL) {
+        const char *letters = removed + piece[1];
+        printf(" + '%.*s' (%s%s)", piece[2] + 1 - piece[1], letters, kinds[piece[0]],
+               joined(piece[0], letters));
+        piece = piece_at((size_t)piece[2] + 1, out, pieces.count);
+    }
+    printf("\n");
+}
+
+/* The same as text, in a buffer of `room` bytes: a line for each piece, their order free too. */
+static void print_lines(const char *word, size_t room) {
+    uint8_t out[FANNAVY_PIECES_TEXT_ROOM];
+    FannavyPiecesText text = fannavy_pieces_text(bytes(word), strlen(word), out, room);
+
+    if (refused(text.refusal)) {
+        return;
+    }
+    printf("'%s' in lines:\n%.*s", word, (int)text.length, (const char *)out);
+}
+
+/* Each call at work. */
+static void print_samples(void) {
     const char *words[] = {
         "evler", "kanaddır", "kitablar", "arabayken", "doktorsunuz", "saatler", "siniz", "lar", "",
     };
@@ -108,7 +171,21 @@ int main(void) {
     print_steps("kitablar");
     print_steps("lar");
     print_heading("GÖZLÜKÇÜLER");
+    print_pieces("evmişlerdir");
+    print_pieces("aymışsınızcasına");
+    print_pieces("saatler");
+    print_lines("arabayken", FANNAVY_PIECES_TEXT_ROOM);
     print_stem("evler", FANNAVY_PASS_ROOM(strlen("evler")) - 1);
     print_stem("ev\xFF", FANNAVY_PASS_ROOM(strlen("ev\xFF")));
+    print_lines("arabayken", FANNAVY_PIECES_TEXT_ROOM - 1);
+}
+
+int main(int count, char **arguments) {
+    if (count < 2) {
+        print_samples();
+    }
+    for (int i = 1; i < count; i++) {
+        print_pieces(arguments[i]);
+    }
     return 0;
 }

@@ -9,13 +9,14 @@
  * Lent memory, in every call:
  *   - no pointer is null, not even where its length is 0;
  *   - the word and the output of one call do not overlap;
- *   - the call reads the n bytes of the word and writes the first `length` bytes of the output. The
- *     word stays as it was, and so does the output from `length` on. Nothing is allocated and
- *     nothing is kept after the call, so calls may run side by side.
+ *   - the call reads the n bytes of the word and writes the first `length` bytes of the output
+ *     (fannavy_pieces the first 3 * count). The word stays as it was, and so does the rest of the
+ *     output. Nothing is allocated and nothing is kept after the call, so calls may run side by
+ *     side.
  *
  * Refusals. There is no other error than `refusal`, which gives the first of the numbers below that
- * applies, in their order. A refused call gives its number, length 0 and false in all other fields,
- * and the whole output stays as it was.
+ * applies, in their order. A refused call gives its number, and 0 and false in all other fields, and
+ * the whole output stays as it was.
  */
 #ifndef FANNAVY_H
 #define FANNAVY_H
@@ -35,11 +36,16 @@ extern "C" {
 #define FANNAVY_PASS_ROOM(n) ((size_t)(n) + 2)
 #define FANNAVY_FOLD_ROOM(n) ((size_t)(n))
 
+/* The least output whatever the word: of fannavy_pieces; of fannavy_pieces_text. */
+#define FANNAVY_PIECES_ROOM 9
+#define FANNAVY_PIECES_TEXT_ROOM 96
+
 /* The numbers in `refusal`. */
 #define FANNAVY_NOT_REFUSED UINT32_C(0)
 #define FANNAVY_OVER_LIMIT UINT32_C(1)       /* the word is longer than FANNAVY_LIMIT bytes */
 #define FANNAVY_NOT_UTF8 UINT32_C(2)         /* the word is not UTF-8 */
 #define FANNAVY_OUTPUT_TOO_SHORT UINT32_C(3) /* `room` is less than the call needs */
+#define FANNAVY_BUFFER_TOO_SHORT UINT32_C(5) /* the same in the two calls on pieces */
 
 /*
  * Whether the bytes are UTF-8: shortest forms only, no surrogates, nothing above U+10FFFF. Takes
@@ -132,6 +138,66 @@ typedef struct {
  * numbers 1, 2 and 3.
  */
 FannavyPass fannavy_pass(const uint8_t *w, size_t n, uint8_t *out, size_t room);
+
+/*
+ * The kinds of pieces: the marks of turkish.sbl. In their names U stands for ı, i, u or ü, A for a or
+ * e, I for ı or i, D for d or t. Six kinds have a small y in front, the y with which such a piece may
+ * join after a vowel; where it has no y, it stands after a vowel and one character. The other six ask
+ * for neither.
+ */
+enum {
+    FANNAVY_YUM = 1,    /* yUm: I am */
+    FANNAVY_SUN = 2,    /* sUn: you are, one person */
+    FANNAVY_YUZ = 3,    /* yUz: we are */
+    FANNAVY_SUNUZ = 4,  /* sUnUz: you are, several */
+    FANNAVY_LAR = 5,    /* lAr: the plural, or they are */
+    FANNAVY_NUZ = 6,    /* nUz: you, several, after yDU or ysA */
+    FANNAVY_DUR = 7,    /* DUr: is */
+    FANNAVY_CASINA = 8, /* cAsInA: as if */
+    FANNAVY_YDU = 9,    /* yDU: was; m, n or k after it tells the person */
+    FANNAVY_YSA = 10,   /* ysA: if; m, n or k after it tells the person */
+    FANNAVY_YMUS = 11,  /* ymUs_: is said to be */
+    FANNAVY_YKEN = 12,  /* yken: while */
+};
+
+typedef struct {
+    uint32_t refusal;
+    size_t length;
+    size_t count;
+} FannavyPieces;
+
+/*
+ * What fannavy_stage removes, in pieces, one for each mark that it keeps; none where it finds no
+ * ending. The pieces lie end to end and together are w[length] .. w[n - 1]. Three bytes for each are
+ * written to out[0] .. out[3 * count - 1]: its kind, then the distances of its first and of its last
+ * byte from the kept text's end. So the piece at p = out + 3 * i, where i < count, has the kind p[0]
+ * and the letters w[length + p[1]] .. w[length + p[2]]. A piece of the six kinds that may join with a
+ * y did so exactly where its first letter is one.
+ *
+ *   length  how many bytes of the word are kept, as fannavy_stage gives it
+ *   count   how many pieces there are, 0 to 3
+ *
+ * The order in which the pieces stand is not promised and may be another in another edition: order
+ * them by their distances where it matters.
+ *
+ * `room` is the output's size, FANNAVY_PIECES_ROOM or more. Refuses by the numbers 1, 2 and 5.
+ */
+FannavyPieces fannavy_pieces(const uint8_t *w, size_t n, uint8_t *out, size_t room);
+
+typedef struct {
+    uint32_t refusal;
+    size_t length;
+} FannavyPiecesText;
+
+/*
+ * The same pieces as text, written to out[0] .. out[length - 1], a line for each: the name of its
+ * kind (yUm to yken as above, ymUs_ with its underscore), a tab, its letters with the y that joined
+ * it, a line feed. There is no zero byte at the end. Here too the order of the lines is not promised.
+ * `length` is the text's; the kept text's is the answer of fannavy_stage, or of fannavy_pieces.
+ *
+ * `room` is the output's size, FANNAVY_PIECES_TEXT_ROOM or more. Refuses by the numbers 1, 2 and 5.
+ */
+FannavyPiecesText fannavy_pieces_text(const uint8_t *w, size_t n, uint8_t *out, size_t room);
 
 #ifdef __cplusplus
 }

@@ -24,23 +24,81 @@ pub fn enter_postlude(env: &mut SnowballEnv) -> bool {
 
 /// The keys of the tables that the three stages search, table by table.
 pub fn keys() -> Vec<Vec<&'static str>> {
-    fn of(table: &[Among<Context>]) -> Vec<&'static str> {
-        table.iter().map(|among| among.0).collect()
+    let tables = MARKS.iter().filter_map(|mark| match mark.key {
+        Key::Among(table) => Some(table),
+        Key::Literal(_) => None,
+    });
+    tables.chain(Some(&A_23[..])).map(texts).collect()
+}
+
+fn texts(table: &[Among<Context>]) -> Vec<&'static str> {
+    table.iter().map(|among| among.0).collect()
+}
+
+/// A mark of the suffix stage: its routine, and the parts of which that is made besides harmony.
+pub struct Mark {
+    routine: fn(&mut SnowballEnv, &mut Context) -> bool,
+    routine_name: &'static str,
+    key: Key,
+    /// Whether the optional y follows the key.
+    pub joins: bool,
+}
+
+enum Key {
+    Among(&'static [Among<Context>]),
+    Literal(&'static str),
+}
+
+macro_rules! mark {
+    ($routine:ident, $key:expr, joins: $joins:expr) => {
+        Mark {
+            routine: $routine,
+            routine_name: stringify!($routine),
+            key: $key,
+            joins: $joins,
+        }
+    };
+}
+
+/// The marks in the order of document 01's mark tables, yken last.
+pub static MARKS: [Mark; 12] = [
+    mark!(r_mark_yUm, Key::Among(A_12), joins: true),
+    mark!(r_mark_sUn, Key::Among(A_13), joins: false),
+    mark!(r_mark_yUz, Key::Among(A_14), joins: true),
+    mark!(r_mark_sUnUz, Key::Among(A_15), joins: false),
+    mark!(r_mark_lAr, Key::Among(A_16), joins: false),
+    mark!(r_mark_nUz, Key::Among(A_17), joins: false),
+    mark!(r_mark_DUr, Key::Among(A_18), joins: false),
+    mark!(r_mark_cAsInA, Key::Among(A_19), joins: false),
+    mark!(r_mark_yDU, Key::Among(A_20), joins: true),
+    mark!(r_mark_ysA, Key::Among(A_21), joins: true),
+    mark!(r_mark_ymUs_, Key::Among(A_22), joins: true),
+    mark!(r_mark_yken, Key::Literal("ken"), joins: true),
+];
+
+impl Mark {
+    /// The routine's name after `r_mark_`.
+    pub fn name(&self) -> &'static str {
+        &self.routine_name["r_mark_".len()..]
     }
-    vec![
-        of(A_12),
-        of(A_13),
-        of(A_14),
-        of(A_15),
-        of(A_16),
-        of(A_17),
-        of(A_18),
-        of(A_19),
-        of(A_20),
-        of(A_21),
-        of(A_22),
-        of(A_23),
-    ]
+
+    /// The mark itself: whether it stands before the cursor, which then goes back over it.
+    pub fn stands(&self, env: &mut SnowballEnv) -> bool {
+        (self.routine)(env, &mut no_context())
+    }
+
+    /// Its key by itself, likewise.
+    pub fn key_stands(&self, env: &mut SnowballEnv) -> bool {
+        match self.key {
+            Key::Among(table) => env.find_among_b(table, &mut no_context()) != 0,
+            Key::Literal(text) => env.eq_s_b(text),
+        }
+    }
+}
+
+/// The optional y by itself: whether a mark may join here; the cursor goes back over a y.
+pub fn optional_y_stands(env: &mut SnowballEnv) -> bool {
+    r_mark_suffix_with_optional_y_consonant(env, &mut no_context())
 }
 
 // A context as the whole run begins with.
@@ -48,5 +106,61 @@ fn no_context() -> Context {
     Context {
         b_continue_stemming_noun_suffixes: false,
         i_strlen: 0,
+    }
+}
+
+#[cfg(test)]
+mod tests {
+    use super::*;
+    use at_end;
+
+    // With every vowel, so that harmony holds for each key behind it.
+    const FRONT: &str = "ae\u{131}io\u{f6}u\u{fc}";
+
+    fn keys_of(mark: &Mark) -> Vec<&'static str> {
+        match mark.key {
+            Key::Among(table) => texts(table),
+            Key::Literal(text) => vec![text],
+        }
+    }
+
+    // Where a mark ends that stands at the end of the front, a joint and a key.
+    fn end(joint: &str, key: &str, stands: impl Fn(&mut SnowballEnv) -> bool) -> Option<usize> {
+        let word = [FRONT, joint, key].concat();
+        let mut env = at_end(&word);
+        stands(&mut env).then_some(env.cursor)
+    }
+
+    #[test]
+    fn six_marks_ask_for_the_optional_y() {
+        for mark in &MARKS {
+            assert_eq!(mark.joins, mark.name().starts_with('y'), "{}", mark.name());
+            for key in keys_of(mark) {
+                let ends = |joint| end(joint, key, |env| mark.stands(env));
+                let n = FRONT.len();
+                let (with, without) = match mark.joins {
+                    true => (n, None),
+                    false => (n + 1, Some(n + 2)),
+                };
+                assert_eq!(ends("y"), Some(with), "{} {}", mark.name(), key);
+                assert_eq!(ends("by"), without, "{} {}", mark.name(), key);
+                assert_eq!(ends("b"), Some(n + 1), "{} {}", mark.name(), key);
+            }
+        }
+    }
+
+    #[test]
+    fn marks_are_made_of_their_parts() {
+        for mark in &MARKS {
+            for key in MARKS.iter().flat_map(keys_of) {
+                for joint in &["", "b", "y", "by"] {
+                    let whole = end(joint, key, |env| mark.stands(env));
+                    let parts = end(joint, key, |env| {
+                        mark.key_stands(env) && (!mark.joins || optional_y_stands(env))
+                    });
+                    assert_eq!(whole, parts, "{} {}{}", mark.name(), joint, key);
+                }
+            }
+        }
     }
 }

@@ -3,8 +3,12 @@
 use folding::fold;
 use outputs::pass;
 use outputs::postlude;
+use pieces::buffer;
+use pieces::text;
 use turkish::answer::FoldAnswer;
 use turkish::answer::PassAnswer;
+use turkish::answer::PiecesAnswer;
+use turkish::answer::PiecesTextAnswer;
 use turkish::answer::PostludeAnswer;
 use turkish::answer::StageAnswer;
 use turkish::answer::SyllableAnswer;
@@ -15,6 +19,7 @@ ghost use mathlib.Core.Path.{_≡_};
 ghost use lib.ListN.{length};
 ghost use Rattle.encoding.specs.Validity.{isText};
 ghost use Rattle.turkish.specs.Calls.{syllableCall, stageCall, postludeCall, postludeOut, foldCall, foldOut, passCall, passOut};
+ghost use Rattle.turkish.specs.PieceCalls.{piecesCall, PiecesOut, piecesTextCall, PiecesTextOut};
 
 // Whether the bytes are UTF-8. Takes any slice.
 #[no_mangle]
@@ -65,4 +70,22 @@ pub extern "C" fn fannavy_pass(w: &[u8], out: &mut [u8]) -> PassAnswer
     ensures { λ _. ⌜ now (out .exit) ≡ passOut (now (w .entry)) (now (out .entry)) ⌝ }
 {
     pass::pass_word(w, out)
+}
+
+// The pieces of the ending that the suffix stage removes, to a buffer of 9 bytes or more, in any order.
+#[no_mangle]
+pub extern "C" fn fannavy_pieces(w: &[u8], out: &mut [u8]) -> PiecesAnswer
+    ensures { λ r. ⌜ r ≡ piecesCall (now (w .entry)) (length (now (out .entry))) ⌝ }
+    ensures { λ _. ⌜ PiecesOut (now (w .entry)) (now (out .entry)) (now (out .exit)) ⌝ }
+{
+    buffer::pieces_word(w, out)
+}
+
+// The same as lines, to a buffer of 96 bytes or more, in any order.
+#[no_mangle]
+pub extern "C" fn fannavy_pieces_text(w: &[u8], out: &mut [u8]) -> PiecesTextAnswer
+    ensures { λ r. ⌜ r ≡ piecesTextCall (now (w .entry)) (length (now (out .entry))) ⌝ }
+    ensures { λ _. ⌜ PiecesTextOut (now (w .entry)) (now (out .entry)) (now (out .exit)) ⌝ }
+{
+    text::pieces_text(w, out)
 }

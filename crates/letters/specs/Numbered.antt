@@ -3,7 +3,8 @@ use Prim.Native.Nat.{ℕ}
 use mathlib.Core.Bool.{Bool, true, false, cond}
 use mathlib.Core.List.{List, [], _∷_}
 use lib.Dec.{eqb}
-use Rattle.turkish.specs.Simple.Grammar.{Out, fail, first, Mark, markOf}
+use Rattle.turkish.specs.Simple.Grammar.{Mark}
+use Rattle.turkish.specs.Simple.Pieces.{Trace, none, firstTrace, traceOf}
 use Rattle.turkish.specs.Simple.Marks.{yUm, sUn, yUz, sUnUz, lAr, nUz, DUr, cAsInA, yDU, ysA, ymUs, yken}
 
 -- a mark that never fits
@@ -38,6 +39,6 @@ unfoldable pub keyedBy : List (List ℕ) → Bool → Mark
 keyedBy ks joins = record { kind = 0; harmonic = false; keys = ks; joins = joins }
 
 -- the first of a group that fits
-unfoldable pub firstOf : List ℕ → List ℕ → Out
-firstOf [] cs = fail
-firstOf (k ∷ ks) cs = first (markOf (numbered k) cs) (firstOf ks cs)
+unfoldable pub firstOf : List ℕ → List ℕ → Trace
+firstOf [] cs = none
+firstOf (k ∷ ks) cs = firstTrace (traceOf (numbered k) cs) (firstOf ks cs)

@@ -19,10 +19,6 @@ ghost use Rattle.writing.specs.Put.{put};
 ghost use Rattle.lines.specs.Line.{lineRefusal, answers, fields, refusedLine, listLine};
 ghost use Rattle.lines.specs.Room.{lineRoom};
 
-const TAB: u8 = 0x09;
-
-const LF: u8 = 0x0A;
-
 const YES: u8 = 0x59;
 
 const NO: u8 = 0x4E;
@@ -37,7 +33,7 @@ fn has_tab(w: &[u8]) -> bool
 {
     let mut i = 0;
     while i < w.len() {
-        if w[i] == TAB {
+        if w[i] == put::TAB {
             return true;
         }
         i += 1;
@@ -75,13 +71,13 @@ fn put_answers(out: &mut [u8], at: usize, syllable: bool, yes: bool, flag: bool)
     ensures { λ r. ⌜ r ≡ at + 7 ⌝ }
     ensures { λ r. ⌜ now (out .exit) ≡ put at (answers syllable yes flag) (now (out .entry)) ⌝ }
 {
-    let a = put::put_byte(out, at, TAB);
+    let a = put::put_byte(out, at, put::TAB);
     let b = put::put_byte(out, a, either(syllable, YES, NO));
-    let c = put::put_byte(out, b, TAB);
+    let c = put::put_byte(out, b, put::TAB);
     let d = put::put_byte(out, c, either(yes, YES, NO));
-    let e = put::put_byte(out, d, TAB);
+    let e = put::put_byte(out, d, put::TAB);
     let f = put::put_byte(out, e, either(flag, ONE, ZERO));
-    put::put_byte(out, f, TAB)
+    put::put_byte(out, f, put::TAB)
 }
 
 // Writes the text of a repair of w.
@@ -135,9 +131,9 @@ fn put_fields(out: &mut [u8], at: usize, w: &[u8]) -> usize
     let a = put::put_bytes(out, at, w, w.len());
     let b = put_answers(out, a, syllable, s.yes, s.flag);
     let c = put::put_bytes(out, b, w, s.kept);
-    let d = put::put_byte(out, c, TAB);
+    let d = put::put_byte(out, c, put::TAB);
     let e = put_pass(out, d, w, syllable, s);
-    put::put_byte(out, e, LF)
+    put::put_byte(out, e, put::LF)
 }
 
 // Writes a refused line: `!`, one tab and the number, and nothing of the word.
@@ -148,9 +144,9 @@ fn put_refused(out: &mut [u8], at: usize, n: u32) -> usize
     ensures { λ r. ⌜ now (out .exit) ≡ put at (refusedLine n) (now (out .entry)) ⌝ }
 {
     let a = put::put_byte(out, at, 0x21);
-    let b = put::put_byte(out, a, TAB);
+    let b = put::put_byte(out, a, put::TAB);
     let c = put::put_byte(out, b, (0x30 + n) as u8);
-    put::put_byte(out, c, LF)
+    put::put_byte(out, c, put::LF)
 }
 
 // Writes the output line of one word at place `at`, refused or not, and gives the place after it.

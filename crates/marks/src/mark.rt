@@ -1,7 +1,7 @@
 // The marks of the suffix stage (turkish.rs, `r_mark_yUm` to `r_mark_yken`), numbered 1 to 12 in the order of document 01's mark tables
-// with yken last. Tried alone or in a group, they take the word and what is seen from a record and answer the record moved back. The key
-// and the optional y are tested first and harmony only where they fit: all must hold, so the answer is the same as in the Rust, which
-// tests harmony first.
+// with yken last. Tried alone or in a group, they take the word and what is seen from a record and answer the record moved back and their
+// number. The key and the optional y are tested first and harmony only where they fit: all must hold, so the answer is the same as in the
+// Rust, which tests harmony first.
 use crate::marked::Marked;
 use crate::tables;
 use letters::among::Among;
@@ -19,6 +19,7 @@ ghost use mathlib.Core.Path.{_≡_};
 ghost use Rattle.utf8.specs.Behind.{behind, Open};
 ghost use Rattle.turkish.specs.Simple.Grammar.{optionalY, markOf};
 ghost use Rattle.turkish.specs.Simple.Marks.{yDU, yken};
+ghost use Rattle.turkish.specs.Simple.Pieces.{traceOf};
 ghost use Rattle.letters.specs.Search.{found};
 ghost use Rattle.letters.specs.Seen.{Sees};
 ghost use Rattle.letters.specs.Told.{Hears};
@@ -186,11 +187,11 @@ pub fn first_of(w: &[u8], s: Seen, told: Told, group: &[u32]) -> Marked
             continue;
         }
         if !is_harmonic(k) {
-            return Marked::To(s.c.moved_to(p.at));
+            return Marked::To(s.c.moved_to(p.at), k);
         }
         t = harmony::hear(w, s.c, t);
         if t.holds {
-            return Marked::To(s.c.moved_to(p.at));
+            return Marked::To(s.c.moved_to(p.at), k);
         }
     }
     Marked::Fails
@@ -201,7 +202,7 @@ pub fn first_of(w: &[u8], s: Seen, told: Told, group: &[u32]) -> Marked
 pub fn one_of(w: &[u8], s: Seen, told: Told, kind: u32) -> Marked
     requires { ⌜ Sees (now w) s ⌝ }
     requires { ⌜ Hears (now w) (s .c) told ⌝ }
-    ensures { λ r. ⌜ r ≡ reach (now (w .entry)) (s .c) (markOf (numbered kind) (behind (now (w .entry)) (s .c))) ⌝ }
+    ensures { λ r. ⌜ r ≡ reach (now (w .entry)) (s .c) (traceOf (numbered kind) (behind (now (w .entry)) (s .c))) ⌝ }
 {
     if !ends::may_end(kind, s.last, s.second, s.third) {
         return Marked::Fails;
@@ -211,11 +212,11 @@ pub fn one_of(w: &[u8], s: Seen, told: Told, kind: u32) -> Marked
         return Marked::Fails;
     }
     if !is_harmonic(kind) {
-        return Marked::To(s.c.moved_to(p.at));
+        return Marked::To(s.c.moved_to(p.at), kind);
     }
     let t = harmony::hear(w, s.c, told);
     if !t.holds {
         return Marked::Fails;
     }
-    Marked::To(s.c.moved_to(p.at))
+    Marked::To(s.c.moved_to(p.at), kind)
 }

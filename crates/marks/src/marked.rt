@@ -1,7 +1,7 @@
-// A mark's or a branch's answer: the record moved back, or that it fails.
+// A mark's answer: the record moved back and the mark's number, or that it fails.
 use utf8::cursor::Cursor;
 
 pub enum Marked {
-    To(Cursor),
+    To(Cursor, u32),
     Fails,
 }

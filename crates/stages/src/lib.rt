@@ -2,3 +2,4 @@
 pub mod postlude;
 pub mod stage;
 pub mod syllable;
+pub mod trail;

@@ -1,5 +1,8 @@
 // The suffix stage (turkish.rs, `r_stem_nominal_verb_suffixes`): its six branches in the Rust's order. A branch answers the record
-// after its deletions, which lower the limit; the text kept ends there.
+// after its deletions, which lower the limit, with the marks that it keeps; the text kept ends at the limit.
+use crate::trail::Branch;
+use crate::trail::Trail;
+use crate::trail::Tried;
 use letters::ends;
 use letters::harmony;
 use letters::harmony::Told;
@@ -10,20 +13,48 @@ use marks::marked::Marked;
 use utf8::cursor::Cursor;
 ghost use mathlib.Core.Path.{_≡_};
 ghost use Rattle.utf8.specs.Behind.{behind, Open};
-ghost use Rattle.turkish.specs.Simple.Grammar.{run, mark, _then_};
+ghost use Rattle.turkish.specs.Simple.Grammar.{mark, _then_};
 ghost use Rattle.turkish.specs.Simple.Marks.{ymUs};
+ghost use Rattle.turkish.specs.Simple.Pieces.{trace};
 ghost use Rattle.turkish.specs.Simple.Stage.{person, branch1, branch2, branch3, branch4, branch5, branch6};
 ghost use Rattle.letters.specs.Seen.{Sees};
 ghost use Rattle.letters.specs.Told.{Hears, toldAtEnd};
 ghost use Rattle.letters.specs.Numbered.{firstOf};
-ghost use Rattle.marks.specs.Reach.{reach, cutTo, triedTo};
-ghost use Rattle.stages.specs.Outcome.{outcomeOf};
+ghost use Rattle.stages.specs.Trail.{along, cutTo, triedTo};
+ghost use Rattle.stages.specs.Outcome.{outcomeOf, uncut, cut};
 
-// The place before which the text kept stands, whether an ending was removed, and the flag.
+// The place before which the text kept stands, whether an ending was removed, the flag, and the marks kept.
 pub struct Outcome {
     pub kept: usize,
     pub yes: bool,
     pub flag: bool,
+    pub trail: Trail,
+}
+
+impl Outcome {
+    // No ending: all n bytes are kept.
+    fn uncut(n: usize) -> Outcome
+        ensures { λ r. ⌜ r ≡ uncut n ⌝ }
+    {
+        Outcome {
+            kept: n,
+            yes: false,
+            flag: true,
+            trail: Trail::NONE,
+        }
+    }
+
+    // A branch taken: what stands before the record's limit is kept.
+    fn cut(c: Cursor, trail: Trail, flag: bool) -> Outcome
+        ensures { λ r. ⌜ r ≡ cut c trail flag ⌝ }
+    {
+        Outcome {
+            kept: c.limit,
+            yes: true,
+            flag,
+            trail,
+        }
+    }
 }
 
 // The marks of line 314.
@@ -42,116 +73,136 @@ const AFTER_NUZ: [u32; 2] = [mark::YDU, mark::YSA];
 const PERSON_ALONE: [u32; 4] = [mark::SUNUZ, mark::YUZ, mark::SUN, mark::YUM];
 
 // The record moved back over the first mark of a group that fits before it; the record itself where none does.
-fn try_of(w: &[u8], c: Cursor, group: &[u32]) -> Cursor
+fn try_of(w: &[u8], c: Cursor, group: &[u32]) -> Tried
     requires { ⌜ Open (now w) c ⌝ }
     ensures { λ r. ⌜ r ≡ triedTo (now (w .entry)) c (firstOf (now (group .entry)) (behind (now (w .entry)) c)) ⌝ }
 {
-    let Marked::To(d) = mark::first_of(w, seen::look_back(w, c), Told::UNASKED, group) else {
-        return c;
+    let Marked::To(d, kind) = mark::first_of(w, seen::look_back(w, c), Told::UNASKED, group) else {
+        return Tried { c, kind: 0 };
     };
-    d
+    Tried { c: d, kind }
 }
 
 // A person's ending or nothing, then ymUs_ (lines 316 and 327).
-fn person_then_ymUs(w: &[u8], c: Cursor) -> Marked
+fn person_then_ymUs(w: &[u8], c: Cursor) -> Branch
     requires { ⌜ Open (now w) c ⌝ }
-    ensures { λ r. ⌜ r ≡ reach (now (w .entry)) c (run (person then mark ymUs) (behind (now (w .entry)) c)) ⌝ }
+    ensures { λ r. ⌜ r ≡ along (now (w .entry)) c (trace (person then mark ymUs) (behind (now (w .entry)) c)) ⌝ }
 {
-    let d = try_of(w, c, &PERSON);
-    mark::one_of(w, seen::look_back(w, d), Told::UNASKED, mark::YMUS)
+    let p = try_of(w, c, &PERSON);
+    let d = p.c;
+    let Marked::To(e, kind) = mark::one_of(w, seen::look_back(w, d), Told::UNASKED, mark::YMUS)
+    else {
+        return Branch::Unfit;
+    };
+    Branch::Fits(
+        e,
+        Trail::NONE.behind(kind, e.cursor).behind(p.kind, d.cursor),
+    )
 }
 
 // Line 314: ymUs_, yDU, ysA or yken.
-fn first_branch(w: &[u8], s: Seen, t: Told) -> Marked
+fn first_branch(w: &[u8], s: Seen, t: Told) -> Branch
     requires { ⌜ Sees (now w) s ⌝ }
     requires { ⌜ Hears (now w) (s .c) t ⌝ }
-    ensures { λ r. ⌜ r ≡ cutTo (now (w .entry)) (s .c) (run branch1 (behind (now (w .entry)) (s .c))) ⌝ }
+    ensures { λ r. ⌜ r ≡ cutTo (now (w .entry)) (s .c) (trace branch1 (behind (now (w .entry)) (s .c))) ⌝ }
 {
     if !ends::ends_first(s.last, s.second, s.third) {
-        return Marked::Fails;
+        return Branch::Unfit;
     }
-    let Marked::To(c) = mark::first_of(w, s, t, &FIRST) else {
-        return Marked::Fails;
+    let Marked::To(c, kind) = mark::first_of(w, s, t, &FIRST) else {
+        return Branch::Unfit;
     };
-    Marked::To(c.deleted())
+    Branch::Fits(c.deleted(), Trail::NONE.behind(kind, c.cursor))
 }
 
 // Line 316: cAsInA, a person's ending or nothing, then ymUs_.
-fn second_branch(w: &[u8], s: Seen, t: Told) -> Marked
+fn second_branch(w: &[u8], s: Seen, t: Told) -> Branch
     requires { ⌜ Sees (now w) s ⌝ }
     requires { ⌜ Hears (now w) (s .c) t ⌝ }
-    ensures { λ r. ⌜ r ≡ cutTo (now (w .entry)) (s .c) (run branch2 (behind (now (w .entry)) (s .c))) ⌝ }
+    ensures { λ r. ⌜ r ≡ cutTo (now (w .entry)) (s .c) (trace branch2 (behind (now (w .entry)) (s .c))) ⌝ }
 {
-    let Marked::To(c) = mark::one_of(w, s, t, mark::CASINA) else {
-        return Marked::Fails;
+    let Marked::To(c, kind) = mark::one_of(w, s, t, mark::CASINA) else {
+        return Branch::Unfit;
     };
-    let Marked::To(d) = person_then_ymUs(w, c) else {
-        return Marked::Fails;
+    let Branch::Fits(d, rest) = person_then_ymUs(w, c) else {
+        return Branch::Unfit;
     };
-    Marked::To(d.deleted())
+    Branch::Fits(d.deleted(), rest.behind(kind, c.cursor))
 }
 
 // Lines 318 to 320: lAr, deleted; then DUr, yDU, ysA or ymUs_ if one fits. The flag goes down.
-fn third_branch(w: &[u8], s: Seen, t: Told) -> Marked
+fn third_branch(w: &[u8], s: Seen, t: Told) -> Branch
     requires { ⌜ Sees (now w) s ⌝ }
     requires { ⌜ Hears (now w) (s .c) t ⌝ }
-    ensures { λ r. ⌜ r ≡ cutTo (now (w .entry)) (s .c) (run branch3 (behind (now (w .entry)) (s .c))) ⌝ }
+    ensures { λ r. ⌜ r ≡ cutTo (now (w .entry)) (s .c) (trace branch3 (behind (now (w .entry)) (s .c))) ⌝ }
 {
-    let Marked::To(c) = mark::one_of(w, s, t, mark::LAR) else {
-        return Marked::Fails;
+    let Marked::To(c, kind) = mark::one_of(w, s, t, mark::LAR) else {
+        return Branch::Unfit;
     };
-    let d = try_of(w, c.deleted(), &AFTER_LAR);
-    Marked::To(d.deleted())
+    let p = try_of(w, c.deleted(), &AFTER_LAR);
+    let d = p.c;
+    Branch::Fits(
+        d.deleted(),
+        Trail::NONE.behind(p.kind, d.cursor).behind(kind, c.cursor),
+    )
 }
 
 // Line 323: nUz, then yDU or ysA.
-fn fourth_branch(w: &[u8], s: Seen, t: Told) -> Marked
+fn fourth_branch(w: &[u8], s: Seen, t: Told) -> Branch
     requires { ⌜ Sees (now w) s ⌝ }
     requires { ⌜ Hears (now w) (s .c) t ⌝ }
-    ensures { λ r. ⌜ r ≡ cutTo (now (w .entry)) (s .c) (run branch4 (behind (now (w .entry)) (s .c))) ⌝ }
+    ensures { λ r. ⌜ r ≡ cutTo (now (w .entry)) (s .c) (trace branch4 (behind (now (w .entry)) (s .c))) ⌝ }
 {
-    let Marked::To(c) = mark::one_of(w, s, t, mark::NUZ) else {
-        return Marked::Fails;
+    let Marked::To(c, kind) = mark::one_of(w, s, t, mark::NUZ) else {
+        return Branch::Unfit;
     };
-    let Marked::To(d) = mark::first_of(w, seen::look_back(w, c), Told::UNASKED, &AFTER_NUZ) else {
-        return Marked::Fails;
+    let Marked::To(d, next) = mark::first_of(w, seen::look_back(w, c), Told::UNASKED, &AFTER_NUZ)
+    else {
+        return Branch::Unfit;
     };
-    Marked::To(d.deleted())
+    Branch::Fits(
+        d.deleted(),
+        Trail::NONE.behind(next, d.cursor).behind(kind, c.cursor),
+    )
 }
 
 // Line 325: sUnUz, yUz, sUn or yUm, deleted; then ymUs_ if it fits.
-fn fifth_branch(w: &[u8], s: Seen, t: Told) -> Marked
+fn fifth_branch(w: &[u8], s: Seen, t: Told) -> Branch
     requires { ⌜ Sees (now w) s ⌝ }
     requires { ⌜ Hears (now w) (s .c) t ⌝ }
-    ensures { λ r. ⌜ r ≡ cutTo (now (w .entry)) (s .c) (run branch5 (behind (now (w .entry)) (s .c))) ⌝ }
+    ensures { λ r. ⌜ r ≡ cutTo (now (w .entry)) (s .c) (trace branch5 (behind (now (w .entry)) (s .c))) ⌝ }
 {
     if !ends::ends_fifth(s.last, s.second, s.third) {
-        return Marked::Fails;
+        return Branch::Unfit;
     }
-    let Marked::To(c) = mark::first_of(w, s, t, &PERSON_ALONE) else {
-        return Marked::Fails;
+    let Marked::To(c, kind) = mark::first_of(w, s, t, &PERSON_ALONE) else {
+        return Branch::Unfit;
     };
     let d = c.deleted();
-    let Marked::To(e) = mark::one_of(w, seen::look_back(w, d), Told::UNASKED, mark::YMUS) else {
-        return Marked::To(d);
+    let Marked::To(e, next) = mark::one_of(w, seen::look_back(w, d), Told::UNASKED, mark::YMUS)
+    else {
+        return Branch::Fits(d, Trail::NONE.behind(kind, c.cursor));
     };
-    Marked::To(e.deleted())
+    Branch::Fits(
+        e.deleted(),
+        Trail::NONE.behind(next, e.cursor).behind(kind, c.cursor),
+    )
 }
 
 // Line 327: DUr, deleted; then a person's ending or nothing and ymUs_, if that fits whole.
-fn sixth_branch(w: &[u8], s: Seen, t: Told) -> Marked
+fn sixth_branch(w: &[u8], s: Seen, t: Told) -> Branch
     requires { ⌜ Sees (now w) s ⌝ }
     requires { ⌜ Hears (now w) (s .c) t ⌝ }
-    ensures { λ r. ⌜ r ≡ cutTo (now (w .entry)) (s .c) (run branch6 (behind (now (w .entry)) (s .c))) ⌝ }
+    ensures { λ r. ⌜ r ≡ cutTo (now (w .entry)) (s .c) (trace branch6 (behind (now (w .entry)) (s .c))) ⌝ }
 {
-    let Marked::To(c) = mark::one_of(w, s, t, mark::DUR) else {
-        return Marked::Fails;
+    let Marked::To(c, kind) = mark::one_of(w, s, t, mark::DUR) else {
+        return Branch::Unfit;
     };
     let d = c.deleted();
-    let Marked::To(e) = person_then_ymUs(w, d) else {
-        return Marked::To(d);
+    let Branch::Fits(e, rest) = person_then_ymUs(w, d) else {
+        return Branch::Fits(d, Trail::NONE.behind(kind, c.cursor));
     };
-    Marked::To(e.deleted())
+    Branch::Fits(e.deleted(), rest.behind(kind, c.cursor))
 }
 
 // Harmony at the word's end, walked for where the last letters are those of a mark that tests it.
@@ -179,58 +230,26 @@ pub fn stem_nominal_verb_suffixes(w: &[u8]) -> Outcome
         },
     );
     if !ends::ends_any(s.last, s.second, s.third) {
-        return Outcome {
-            kept: n,
-            yes: false,
-            flag: true,
-        };
+        return Outcome::uncut(n);
     }
     let t = told_at_end(w, s);
-    if let Marked::To(c) = first_branch(w, s, t) {
-        return Outcome {
-            kept: c.limit,
-            yes: true,
-            flag: true,
-        };
+    if let Branch::Fits(c, kept) = first_branch(w, s, t) {
+        return Outcome::cut(c, kept, true);
     }
-    if let Marked::To(c) = second_branch(w, s, t) {
-        return Outcome {
-            kept: c.limit,
-            yes: true,
-            flag: true,
-        };
+    if let Branch::Fits(c, kept) = second_branch(w, s, t) {
+        return Outcome::cut(c, kept, true);
     }
-    if let Marked::To(c) = third_branch(w, s, t) {
-        return Outcome {
-            kept: c.limit,
-            yes: true,
-            flag: false,
-        };
+    if let Branch::Fits(c, kept) = third_branch(w, s, t) {
+        return Outcome::cut(c, kept, false);
     }
-    if let Marked::To(c) = fourth_branch(w, s, t) {
-        return Outcome {
-            kept: c.limit,
-            yes: true,
-            flag: true,
-        };
+    if let Branch::Fits(c, kept) = fourth_branch(w, s, t) {
+        return Outcome::cut(c, kept, true);
     }
-    if let Marked::To(c) = fifth_branch(w, s, t) {
-        return Outcome {
-            kept: c.limit,
-            yes: true,
-            flag: true,
-        };
+    if let Branch::Fits(c, kept) = fifth_branch(w, s, t) {
+        return Outcome::cut(c, kept, true);
     }
-    if let Marked::To(c) = sixth_branch(w, s, t) {
-        return Outcome {
-            kept: c.limit,
-            yes: true,
-            flag: true,
-        };
+    if let Branch::Fits(c, kept) = sixth_branch(w, s, t) {
+        return Outcome::cut(c, kept, true);
     }
-    Outcome {
-        kept: n,
-        yes: false,
-        flag: true,
-    }
+    Outcome::uncut(n)
 }

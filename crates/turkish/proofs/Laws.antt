@@ -1,7 +1,19 @@
 -- The laws of the definitions, a file for each thing that they are about; the code's proofs cite some of them too.
 pub mod Tests
+pub mod Members
 pub mod Outcome
+pub mod Traces
 pub mod Bounds
+pub mod Keeping
+pub mod PieceCounts
+pub mod Joints
+pub mod RemovedBytes
+pub mod Offsets
+pub mod FirstLetters
+pub mod EndToEnd
+pub mod PieceForms
+pub mod Covering
+pub mod KeyLetters
 pub mod Flag
 pub mod Accepted
 pub mod Vowels

@@ -4,6 +4,11 @@ pub mod Near
 pub mod Fronts
 pub mod Nothing
 pub mod Starred
+pub mod PieceWords
+pub mod PieceTheorems
+pub mod Shapes
+pub mod PieceLines
+pub mod ReadBack
 pub mod Sizes
 pub mod Tables
 pub mod PostludeRules

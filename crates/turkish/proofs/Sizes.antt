@@ -159,10 +159,11 @@ pub stageText-length : (w : List ℕ) → accepted w ≡ true → length (stageT
 unfolding keptLength
 stageText-length w e = ap length (stageText-kept w e) ∙ length-take-le (keptLength w) w (back-le w (length w) (stage (chars w) .removed))
 
--- so what is handed back is a front of the word
+-- so it is the word's front of its own length
+pub stageText-front : (w : List ℕ) → accepted w ≡ true → stageText w ≡ take (length (stageText w)) w
+stageText-front w e = stageText-kept w e ∙ ap (λ (n : ℕ). take n w) (sym (stageText-length w e))
+
+-- and what is handed back is a front of the word
 pub stagePart-front : (w : List ℕ) → stagePart w ≡ take (length (stagePart w)) w
 unfolding stagePart
-stagePart-front w =
-    cond-test (λ s. s ≡ take (length s) w) (accepted w)
-    (λ e. stageText-kept w e ∙ ap (λ (n : ℕ). take n w) (sym (stageText-length w e)))
-    refl
+stagePart-front w = cond-test (λ s. s ≡ take (length s) w) (accepted w) (stageText-front w) refl

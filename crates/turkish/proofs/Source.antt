@@ -5,6 +5,9 @@ pub mod LastVowel
 pub mod Harmony
 pub mod Marks
 pub mod Stage
+pub mod Keeps
+pub mod KeptMarks
+pub mod KeptStage
 pub mod Syllables
 pub mod Reserved
 pub mod LastConsonant

@@ -1,13 +1,13 @@
 -- The file to open first: what the definitions of turkish promise, in the words of the user's demands. Each theorem is proved in
 -- a line or two from the files named for what they prove. That the code gives these definitions' answers is the contracts' part.
--- What the calls give is what turkish.sbl's commands answer (specs: Snowball, Source, Answers, Calls); the code's own contracts
--- rest on simpler forms (Harmony, Grammar, Marks, Stage, Postlude), and that these are the same is proved here.
+-- What the calls give is what turkish.sbl's commands answer (specs: Snowball, Source, Answers, Pieces, Calls, PieceCalls); the code's own
+-- contracts rest on simpler forms (Simple: Harmony, Grammar, Marks, Stage, Pieces, Postlude), and that these are the same is proved here.
 -- Assumes nothing.
 use Prim.Native.Nat.{ℕ, _+_, _≤_, _<_}
 use Prim.Native.String.{String}
-use mathlib.Core.Path.{_≡_, sym, _∙_}
+use mathlib.Core.Path.{_≡_, refl, sym, _∙_}
 use mathlib.Core.Bool.{true, false, cond}
-use mathlib.Core.List.{List, _++_, reverse, List·Memᴰ}
+use mathlib.Core.List.{List, _++_, map, reverse, List·Memᴰ, List·Permᴰ}
 use mathlib.Core.Logic.{_↔_}
 use native.Mathlib.Omega.{arith}
 use lib.ListN.{length, take, drop, getD, length-drop}
@@ -18,24 +18,33 @@ use Rattle.turkish.specs.Letters.{starts}
 use Rattle.turkish.specs.Snowball.{State, ahead, Result, done, failed, Direction, forward, backward, letters, deep, Command, _then_, try, literal, routine, itself, run}
 use Rattle.turkish.specs.Source as source
 use Rattle.turkish.specs.Answers.{called, syllableCheck, stemmed, suffixStage, repaired, postludeOf}
+use Rattle.turkish.specs.Pieces.{alone, withY, afterVowel, reading}
 use Rattle.turkish.specs.Simple.Harmony.{harmony, moreThanOneSyllable}
 use Rattle.turkish.specs.Simple.Grammar.{optionalY, markOf}
 use Rattle.turkish.specs.Simple.Marks.{yUm, sUn, yUz, sUnUz, lAr, nUz, DUr, cAsInA, yDU, ysA, ymUs, yken}
 use Rattle.turkish.specs.Simple.Stage.{stage, kept}
+use Rattle.turkish.specs.Simple.Pieces.{stageMarks, located}
 use Rattle.turkish.specs.Simple.Postlude.{reserved, appends, appendU, harden, postlude, postludeYes}
 use Rattle.turkish.specs.Simple.Tables.{Table, tables, nonzero}
-use Rattle.turkish.specs.Calls.{chars, bytes, limit, accepted, stagePart, stageCall, postludeText, postludeRefusal, postludeOut, foldText, foldRefusal, foldOut, passText, passRefusal, passOut}
+use Rattle.turkish.specs.Calls.{chars, bytes, limit, accepted, stageText, stagePart, stageCall, postludeText, postludeRefusal, postludeOut, foldText, foldRefusal, foldOut, passText, passRefusal, passOut}
+use Rattle.turkish.specs.PieceCalls.{Span, spansOf, given, mostPieces, piecesRoom, buffer, bufferOf, piecesRefusal, PiecesOut, textRoom, pieceLine, textOf}
+use Rattle.turkish.specs.PieceCalls.{piecesTextRefusal, piecesTextCall, PiecesTextOut, EndToEnd, between, covering, spelled, mostBytes}
 use Rattle.turkish.specs.Fronts.{mostRemoved, front, Pair, reachesReserved, passGives, SameAnswers, leftEmpty, oneOf}
 use Rattle.turkish.proofs.Source.Means.{settled, Means, takeIf}
 use Rattle.turkish.proofs.Source.Harmony.{harmony-means, optionalY-means}
 use Rattle.turkish.proofs.Source.Marks.{yUm-means, sUn-means, yUz-means, sUnUz-means, lAr-means, nUz-means, DUr-means, cAsInA-means, yDU-means, ysA-means, ymUs-means, yken-means}
 use Rattle.turkish.proofs.Source.Stage.{stage-answers, suffixStage-simple}
+use Rattle.turkish.proofs.Source.KeptStage.{keeps-of-source}
 use Rattle.turkish.proofs.Source.Syllables.{syllables-run, syllableCheck-simple}
 use Rattle.turkish.proofs.Source.Postlude.{postlude-answers}
 use Rattle.turkish.proofs.Source.Calls.{suffixStage-text, postludeOf-text}
 use Rattle.turkish.proofs.Source.Recursion.{CallsBehind, deep-same, routine-text, calls-itself, calls-try, calls-behind, shortens-literal}
 use Rattle.turkish.proofs.Laws.Bounds.{stage-most, stage-yes, stage-no}
 use Rattle.turkish.proofs.Laws.Leaves.{stage-within}
+use Rattle.turkish.proofs.Laws.RemovedBytes.{stageText-most}
+use Rattle.turkish.proofs.Laws.Joints.{joins}
+use Rattle.turkish.proofs.Laws.FirstLetters.{tellJoined}
+use Rattle.turkish.proofs.Laws.PieceForms.{bufferOf-perm, textOf-perm, none-written}
 use Rattle.turkish.proofs.Laws.Accepted.{accepted-iff}
 use Rattle.turkish.proofs.Fronts.{pair-fares-alike}
 use Rattle.turkish.proofs.Nothing.{left-empty}
@@ -43,6 +52,9 @@ use Rattle.turkish.proofs.Laws.Syllables.{moreThanOneSyllable-no}
 use Rattle.turkish.proofs.Sizes.{postludeText-size, passText-size, foldText-size, stageText-length, stagePart-front}
 use Rattle.turkish.proofs.Tables.{one-key, key-letters, key-start}
 use Rattle.turkish.proofs.PostludeRules.{postlude-one}
+use Rattle.turkish.proofs.PieceTheorems.{at-most-three-pieces, kinds-1-to-12, end-to-end, together-removed, covered-once, pieces-within, joined-told, buffer-fits, buffer-bytes, text-fits}
+use Rattle.turkish.proofs.ReadBack.{lines-tell-word, texts-tell-word, calls-tell-word}
+use Rattle.turkish.proofs.PieceWords as PieceWords
 use Rattle.turkish.proofs.Starred as Starred
 
 -- ---- demand 1: who is refused, and that a refused output stays ----
@@ -70,6 +82,11 @@ outputs-suffice w a = (postludeText-size w a, passText-size w a, foldText-size w
 pub stage-of-source : (s : State) → s .cursor ≡ 0
     → stemmed (called backward source.stem-nominal-verb-suffixes s) ≡ record { yes = stage (s .text) .yes; text = kept (s .text); flag = stage (s .text) .flag }
 stage-of-source = stage-answers
+
+-- entered so, it keeps the simple form's marks in the same order, each with its joint and between its places: the pieces of the ending
+pub pieces-of-source : (s : State) → s .cursor ≡ 0
+    → reading backward failed source.stem-nominal-verb-suffixes s .kept ≡ located (length (s .text)) (stageMarks (s .text))
+pieces-of-source = keeps-of-source
 
 -- from any place, the syllable check answers what the simple form answers of the characters ahead, and changes nothing
 pub syllables-of-source : (s : State) → settled (s .cursor) (called forward source.more-than-one-syllable-word s)
@@ -168,6 +185,75 @@ unfolding kept
 one-syllable-has-no-ending cs e =
     let none = moreThanOneSyllable-no cs (sym (syllableCheck-simple cs) ∙ e) in
     suffixStage-simple cs ∙ rw none
+
+-- ---- the pieces of an ending (document 02, request 1) ----
+
+-- words with their pieces, both forms and the calls' answers, computed from turkish.sbl's own commands; and the kinds with their numbers
+pub words-with-pieces : PieceWords.Pieced PieceWords.table × PieceWords.Formed PieceWords.forms × PieceWords.AnswersMet × PieceWords.KindsMet
+words-with-pieces = (PieceWords.words-met .0, PieceWords.words-met .1, PieceWords.words-met .2, PieceWords.kinds-met)
+
+-- a word has at most three pieces, and each has a kind from 1 to 12
+pub three-pieces-at-most : (w : List ℕ) → (length (spansOf w) ≤ mostPieces) × ((p : Span) → List·Memᴰ p (spansOf w) → (0 < p .kind) × (p .kind ≤ 12))
+three-pieces-at-most w = (at-most-three-pieces w, kinds-1-to-12 w)
+
+-- they lie end to end from the word's end down to the kept text's
+pub pieces-end-to-end : (w : List ℕ) → accepted w ≡ true → EndToEnd (length w) (spansOf w) (length (stageText w))
+pieces-end-to-end = end-to-end
+
+-- and are together exactly what was removed: the kept text and their letters are the word
+pub pieces-are-what-was-removed : (w : List ℕ) → accepted w ≡ true → stageText w ++ spelled w (spansOf w) ≡ w
+pieces-are-what-was-removed = together-removed
+
+-- in every order each byte that was removed is in one piece, and no other byte is in any
+pub each-byte-in-one-piece : (w : List ℕ) {ps : List Span} → accepted w ≡ true → List·Permᴰ (spansOf w) ps → (i : ℕ)
+    → covering i ps ≡ between (length (stageText w)) (length w) i
+each-byte-in-one-piece = covered-once
+
+-- a piece of the six kinds that an optional y may join did so with a y exactly where its first letter is one; the other six join alone
+pub joined-by-first-letter : (w : List ℕ) (p : Span) → accepted w ≡ true → List·Memᴰ p (spansOf w)
+    → p .joined ≡ cond (joins (p .kind)) (cond (eqb (getD w (p .first) 0) 0x79) withY afterVowel) alone
+unfolding tellJoined
+joined-by-first-letter = joined-told
+
+-- no more than 20 bytes are removed, and every piece lies within them
+pub pieces-within-20-bytes : (w : List ℕ) → accepted w ≡ true → (length w ≤ length (stageText w) + mostBytes)
+    × ((p : Span) → List·Memᴰ p (spansOf w) → (length (stageText w) ≤ p .first) × (p .first ≤ p .last) × (p .last < length (stageText w) + mostBytes))
+pieces-within-20-bytes w a = (stageText-most w a, λ p i. pieces-within w p a i)
+
+-- so in every order all that the buffer holds, kinds and distances, are bytes
+pub distances-are-bytes : (w : List ℕ) {ps : List Span} → accepted w ≡ true → List·Permᴰ (spansOf w) ps
+    → (b : ℕ) → List·Memᴰ b (bufferOf w ps) → b < 256
+distances-are-bytes = buffer-bytes
+
+-- in every order the pieces fit their buffers, and take as much of them
+pub forms-fit : (w : List ℕ) {ps : List Span} → accepted w ≡ true → List·Permᴰ (spansOf w) ps
+    → (length (bufferOf w ps) ≤ piecesRoom) × (length (textOf w ps) ≤ textRoom)
+    × (length (bufferOf w ps) ≡ length (bufferOf w (spansOf w))) × (length (textOf w ps) ≡ length (textOf w (spansOf w)))
+forms-fit w a r = (buffer-fits w r, text-fits w a r, sym (bufferOf-perm w r), sym (textOf-perm w r))
+
+-- a refused call leaves its buffer as it was
+pub refused-pieces-stay : (w before after : List ℕ)
+    → (eqb (piecesRefusal w (length before)) 0 ≡ false → PiecesOut w before after → after ≡ before)
+    × (eqb (piecesTextRefusal w (length before)) 0 ≡ false → PiecesTextOut w before after → after ≡ before)
+unfolding given bufferOf buffer textOf
+refused-pieces-stay w before after =
+    (λ e o. none-written (bufferOf w) refl (rw e at (o .pieces)), λ e o. none-written (textOf w) refl (rw e at (o .lines)))
+
+-- from the kept text and the lines, in whatever order they stand, the word can be read back in one way only
+pub lines-read-back-one-way : (u v : List ℕ) → accepted u ≡ true → accepted v ≡ true → stageText u ≡ stageText v
+    → List·Permᴰ (map (pieceLine u) (spansOf u)) (map (pieceLine v) (spansOf v)) → u ≡ v
+lines-read-back-one-way = lines-tell-word
+
+-- so too from two texts, each in an order of its own
+pub texts-read-back-one-way : (u v : List ℕ) (ps qs : List Span) → accepted u ≡ true → accepted v ≡ true → stageText u ≡ stageText v
+    → List·Permᴰ (spansOf u) ps → List·Permᴰ (spansOf v) qs → textOf u ps ≡ textOf v qs → u ≡ v
+texts-read-back-one-way = texts-tell-word
+
+-- so two calls that leave the same text below the lengths that they give, of two words with the same kept text, were given one word
+pub calls-read-back-one-way : (u v : List ℕ) {o p x y : List ℕ} → eqb (piecesTextRefusal u (length o)) 0 ≡ true → eqb (piecesTextRefusal v (length p)) 0 ≡ true
+    → PiecesTextOut u o x → PiecesTextOut v p y → stageText u ≡ stageText v
+    → take (piecesTextCall u (length o) .length) x ≡ take (piecesTextCall v (length p) .length) y → u ≡ v
+calls-read-back-one-way = calls-tell-word
 
 -- ---- the key tables and the postlude's rules ----
 

@@ -1,12 +1,14 @@
 -- What the calls give, in reading order: turkish.sbl's commands, its routines as the Rust's comments carry them, what they answer for a
--- word, the pass and the fold, the calls with their refusals, and the terms of demand 3.
+-- word, the marks that they keep, the pass and the fold, the calls with their refusals, those on pieces, and the terms of demand 3.
 -- A word is read from its end: a list of characters (code points) has the one nearest the cursor first.
 pub mod Letters
 pub mod Snowball
 pub mod Source
 pub mod Answers
+pub mod Pieces
 pub mod WordPass
 pub mod Calls
+pub mod PieceCalls
 pub mod Vowels
 pub mod Fronts
 -- what need not be believed

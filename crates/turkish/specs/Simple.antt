@@ -4,5 +4,6 @@ pub mod Harmony
 pub mod Grammar
 pub mod Marks
 pub mod Stage
+pub mod Pieces
 pub mod Postlude
 pub mod Tables

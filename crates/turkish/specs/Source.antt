@@ -1,7 +1,8 @@
--- turkish.sbl, the routines of the three stages: its groupings, its keys and its commands, in its own order. A line ends with its number
--- in turkish.sbl where the Rust's comments give one. Held by a program against the comments and the code of the Rust (turkish.rs), from which the numbers are: the
--- sequence of commands with their lines and parentheses, literals, groupings and keys. A `_` in a name is a `-` here, one command after
--- another is `then`, `[` and `]` are ⟦ and ⟧, `true` is `succeed`. Assumes nothing.
+-- turkish.sbl, the routines of the three stages: its groupings, its keys and its commands, in its own order. A line ends with its number in
+-- turkish.sbl where the Rust's comments give one. Held by a program against the comments and the code of the Rust (turkish.rs), from which
+-- the numbers are: the sequence of commands with their lines and parentheses, literals, groupings and keys. Each routine has its name
+-- behind `define`, as there; otherwise a `_` in a name is a `-` here. One command after another is `then`, `[` and `]` are ⟦ and ⟧, `true`
+-- is `succeed`. Assumes nothing.
 use Prim.Native.String.{String}
 use mathlib.Core.List.{List, [], _∷_}
 use Rattle.turkish.specs.Snowball.{Command, define, _then_, _or_, test, not, try, «do», goto, gopast, atleast, backwards, succeed, next, literal, grouping, among, substring, case, ⟦, ⟧, delete, <-_, <+_, set, unset, strlen=, strlen==limit}

@@ -1,4 +1,4 @@
-// What the calls answer. `refusal` is document 01's number, 0 where the call was not refused; a refused call has 0 and no elsewhere.
+// What the calls answer. `refusal` is the papers' number, 0 where the call was not refused; a refused call has 0 and no elsewhere.
 
 // The syllable check: two or more vowels.
 #[repr(C)]
@@ -39,4 +39,19 @@ pub struct PassAnswer {
     pub syllable: bool,
     pub yes: bool,
     pub flag: bool,
+}
+
+// The pieces of the removed ending: the kept text's length, and how many pieces the buffer holds.
+#[repr(C)]
+pub struct PiecesAnswer {
+    pub refusal: u32,
+    pub length: usize,
+    pub count: usize,
+}
+
+// The pieces as lines: the length of their text.
+#[repr(C)]
+pub struct PiecesTextAnswer {
+    pub refusal: u32,
+    pub length: usize,
 }

@@ -1,2 +1,3 @@
 // What the calls answer. The meaning of the stages stands in specs/.
 pub mod answer;
+pub mod endings;

@@ -1,4 +1,4 @@
-// Why a call refuses a word, as document 01's number; 0 where it does not.
+// Why a call refuses a word, as the papers' number; 0 where it does not.
 use encoding::validity;
 ghost use mathlib.Core.Path.{_≡_};
 ghost use Rattle.turkish.specs.Calls.{refusal, refusalShort, refusalInto};

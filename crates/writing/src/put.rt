@@ -5,6 +5,11 @@ ghost use Prim.Native.Nat.{_+_, _≤_, _<_};
 ghost use lib.ListN.{length, take};
 ghost use Rattle.writing.specs.Put.{put};
 
+// The two bytes that part fields and lines.
+pub const TAB: u8 = 0x09;
+
+pub const LF: u8 = 0x0A;
+
 // Writes one byte at place `at`, and gives the place after it.
 pub fn put_byte(out: &mut [u8], at: usize, b: u8) -> usize
     requires { ⌜ at < length (now out) ⌝ }

@@ -1,17 +1,21 @@
 //! The proved calls on words, each known by the type of its answer.
 
 use crate::ffi::{
-    self, FannavyFold, FannavyPass, FannavyPostlude, FannavyStage, FannavySyllable, StagePart,
+    self, FannavyFold, FannavyPass, FannavyPieces, FannavyPiecesText, FannavyPostlude,
+    FannavyStage, FannavySyllable, StagePart,
 };
 use crate::lent::Lent;
+use crate::list::List;
 use crate::output::Output;
+use crate::rule::Need;
+use fannavy::{PIECES_ROOM, PIECES_TEXT_ROOM};
+use std::borrow::Cow;
 use std::fmt::Debug;
 
 /// A call on a word, and what it answers.
 pub trait Call: Copy + Debug + PartialEq {
     const NAME: &'static str;
-    /// How much longer than the word the output has to be; none where the call takes no output.
-    const MORE: Option<usize>;
+    const NEED: Need;
 
     fn call(lent: &mut Lent, output: &mut Output) -> Self;
 
@@ -27,11 +31,34 @@ pub trait Call: Copy + Debug + PartialEq {
     fn text<'a>(&self, _: &'a Lent, output: &'a Output) -> Option<&'a [u8]> {
         output.text(self.written())
     }
+
+    /// That text with whatever may stand in any order in an order of ours.
+    fn in_order(text: &[u8]) -> Cow<'_, [u8]> {
+        Cow::from(text)
+    }
+}
+
+// A call that takes an output, on what is lent.
+fn into_output<A>(
+    call: unsafe extern "C" fn(*const u8, usize, *mut u8, usize) -> A,
+    lent: &mut Lent,
+    output: &mut Output,
+) -> A {
+    let (w, n) = lent.slice();
+    let (out, room) = output.slice();
+    unsafe { call(w, n, out, room) }
+}
+
+// Parts of a text in their own order.
+fn sorted<'a>(parts: impl Iterator<Item = &'a [u8]>) -> Cow<'a, [u8]> {
+    let mut parts: Vec<&[u8]> = parts.collect();
+    parts.sort_unstable();
+    Cow::from(parts.concat())
 }
 
 impl Call for FannavySyllable {
     const NAME: &'static str = "syllable";
-    const MORE: Option<usize> = None;
+    const NEED: Need = Need::Nothing;
 
     fn call(lent: &mut Lent, _: &mut Output) -> Self {
         let (w, n) = lent.slice();
@@ -54,7 +81,7 @@ impl Call for FannavySyllable {
 
 impl Call for FannavyStage {
     const NAME: &'static str = "stage";
-    const MORE: Option<usize> = None;
+    const NEED: Need = Need::Nothing;
 
     fn call(lent: &mut Lent, _: &mut Output) -> Self {
         let (w, n) = lent.slice();
@@ -87,12 +114,10 @@ impl Call for FannavyStage {
 // It has no number: a refused word gives the empty part.
 impl Call for StagePart {
     const NAME: &'static str = "the stage's part";
-    const MORE: Option<usize> = Some(0);
+    const NEED: Need = Need::MoreThanWord(0);
 
     fn call(lent: &mut Lent, output: &mut Output) -> Self {
-        let (w, n) = lent.slice();
-        let (out, room) = output.slice();
-        let length = unsafe { ffi::probe_stage_part(w, n, out, room) };
+        let length = into_output(ffi::probe_stage_part, lent, output);
         StagePart { length }
     }
 
@@ -111,12 +136,10 @@ impl Call for StagePart {
 
 impl Call for FannavyPostlude {
     const NAME: &'static str = "postlude";
-    const MORE: Option<usize> = Some(2);
+    const NEED: Need = Need::MoreThanWord(2);
 
     fn call(lent: &mut Lent, output: &mut Output) -> Self {
-        let (w, n) = lent.slice();
-        let (out, room) = output.slice();
-        unsafe { ffi::fannavy_postlude(w, n, out, room) }
+        into_output(ffi::fannavy_postlude, lent, output)
     }
 
     fn refused(refusal: u32) -> Self {
@@ -138,12 +161,10 @@ impl Call for FannavyPostlude {
 
 impl Call for FannavyFold {
     const NAME: &'static str = "fold";
-    const MORE: Option<usize> = Some(0);
+    const NEED: Need = Need::MoreThanWord(0);
 
     fn call(lent: &mut Lent, output: &mut Output) -> Self {
-        let (w, n) = lent.slice();
-        let (out, room) = output.slice();
-        unsafe { ffi::fannavy_fold(w, n, out, room) }
+        into_output(ffi::fannavy_fold, lent, output)
     }
 
     fn refused(refusal: u32) -> Self {
@@ -161,12 +182,10 @@ impl Call for FannavyFold {
 
 impl Call for FannavyPass {
     const NAME: &'static str = "pass";
-    const MORE: Option<usize> = Some(2);
+    const NEED: Need = Need::MoreThanWord(2);
 
     fn call(lent: &mut Lent, output: &mut Output) -> Self {
-        let (w, n) = lent.slice();
-        let (out, room) = output.slice();
-        unsafe { ffi::fannavy_pass(w, n, out, room) }
+        into_output(ffi::fannavy_pass, lent, output)
     }
 
     fn refused(refusal: u32) -> Self {
@@ -185,5 +204,105 @@ impl Call for FannavyPass {
 
     fn written(&self) -> usize {
         self.length
+    }
+}
+
+// The length is the kept text's, and three bytes are written for each piece.
+impl Call for FannavyPieces {
+    const NAME: &'static str = "pieces";
+    const NEED: Need = Need::Buffer(PIECES_ROOM);
+
+    fn call(lent: &mut Lent, output: &mut Output) -> Self {
+        into_output(ffi::fannavy_pieces, lent, output)
+    }
+
+    fn refused(refusal: u32) -> Self {
+        FannavyPieces {
+            refusal,
+            length: 0,
+            count: 0,
+        }
+    }
+
+    fn refusal(&self) -> u32 {
+        self.refusal
+    }
+
+    fn written(&self) -> usize {
+        self.count.saturating_mul(3)
+    }
+
+    fn in_order(text: &[u8]) -> Cow<'_, [u8]> {
+        sorted(text.chunks(3))
+    }
+}
+
+impl Call for FannavyPiecesText {
+    const NAME: &'static str = "pieces_text";
+    const NEED: Need = Need::Buffer(PIECES_TEXT_ROOM);
+
+    fn call(lent: &mut Lent, output: &mut Output) -> Self {
+        into_output(ffi::fannavy_pieces_text, lent, output)
+    }
+
+    fn refused(refusal: u32) -> Self {
+        FannavyPiecesText { refusal, length: 0 }
+    }
+
+    fn refusal(&self) -> u32 {
+        self.refusal
+    }
+
+    fn written(&self) -> usize {
+        self.length
+    }
+
+    fn in_order(text: &[u8]) -> Cow<'_, [u8]> {
+        sorted(text.split_inclusive(|&byte| byte == b'\n'))
+    }
+}
+
+// No output: the pieces are in the answer.
+impl Call for List {
+    const NAME: &'static str = "the list of pieces";
+    const NEED: Need = Need::Nothing;
+
+    fn call(lent: &mut Lent, _: &mut Output) -> Self {
+        let (w, n) = lent.slice();
+        List::from(unsafe { ffi::probe_removed(w, n) })
+    }
+
+    fn refused(refusal: u32) -> Self {
+        List::new(refusal, 0, &[])
+    }
+
+    fn refusal(&self) -> u32 {
+        self.refusal
+    }
+
+    fn written(&self) -> usize {
+        0
+    }
+}
+
+#[cfg(test)]
+mod tests {
+    use super::*;
+
+    #[test]
+    fn pieces_may_stand_in_any_order() {
+        let order = FannavyPieces::in_order;
+        assert_eq!(order(&[7, 4, 6, 5, 1, 3]), order(&[5, 1, 3, 7, 4, 6]));
+        assert_ne!(order(&[7, 4, 6, 5, 1, 3]), order(&[5, 4, 6, 7, 1, 3]));
+        let order = FannavyPiecesText::in_order;
+        assert_eq!(
+            order(b"DUr\tdir\nlAr\tler\n"),
+            order(b"lAr\tler\nDUr\tdir\n")
+        );
+        assert_ne!(
+            order(b"DUr\tdir\nlAr\tler\n"),
+            order(b"lAr\tdir\nDUr\tler\n")
+        );
+        assert_ne!(order(b"DUr\tdir\n"), order(b"DUr\tdir"));
     }
 }

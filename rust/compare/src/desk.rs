@@ -4,7 +4,7 @@ use crate::calls::Call;
 use crate::lent::Lent;
 use crate::output::Output;
 use crate::report::{Difference, Report};
-use crate::rule;
+use crate::rule::{self, Need};
 use crate::told::Told;
 use std::fmt::{self, Display, Formatter};
 
@@ -33,34 +33,40 @@ impl Desk {
     /// The call gives this answer and this text, with the least output and with a larger one; or it
     /// refuses the word where the rule says so.
     pub fn gives<C: Call>(&mut self, answer: C, text: &[u8], report: &mut Report) -> Outcome {
-        let number = rule::number(self.lent.word(), 0, 0);
-        let expected = match number {
-            0 => Told::new(answer, Some(text)),
-            _ => Told::new(C::refused(number), Some(b"")),
+        let word = self.lent.word();
+        let number = rule::number(word, Need::Nothing, 0);
+        let (answer, text) = match number {
+            0 => (answer, text),
+            _ => (C::refused(number), &b""[..]),
         };
-        let Some(more) = C::MORE else {
-            return self.compare(0, expected, report);
+        let expected = Told::new(answer, Some(C::in_order(text)));
+        let Some(least) = C::NEED.least(word.len()) else {
+            return self.compare(0, &expected, report);
         };
-        let least = self.lent.word().len() + more;
-        self.compare(least, expected, report)?;
-        self.compare(least + 1 + least % 61, expected, report)
+        self.compare(least, &expected, report)?;
+        self.compare(least + 1 + least % 61, &expected, report)
     }
 
     // One call with an output of `room` bytes.
-    fn compare<C: Call>(&mut self, room: usize, expected: Told<C>, report: &mut Report) -> Outcome {
+    fn compare<C: Call>(
+        &mut self,
+        room: usize,
+        expected: &Told<C>,
+        report: &mut Report,
+    ) -> Outcome {
         let answer = self.call::<C>(room);
-        let call = Name(C::NAME, C::MORE.map(|_| room));
-        let proved = Told::new(answer, answer.text(&self.lent, &self.output));
-        report.same(&self.lent, &call, proved, expected)?;
+        let call = self.name::<C>(room);
+        let text = answer.text(&self.lent, &self.output);
+        let proved = Told::new(answer, text.map(C::in_order));
+        report.same(&self.lent, &call, &proved, expected)?;
         report.stays(&self.lent, &call, &self.output, answer.written())
     }
 
     /// The call refuses the word with an output of `room` bytes, or does not, by the rule.
     pub fn refuses<C: Call>(&mut self, room: usize, report: &mut Report) -> Outcome {
-        let need = C::MORE.map_or(0, |more| self.lent.word().len() + more);
-        let number = rule::number(self.lent.word(), need, room);
+        let number = rule::number(self.lent.word(), C::NEED, room);
         let answer = self.call::<C>(room);
-        let call = Name(C::NAME, C::MORE.map(|_| room));
+        let call = self.name::<C>(room);
         if number == 0 {
             report.same(&self.lent, &call, answer.refusal(), 0)?;
         } else {
@@ -72,6 +78,11 @@ impl Desk {
     fn call<C: Call>(&mut self, room: usize) -> C {
         self.output.set(room);
         C::call(&mut self.lent, &mut self.output)
+    }
+
+    fn name<C: Call>(&self, room: usize) -> Name {
+        let least = C::NEED.least(self.lent.word().len());
+        Name(C::NAME, least.map(|_| room))
     }
 
     /// Ends the word.

@@ -22,8 +22,23 @@ pub struct StagePart {
     pub length: usize,
 }
 
+/// The list of a removed ending's pieces, a column for each number of an entry: kinds from 1, and
+/// joinings 0 for none, 1 with a y, 2 after a vowel and one character.
+#[repr(C)]
+#[derive(Clone, Copy, Debug, PartialEq)]
+pub struct ProbeRemoved {
+    pub refusal: u32,
+    pub length: usize,
+    pub count: usize,
+    pub kinds: [u8; 3],
+    pub joinings: [u8; 3],
+    pub first: [usize; 3],
+    pub last: [usize; 3],
+}
+
 extern "C" {
     pub fn probe_stage_part(w: *const u8, n: usize, out: *mut u8, m: usize) -> usize;
+    pub fn probe_removed(w: *const u8, n: usize) -> ProbeRemoved;
     pub fn probe_previous_char(
         w: *const u8,
         n: usize,

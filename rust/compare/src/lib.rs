@@ -8,6 +8,7 @@ pub mod cursor;
 pub mod desk;
 pub mod ffi;
 pub mod lent;
+pub mod list;
 #[cfg(feature = "oracle")]
 pub mod listed;
 pub mod output;

@@ -8,6 +8,8 @@ mod limits;
 #[cfg(feature = "oracle")]
 mod literals;
 #[cfg(feature = "oracle")]
+mod pieces;
+#[cfg(feature = "oracle")]
 mod program;
 mod refused;
 mod sequences;
@@ -88,6 +90,36 @@ pub const PARTS: &[Part] = &[
         name: "pass",
         what: "the word pass, with the crate's stages one after the other",
         run: Run::Words(stages::pass),
+    },
+    #[cfg(feature = "oracle")]
+    Part {
+        name: "marks",
+        what: "the oracle's pieces of a word, by the crate's marks, with the word and the crate's stage",
+        run: Run::Words(pieces::marks),
+    },
+    #[cfg(feature = "oracle")]
+    Part {
+        name: "pieces",
+        what: "the pieces' kinds and offsets in any order, with the crate's marks one by one",
+        run: Run::Words(pieces::buffer),
+    },
+    #[cfg(feature = "oracle")]
+    Part {
+        name: "pieces_text",
+        what: "the pieces' lines in any order, with the crate's marks and how they joined",
+        run: Run::Words(pieces::text),
+    },
+    #[cfg(feature = "oracle")]
+    Part {
+        name: "list",
+        what: "the list of pieces for Rattle callers in any order, with the crate's marks and how they joined",
+        run: Run::Words(pieces::list),
+    },
+    #[cfg(feature = "oracle")]
+    Part {
+        name: "binding",
+        what: "the binding's pieces and its own joinings, told by the first letter, with the crate's marks",
+        run: Run::Words(pieces::binding),
     },
     Part {
         name: "fold",

@@ -1,17 +1,47 @@
-//! Document 01's rule of refusals: the first number that applies.
+//! The rule of refusals, of document 01 and of document 02's request 1: the first number that applies.
 
 use fannavy::LIMIT;
 use std::str::from_utf8;
 
-/// The number for a word whose call needs an output of `need` bytes and is lent one of `room`; 0
-/// where the call is not refused.
-pub fn number(word: &[u8], need: usize, room: usize) -> u32 {
+/// The output that a call needs.
+#[derive(Clone, Copy)]
+pub enum Need {
+    /// The call takes no output.
+    Nothing,
+    /// So many bytes more than the word has.
+    MoreThanWord(usize),
+    /// So many bytes, whatever the word: a buffer for pieces.
+    Buffer(usize),
+}
+
+impl Need {
+    /// The least output for a word of `n` bytes; none where the call takes no output.
+    pub fn least(self, n: usize) -> Option<usize> {
+        match self {
+            Need::Nothing => None,
+            Need::MoreThanWord(more) => Some(n + more),
+            Need::Buffer(size) => Some(size),
+        }
+    }
+
+    // The number that refuses a shorter output.
+    fn number(self) -> u32 {
+        match self {
+            Need::Buffer(_) => 5,
+            _ => 3,
+        }
+    }
+}
+
+/// The number for a word whose call has this need and is lent an output of `room` bytes; 0 where the
+/// call is not refused.
+pub fn number(word: &[u8], need: Need, room: usize) -> u32 {
     if word.len() > LIMIT {
         1
     } else if from_utf8(word).is_err() {
         2
-    } else if room < need {
-        3
+    } else if need.least(word.len()).is_some_and(|least| room < least) {
+        need.number()
     } else {
         0
     }
@@ -19,18 +49,25 @@ pub fn number(word: &[u8], need: usize, room: usize) -> u32 {
 
 #[cfg(test)]
 mod tests {
-    use super::{number, LIMIT};
+    use super::{number, Need, LIMIT};
 
     #[test]
     fn the_first_number_that_applies_is_given() {
         let long = [b'a'; LIMIT + 1];
         let broken = [0xFF; LIMIT + 1];
-        assert_eq!(number(&long, LIMIT + 3, LIMIT + 3), 1);
-        assert_eq!(number(&broken, LIMIT + 3, 0), 1);
-        assert_eq!(number(&broken[1..], LIMIT + 2, 0), 2);
-        assert_eq!(number(&long[1..], LIMIT + 2, LIMIT + 1), 3);
-        assert_eq!(number(&long[1..], LIMIT + 2, LIMIT + 2), 0);
-        assert_eq!(number(b"", 2, 1), 3);
-        assert_eq!(number(b"", 0, 0), 0);
+        let two_more = Need::MoreThanWord(2);
+        assert_eq!(number(&long, two_more, LIMIT + 3), 1);
+        assert_eq!(number(&broken, two_more, 0), 1);
+        assert_eq!(number(&broken[1..], two_more, 0), 2);
+        assert_eq!(number(&long[1..], two_more, LIMIT + 1), 3);
+        assert_eq!(number(&long[1..], two_more, LIMIT + 2), 0);
+        assert_eq!(number(b"", two_more, 1), 3);
+        assert_eq!(number(b"", Need::Nothing, 0), 0);
+        let nine = Need::Buffer(9);
+        assert_eq!(number(&broken, nine, 0), 1);
+        assert_eq!(number(&broken[1..], nine, 0), 2);
+        assert_eq!(number(&long[1..], nine, 8), 5);
+        assert_eq!(number(b"", nine, 8), 5);
+        assert_eq!(number(&long[1..], nine, 9), 0);
     }
 }

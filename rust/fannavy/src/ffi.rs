@@ -43,6 +43,21 @@ pub struct FannavyPass {
     pub flag: bool,
 }
 
+#[repr(C)]
+#[derive(Clone, Copy, Debug, PartialEq, Eq)]
+pub struct FannavyPieces {
+    pub refusal: u32,
+    pub length: usize,
+    pub count: usize,
+}
+
+#[repr(C)]
+#[derive(Clone, Copy, Debug, PartialEq, Eq)]
+pub struct FannavyPiecesText {
+    pub refusal: u32,
+    pub length: usize,
+}
+
 extern "C" {
     pub fn fannavy_is_utf8(w: *const u8, n: usize) -> bool;
     pub fn fannavy_syllable(w: *const u8, n: usize) -> FannavySyllable;
@@ -50,6 +65,13 @@ extern "C" {
     pub fn fannavy_postlude(w: *const u8, n: usize, out: *mut u8, room: usize) -> FannavyPostlude;
     pub fn fannavy_fold(w: *const u8, n: usize, out: *mut u8, room: usize) -> FannavyFold;
     pub fn fannavy_pass(w: *const u8, n: usize, out: *mut u8, room: usize) -> FannavyPass;
+    pub fn fannavy_pieces(w: *const u8, n: usize, out: *mut u8, room: usize) -> FannavyPieces;
+    pub fn fannavy_pieces_text(
+        w: *const u8,
+        n: usize,
+        out: *mut u8,
+        room: usize,
+    ) -> FannavyPiecesText;
 }
 
 // Each call on slices. A reference is what the archive asks for: not null, as long as it says, and
@@ -77,4 +99,12 @@ pub(crate) fn fold(w: &[u8], out: &mut [u8]) -> FannavyFold {
 
 pub(crate) fn pass(w: &[u8], out: &mut [u8]) -> FannavyPass {
     unsafe { fannavy_pass(w.as_ptr(), w.len(), out.as_mut_ptr(), out.len()) }
+}
+
+pub(crate) fn pieces(w: &[u8], out: &mut [u8]) -> FannavyPieces {
+    unsafe { fannavy_pieces(w.as_ptr(), w.len(), out.as_mut_ptr(), out.len()) }
+}
+
+pub(crate) fn pieces_text(w: &[u8], out: &mut [u8]) -> FannavyPiecesText {
+    unsafe { fannavy_pieces_text(w.as_ptr(), w.len(), out.as_mut_ptr(), out.len()) }
 }

@@ -21,8 +21,10 @@
 
 #[allow(unsafe_code, missing_docs)]
 pub mod ffi;
+mod pieces;
 mod refusal;
 
+pub use pieces::{Joining, Kind, Piece, Pieces};
 use refusal::refused;
 pub use refusal::Refusal;
 
@@ -38,6 +40,12 @@ pub const fn pass_room(n: usize) -> usize {
 pub const fn fold_room(n: usize) -> usize {
     n
 }
+
+/// The least buffer for a word's pieces in the archive's own form; [`pieces`] brings it along.
+pub const PIECES_ROOM: usize = 9;
+
+/// The least output of [`pieces_text`], whatever the word.
+pub const PIECES_TEXT_ROOM: usize = 96;
 
 /// What the suffix stage answers.
 #[derive(Clone, Copy, Debug, PartialEq, Eq)]
@@ -183,14 +191,132 @@ pub fn pass<'a>(word: &[u8], out: &'a mut [u8]) -> Result<Pass<'a>, Refusal> {
     })
 }
 
+/// What the suffix stage removed, in pieces: one for each mark that it kept.
+///
+/// ```
+/// use fannavy::{Joining, Kind};
+///
+/// let word = "evmişlerdir";
+/// let pieces = fannavy::pieces(word.as_bytes())?;
+/// let letters = |piece: fannavy::Piece| (piece.kind, &word[piece.first..=piece.last]);
+/// let told: Vec<_> = pieces.iter().map(letters).collect();
+/// let past = Kind::YmUs(Joining::AfterVowel);
+/// assert_eq!(told, [(Kind::DUr, "dir"), (Kind::LAr, "ler"), (past, "miş")]);
+/// assert_eq!(pieces.kept, b"ev");
+///
+/// let pieces = fannavy::pieces(b"saatler")?;
+/// assert_eq!((pieces.kept, pieces.iter().count()), (&b"saatler"[..], 0));
+/// # Ok::<(), fannavy::Refusal>(())
+/// ```
+pub fn pieces(word: &[u8]) -> Result<Pieces<'_>, Refusal> {
+    let mut buffer = [0; PIECES_ROOM];
+    let answer = ffi::pieces(word, &mut buffer);
+    refused(answer.refusal)?;
+    Ok(pieces::read(word, answer.length, &buffer, answer.count))
+}
+
+/// The same pieces as text, a line each: the kind's name, a tab, the piece's letters with a y that
+/// joined it, LF. In which order the lines stand is open. The output has [`PIECES_TEXT_ROOM`] bytes
+/// or more.
+///
+/// ```
+/// let mut out = [0; fannavy::PIECES_TEXT_ROOM];
+/// assert_eq!(fannavy::pieces_text(b"arabayken", &mut out)?, b"yken\tyken\n");
+/// assert_eq!(fannavy::pieces_text(b"saatler", &mut out)?, b"");
+///
+/// let refusal = fannavy::pieces_text(b"arabayken", &mut out[1..]);
+/// assert_eq!(refusal, Err(fannavy::Refusal::BufferTooShort));
+/// # Ok::<(), fannavy::Refusal>(())
+/// ```
+pub fn pieces_text<'a>(word: &[u8], out: &'a mut [u8]) -> Result<&'a [u8], Refusal> {
+    let answer = ffi::pieces_text(word, out);
+    refused(answer.refusal)?;
+    Ok(&out[..answer.length])
+}
+
 #[cfg(test)]
 mod tests {
-    use super::LIMIT;
+    use super::*;
+
+    const HEADER: &str = include_str!("../../../include/fannavy.h");
 
     #[test]
-    fn the_header_has_the_same_limit() {
-        let header = include_str!("../../../include/fannavy.h");
-        let line = format!("#define FANNAVY_LIMIT {LIMIT}");
-        assert!(header.lines().any(|other| other == line), "no {line}");
+    fn the_header_has_the_same_sizes() {
+        for (name, size) in [
+            ("LIMIT", LIMIT),
+            ("PIECES_ROOM", PIECES_ROOM),
+            ("PIECES_TEXT_ROOM", PIECES_TEXT_ROOM),
+        ] {
+            let line = format!("#define FANNAVY_{name} {size}");
+            assert!(HEADER.lines().any(|other| other == line), "no {line}");
+        }
+    }
+
+    #[test]
+    fn the_header_has_the_same_kinds() {
+        for kind in pieces::all(Joining::WithY) {
+            let name = kind.name().trim_end_matches('_').to_uppercase();
+            let entry = format!(" FANNAVY_{name} = {},", kind.number());
+            assert!(HEADER.contains(&entry), "no{entry}");
+        }
+    }
+
+    // The lines of a word's text form, sorted.
+    fn lines(word: &str) -> Vec<String> {
+        let mut out = [0; PIECES_TEXT_ROOM];
+        let text = pieces_text(word.as_bytes(), &mut out).expect("a word");
+        let text = str::from_utf8(text).expect("lines of text");
+        let mut lines: Vec<String> = text.lines().map(str::to_string).collect();
+        lines.sort();
+        lines
+    }
+
+    #[test]
+    fn text_and_pieces_tell_the_same() {
+        for (word, count) in [
+            ("", 0),
+            ("saatler", 0),
+            ("siniz", 1),
+            ("abken", 1),
+            ("arabayken", 1),
+            ("evlerdir", 1),
+            ("geldiniz", 2),
+            ("evmişlerdir", 3),
+            ("aymışsınızcasına", 3),
+        ] {
+            let pieces = pieces(word.as_bytes()).expect("a word");
+            let line = |p: Piece| format!("{}\t{}", p.kind.name(), &word[p.first..=p.last]);
+            let mut told: Vec<String> = pieces.iter().map(line).collect();
+            told.sort();
+            assert_eq!(told, lines(word), "{word}");
+            assert_eq!(told.len(), count, "{word}");
+        }
+    }
+
+    #[test]
+    fn a_joint_is_told() {
+        let kinds = |word: &str| -> Vec<Kind> {
+            let pieces = pieces(word.as_bytes()).expect("a word");
+            pieces.iter().map(|piece| piece.kind).collect()
+        };
+        assert_eq!(kinds("arabayken"), [Kind::Yken(Joining::WithY)]);
+        assert_eq!(kinds("abken"), [Kind::Yken(Joining::AfterVowel)]);
+        let three = [Kind::CAsInA, Kind::SUnUz, Kind::YmUs(Joining::WithY)];
+        assert_eq!(kinds("aymışsınızcasına"), three);
+    }
+
+    #[test]
+    fn a_word_is_refused_before_a_buffer() {
+        let long = [b'a'; LIMIT + 1];
+        for (word, refusal) in [
+            (&long[..], Refusal::OverLimit),
+            (b"\xFF", Refusal::NotUtf8),
+            (b"evler", Refusal::BufferTooShort),
+        ] {
+            let mut out = [0; PIECES_TEXT_ROOM - 1];
+            assert_eq!(pieces_text(word, &mut out), Err(refusal));
+        }
+        assert_eq!(pieces(&long), Err(Refusal::OverLimit));
+        assert_eq!(pieces(b"\xFF"), Err(Refusal::NotUtf8));
     }
 }

@@ -1,6 +1,8 @@
 //! Why a call refuses.
 
 use crate::LIMIT;
+#[cfg(doc)]
+use crate::{PIECES_ROOM, PIECES_TEXT_ROOM};
 use std::error::Error;
 use std::fmt::{self, Display, Formatter};
 
@@ -14,6 +16,9 @@ pub enum Refusal {
     NotUtf8,
     /// The output is shorter than the call needs.
     OutputTooShort,
+    /// The buffer for pieces is shorter than [`PIECES_ROOM`] bytes, or for their text than
+    /// [`PIECES_TEXT_ROOM`].
+    BufferTooShort,
 }
 
 impl Refusal {
@@ -23,6 +28,7 @@ impl Refusal {
             Refusal::OverLimit => 1,
             Refusal::NotUtf8 => 2,
             Refusal::OutputTooShort => 3,
+            Refusal::BufferTooShort => 5,
         }
     }
 }
@@ -33,6 +39,7 @@ impl Display for Refusal {
             Refusal::OverLimit => write!(f, "the word is over {LIMIT} bytes"),
             Refusal::NotUtf8 => write!(f, "the word is not UTF-8"),
             Refusal::OutputTooShort => write!(f, "the output is too short for the word"),
+            Refusal::BufferTooShort => write!(f, "the buffer is too short for pieces"),
         }
     }
 }
@@ -47,6 +54,7 @@ pub(crate) fn refused(number: u32) -> Result<(), Refusal> {
         1 => Err(Refusal::OverLimit),
         2 => Err(Refusal::NotUtf8),
         3 => Err(Refusal::OutputTooShort),
+        5 => Err(Refusal::BufferTooShort),
         other => {
             panic!("libfannavy.a refuses by the number {other}, which this crate does not know")
         }
@@ -64,6 +72,7 @@ mod tests {
             Refusal::OverLimit,
             Refusal::NotUtf8,
             Refusal::OutputTooShort,
+            Refusal::BufferTooShort,
         ] {
             assert_eq!(refused(refusal.number()), Err(refusal));
         }
@@ -81,6 +90,10 @@ mod tests {
         assert_ne!(
             Refusal::OverLimit.to_string(),
             Refusal::OutputTooShort.to_string()
+        );
+        assert_ne!(
+            Refusal::OutputTooShort.to_string(),
+            Refusal::BufferTooShort.to_string()
         );
     }
 }

@@ -1,12 +1,15 @@
-//! The Turkish module of rust-stemmers 1.2.0 as an oracle: three of its stages by themselves, and the
-//! word pass composed of them. The crate's files are read at build time and are not part of this
-//! repository.
+//! The Turkish module of rust-stemmers 1.2.0 as an oracle: three of its stages by themselves, the word
+//! pass composed of them, and the pieces that the suffix stage removes, by its marks one by one. The
+//! crate's files are read at build time and are not part of this repository.
 
 include!(concat!(env!("OUT_DIR"), "/snowball.rs"));
+
+mod pieces;
 
 use snowball::algorithms::turkish;
 use std::borrow::Cow;
 
+pub use pieces::{pieces, Joined, Piece, Pieces};
 pub use snowball::algorithms::turkish::keys;
 pub use snowball::SnowballEnv;
 
@@ -37,16 +40,21 @@ pub struct Pass<'a> {
 
 /// The suffix stage, entered at the word's end with nothing removed before it.
 pub fn stem_nominal_verb_suffixes(word: &str) -> Stage<'_> {
-    let mut env = SnowballEnv::create(word);
-    // What `backwards` does at the word's start.
-    env.limit_backward = env.cursor;
-    env.cursor = env.limit;
+    let mut env = at_end(word);
     let (yes, flag) = turkish::enter_stem_nominal_verb_suffixes(&mut env);
     Stage {
         text: env.get_current(),
         yes,
         flag,
     }
+}
+
+// A word as the suffix stage is entered: what `backwards` does at the word's start.
+fn at_end(word: &str) -> SnowballEnv<'_> {
+    let mut env = SnowballEnv::create(word);
+    env.limit_backward = env.cursor;
+    env.cursor = env.limit;
+    env
 }
 
 /// The syllable check, entered at the word's start.

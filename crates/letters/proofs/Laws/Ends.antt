@@ -1,5 +1,6 @@
 -- The last letters of the marks' keys: text that does not end as a mark's keys may has none of them at its end, so the mark fails there,
--- so does a group whose marks all fail, and so does the stage. Which marks test harmony, and what a mark is without. Assumes nothing.
+-- so does a group whose marks all fail, and so does the stage. Which marks test harmony, what a mark is without, and that a mark which fits
+-- has its own number. Assumes nothing.
 use Prim.Native.Nat.{ℕ, zero, suc}
 use mathlib.Core.Path.{_≡_, refl, sym, ap, _∙_}
 use mathlib.Core.Logic.{_⊎_, inl, inr, ⊎-elim}
@@ -12,10 +13,13 @@ use borrow.Author.Tests.{eqb-true}
 use Rattle.encoding.proofs.Laws.Booleans.{and-left, and-right, or-either, cond-cases, cond-test, cond-both}
 use Rattle.turkish.specs.Letters.{text, fromEnd, any, has, starts}
 use Rattle.turkish.specs.Simple.Harmony.{harmony}
-use Rattle.turkish.specs.Simple.Grammar.{Out, fail, after, first, asking, among, Mark, markOf, run}
+use Rattle.turkish.specs.Simple.Grammar.{Out, fail, after, asking, among, Mark, markOf}
+use Rattle.turkish.specs.Simple.Pieces.{none, afterTrace, firstTrace, traceOf, trace}
 use Rattle.turkish.specs.Simple.Marks.{marked, yUm, sUn, yUz, sUnUz, lAr, nUz, DUr, cAsInA, yDU, ysA, ymUs, yken}
 use Rattle.turkish.specs.Simple.Stage.{branch1, branch2, branch3, branch4, branch5, branch6, branches}
 use Rattle.turkish.proofs.Laws.Tests.{every}
+use Rattle.turkish.proofs.Laws.Outcome.{Gives, unfit, post-all}
+use Rattle.turkish.proofs.Laws.Traces.{traceOf-none}
 use Rattle.letters.specs.Ends.{isU, isA, isD, isKMN, mayEnd, someEnd}
 use Rattle.letters.specs.Numbered.{numbered, never, unharmonic, firstOf}
 
@@ -87,10 +91,14 @@ unfolding asking
 asking-fail true = refl
 asking-fail false = refl
 
--- and so the mark fails there
-pub markOf-unfit : (k : ℕ) (cs : List ℕ) → mayEnd k (getD cs 0 0) (getD cs 1 0) (getD cs 2 0) ≡ false → markOf (numbered k) cs ≡ fail
+-- a mark none of whose keys ends the text fails there
+markOf-keyless : (m : Mark) (cs : List ℕ) → among (m .keys) cs ≡ fail → markOf m cs ≡ fail
 unfolding markOf after
-markOf-unfit k cs e = rw (mayEnd-unfit k cs e) (asking-fail (not (numbered k .harmonic) || harmony cs))
+markOf-keyless m cs e = rw e (asking-fail (not (m .harmonic) || harmony cs))
+
+-- so a mark whose last letters may not stand there keeps nothing
+pub traceOf-unfit : (k : ℕ) (cs : List ℕ) → mayEnd k (getD cs 0 0) (getD cs 1 0) (getD cs 2 0) ≡ false → traceOf (numbered k) cs ≡ none
+traceOf-unfit k cs e = traceOf-none (numbered k) cs (markOf-keyless (numbered k) cs (mayEnd-unfit k cs e))
 
 -- a mark is its harmony test before the mark without one
 pub markOf-unharmonic : (m : Mark) (cs : List ℕ) → markOf m cs ≡ asking (not (m .harmonic) || harmony cs) (markOf (unharmonic m) cs)
@@ -100,15 +108,15 @@ markOf-unharmonic m cs = refl
 -- ---- groups of marks ----
 
 -- where the last three characters may not end a key of a group's marks, no mark of the group fits
-pub someEnd-unfit : (ks cs : List ℕ) → someEnd ks (getD cs 0 0) (getD cs 1 0) (getD cs 2 0) ≡ false → firstOf ks cs ≡ fail
-unfolding someEnd any firstOf first
+pub someEnd-unfit : (ks cs : List ℕ) → someEnd ks (getD cs 0 0) (getD cs 1 0) (getD cs 2 0) ≡ false → firstOf ks cs ≡ none
+unfolding someEnd any firstOf firstTrace
 someEnd-unfit [] cs e = refl
 someEnd-unfit (k ∷ ks) cs e =
     let a : ℕ = getD cs 0 0 in
     let b : ℕ = getD cs 1 0 in
     let c : ℕ = getD cs 2 0 in
     let n = or-no (mayEnd k a b c) (someEnd ks a b c) .0 e in
-    rw (markOf-unfit k cs (n .0)) (someEnd-unfit ks cs (n .1))
+    rw (traceOf-unfit k cs (n .0)) (someEnd-unfit ks cs (n .1))
 
 module _ (a b c : ℕ) where
   -- they may then end a key of none of its marks
@@ -143,11 +151,11 @@ module _ (a b c : ℕ) where
 -- where they may end no key of a mark with which a branch begins, no branch of the stage fits
 pub branches-unfit : (cs : List ℕ)
     → someEnd (8 ∷ 5 ∷ 6 ∷ 7 ∷ 11 ∷ 9 ∷ 10 ∷ 12 ∷ 4 ∷ 3 ∷ 2 ∷ 1 ∷ []) (getD cs 0 0) (getD cs 1 0) (getD cs 2 0) ≡ false
-    → run branches cs ≡ fail
-unfolding run branches branch1 branch2 branch3 branch4 branch5 branch6 first after numbered has any
+    → trace branches cs ≡ none
+unfolding trace branches branch1 branch2 branch3 branch4 branch5 branch6 firstTrace afterTrace numbered has any
 branches-unfit cs e =
-    let fails : (k : ℕ) → has (8 ∷ 5 ∷ 6 ∷ 7 ∷ 11 ∷ 9 ∷ 10 ∷ 12 ∷ 4 ∷ 3 ∷ 2 ∷ 1 ∷ []) k ≡ true → markOf (numbered k) cs ≡ fail =
-    λ k h. markOf-unfit k cs (someEnd-each (getD cs 0 0) (getD cs 1 0) (getD cs 2 0) _ k h e) in
+    let fails : (k : ℕ) → has (8 ∷ 5 ∷ 6 ∷ 7 ∷ 11 ∷ 9 ∷ 10 ∷ 12 ∷ 4 ∷ 3 ∷ 2 ∷ 1 ∷ []) k ≡ true → traceOf (numbered k) cs ≡ none =
+    λ k h. traceOf-unfit k cs (someEnd-each (getD cs 0 0) (getD cs 1 0) (getD cs 2 0) _ k h e) in
     rw (fails 11 refl, fails 9 refl, fails 10 refl, fails 12 refl, fails 8 refl, fails 5 refl, fails 6 refl)
     (rw (fails 4 refl, fails 3 refl, fails 2 refl, fails 1 refl, fails 7 refl))
 
@@ -199,3 +207,24 @@ numbered-joins k =
     (cond-cases H (eqb k 11) (λ e. rw (eqb-true k 11 e)) λ e11.
     (cond-cases H (eqb k 12) (λ e. rw (eqb-true k 12 e)) λ e12.
     rw (e1, e3, e9, e10, e11, e12)))))))))))))
+
+-- ---- numbers ----
+
+-- a number's mark that fits has that number
+pub numbered-kind : (k : ℕ) (cs : List ℕ) → Gives (λ n f. numbered k .kind ≡ k) (markOf (numbered k) cs)
+unfolding numbered never marked yUm sUn yUz sUnUz lAr nUz DUr cAsInA yDU ysA ymUs yken among
+numbered-kind k cs =
+    let H : Mark → Type 0 = λ m. Gives (λ n f. m .kind ≡ k) (markOf m cs) in
+    let own : (m : Mark) → m .kind ≡ k → H m = λ m e. post-all (markOf m cs) (λ n f. e) in
+    cond-test H (eqb k 1) (λ e. own yUm (sym (eqb-true k 1 e)))
+    (cond-test H (eqb k 2) (λ e. own sUn (sym (eqb-true k 2 e)))
+    (cond-test H (eqb k 3) (λ e. own yUz (sym (eqb-true k 3 e)))
+    (cond-test H (eqb k 4) (λ e. own sUnUz (sym (eqb-true k 4 e)))
+    (cond-test H (eqb k 5) (λ e. own lAr (sym (eqb-true k 5 e)))
+    (cond-test H (eqb k 6) (λ e. own nUz (sym (eqb-true k 6 e)))
+    (cond-test H (eqb k 7) (λ e. own DUr (sym (eqb-true k 7 e)))
+    (cond-test H (eqb k 8) (λ e. own cAsInA (sym (eqb-true k 8 e)))
+    (cond-test H (eqb k 9) (λ e. own yDU (sym (eqb-true k 9 e)))
+    (cond-test H (eqb k 10) (λ e. own ysA (sym (eqb-true k 10 e)))
+    (cond-test H (eqb k 11) (λ e. own ymUs (sym (eqb-true k 11 e)))
+    (cond-test H (eqb k 12) (λ e. own yken (sym (eqb-true k 12 e))) (rw (markOf-keyless never cs refl) unfit))))))))))))

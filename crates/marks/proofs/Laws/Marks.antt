@@ -15,19 +15,22 @@ use Rattle.utf8.specs.Behind.{behind, backBy, Open}
 use Rattle.utf8.proofs.Laws.Behind.{behind-backBy, backBy-add, moveTo-backBy, open-backBy}
 use Rattle.turkish.specs.Letters.{starts}
 use Rattle.turkish.specs.Simple.Harmony.{harmony}
-use Rattle.turkish.specs.Simple.Grammar.{Out, fail, took, more, after, first, asking, among, optionalY, markOf}
+use Rattle.turkish.specs.Simple.Grammar.{Out, fail, took, more, after, asking, among, optionalY, Mark, markOf}
+use Rattle.turkish.specs.Simple.Pieces.{Trace, none, keeps, total, firstTrace, traceOut, traceOf}
+use Rattle.turkish.proofs.Laws.Outcome.{Gives, unfit, fits}
+use Rattle.turkish.proofs.Laws.Traces.{traceOf-none}
 use Rattle.letters.specs.declared.among.Among.{Among}
 use Rattle.letters.specs.declared.among.Among.the-variants.{Key, Nothing}
 use Rattle.marks.specs.declared.marked.Marked.the-variants.{To, Fails}
 use Rattle.letters.specs.declared.passed.Passed.{Passed}
 use Rattle.letters.specs.declared.seen.Seen.{Seen}
 use Rattle.letters.specs.Passed.{passedTo, notPassed, passes}
-use Rattle.marks.specs.Reach.{reach}
+use Rattle.marks.specs.Reach.{leading, reach}
 use Rattle.letters.specs.Numbered.{numbered, tabled, unharmonic, keyedBy, firstOf}
 use Rattle.letters.specs.Search.{foundFrom, found}
 use Rattle.letters.specs.Seen.{seenAt, Sees}
 use Rattle.letters.specs.Ends.{mayEnd}
-use Rattle.letters.proofs.Laws.Ends.{asking-fail, markOf-unharmonic}
+use Rattle.letters.proofs.Laws.Ends.{asking-fail, markOf-unharmonic, numbered-kind}
 
 -- ---- a key found, as the grammar's ----
 
@@ -101,11 +104,14 @@ module _ (ks : List (List ℕ)) (joins : Bool) (w : List ℕ) (c : Cursor) {a : 
 
 -- ---- a mark of a group ----
 
--- a step that moved, as the record moved
-reach-passes : (w : List ℕ) (c : Cursor) (o : Out) {p : Passed} → p ≡ passes w c o → p .moved ≡ true → To (moveTo c (p .at)) ≡ reach w c o
-unfolding passes reach passedTo notPassed
-reach-passes w c fail e m = absurd (false≢true (sym (ap (λ (x : Passed). x .moved) e) ∙ m))
-reach-passes w c (took k f) e m = ap To (ap (λ (x : Passed). moveTo c (x .at)) e ∙ moveTo-backBy w c k)
+-- a step that moved, as the record moved and the number of the mark that fits
+reach-passes : (w : List ℕ) (c : Cursor) (m : Mark) (k : ℕ) {o : Out} {p : Passed} {d : Cursor} → Gives (λ n f. m .kind ≡ k) o → p ≡ passes w c o
+    → p .moved ≡ true → d ≡ moveTo c (p .at) → To d k ≡ reach w c (traceOut m (behind w c) o)
+unfolding passes reach passedTo notPassed traceOut total leading
+reach-passes w c m k unfit e moved to = absurd (false≢true (sym (ap (λ (x : Passed). x .moved) e) ∙ moved))
+reach-passes w c m k {d = d} (fits n is) e moved to =
+    let there : d ≡ backBy w c (n + 0) = to ∙ ap (λ (x : Passed). moveTo c (x .at)) e ∙ moveTo-backBy w c n ∙ ap (backBy w c) (sym (add-zero n)) in
+    cc
 
 -- one that did not move fails
 passes-not : (w : List ℕ) (c : Cursor) (o : Out) {p : Passed} → p ≡ passes w c o → p .moved ≡ false → o ≡ fail
@@ -114,46 +120,49 @@ passes-not w c fail e m = refl
 passes-not w c (took k f) e m = absurd (false≢true (sym m ∙ ap (λ (x : Passed). x .moved) e))
 
 -- what the first takes, the group does
-reach-first : (w : List ℕ) (c : Cursor) (o q : Out) {r : Cursor} → To r ≡ reach w c o → To r ≡ reach w c (first o q)
-unfolding first reach
-reach-first w c fail q e = let z : _≡_ {A = ℕ} 0 1 = cc in absurd (omega arith)
-reach-first w c (took k f) q e = e
+reach-first : (w : List ℕ) (c : Cursor) (o q : Trace) {r : Cursor} {k : ℕ} → To r k ≡ reach w c o → To r k ≡ reach w c (firstTrace o q)
+unfolding firstTrace reach
+reach-first w c none q e = let z : _≡_ {A = ℕ} 0 1 = cc in absurd (omega arith)
+reach-first w c (keeps ts f) q e = e
 
 -- a mark by its key and optional y, without its harmony test
 module _ (w : List ℕ) (c : Cursor) (k : ℕ) {p : Passed} (is : p ≡ passes w c (markOf (unharmonic (numbered k)) (behind w c))) where
-  -- without its key and optional y it fails
-  pub markOf-not : p .moved ≡ false → markOf (numbered k) (behind w c) ≡ fail
-  markOf-not m =
-      markOf-unharmonic (numbered k) (behind w c)
+  -- without its key and optional y it keeps nothing
+  pub traceOf-not : p .moved ≡ false → traceOf (numbered k) (behind w c) ≡ none
+  traceOf-not m =
+      traceOf-none (numbered k) (behind w c)
+      (markOf-unharmonic (numbered k) (behind w c)
       ∙ ap (asking (not (numbered k .harmonic) || harmony (behind w c))) (passes-not w c _ is m)
-      ∙ asking-fail (not (numbered k .harmonic) || harmony (behind w c))
+      ∙ asking-fail (not (numbered k .harmonic) || harmony (behind w c)))
 
   -- with them it takes what they take, if it tests no harmony or harmony holds
-  pub markOf-took : p .moved ≡ true → not (numbered k .harmonic) || harmony (behind w c) ≡ true
-      → To (moveTo c (p .at)) ≡ reach w c (markOf (numbered k) (behind w c))
-  unfolding asking
-  markOf-took m h = reach-passes w c _ is m ∙ ap (reach w c) (sym (markOf-unharmonic (numbered k) (behind w c) ∙ rw h))
+  pub traceOf-took : p .moved ≡ true → not (numbered k .harmonic) || harmony (behind w c) ≡ true → {d : Cursor} → d ≡ moveTo c (p .at)
+      → To d k ≡ reach w c (traceOf (numbered k) (behind w c))
+  unfolding asking traceOf
+  traceOf-took m h =
+      reach-passes w c (numbered k) k (numbered-kind k (behind w c)) (is ∙ ap (passes w c) (sym (markOf-unharmonic (numbered k) (behind w c) ∙ rw h))) m
 
-  -- and fails where it does not
-  pub markOf-discord : not (numbered k .harmonic) || harmony (behind w c) ≡ false → markOf (numbered k) (behind w c) ≡ fail
+  -- and keeps nothing where it does not
+  pub traceOf-discord : not (numbered k .harmonic) || harmony (behind w c) ≡ false → traceOf (numbered k) (behind w c) ≡ none
   unfolding asking
-  markOf-discord h = markOf-unharmonic (numbered k) (behind w c) ∙ rw h
+  traceOf-discord h = traceOf-none (numbered k) (behind w c) (markOf-unharmonic (numbered k) (behind w c) ∙ rw h)
 
 module _ (w : List ℕ) (c : Cursor) (group : List ℕ) (i : ℕ) (inside : i < length group) where
   -- the mark tried, and the group from the next on
   firstOf-at : firstOf (drop i group) (behind w c)
-      ≡ first (markOf (numbered (getD group i 0)) (behind w c)) (firstOf (drop (i + 1) group) (behind w c))
+      ≡ firstTrace (traceOf (numbered (getD group i 0)) (behind w c)) (firstOf (drop (i + 1) group) (behind w c))
   unfolding firstOf
   firstOf-at = let next : i + 1 ≡ suc i = omega arith in rw (drop-cons group i 0 inside, next)
 
   -- a mark that fails is passed over
-  pub firstOf-next : markOf (numbered (getD group i 0)) (behind w c) ≡ fail
+  pub firstOf-next : traceOf (numbered (getD group i 0)) (behind w c) ≡ none
       → reach w c (firstOf (drop (i + 1) group) (behind w c)) ≡ reach w c (firstOf (drop i group) (behind w c))
-  unfolding first
+  unfolding firstTrace
   firstOf-next e = ap (reach w c) (sym (firstOf-at ∙ rw e))
 
   -- one that fits is the group's first
-  pub firstOf-took : {r : Cursor} → To r ≡ reach w c (markOf (numbered (getD group i 0)) (behind w c)) → To r ≡ reach w c (firstOf (drop i group) (behind w c))
+  pub firstOf-took : {r : Cursor} {k : ℕ} → To r k ≡ reach w c (traceOf (numbered (getD group i 0)) (behind w c))
+      → To r k ≡ reach w c (firstOf (drop i group) (behind w c))
   firstOf-took e = reach-first w c _ _ e ∙ ap (reach w c) (sym firstOf-at)
 
 -- where no mark is left none fits

@@ -23,7 +23,7 @@ unfoldable pub longest : List (List ℕ) → ℕ
 longest [] = 0
 longest (k ∷ ks) = max (length k) (longest ks)
 
-shortest : List (List ℕ) → ℕ
+unfoldable pub shortest : List (List ℕ) → ℕ
 shortest [] = 1
 shortest (k ∷ ks) = min (length k) (shortest ks)
 
@@ -92,6 +92,10 @@ run-between unset cs = fits 0 (omega arith)
 -- a command takes at most what is computed for it
 pub run-most : (p : Command) (cs : List ℕ) → Post (λ k. k ≤ most p) (run p cs)
 run-most p cs = post-map (λ k f h. h .1) (run-between p cs)
+
+-- and at least that
+pub run-least : (p : Command) (cs : List ℕ) → Post (λ k. least p ≤ k) (run p cs)
+run-least p cs = post-map (λ k f h. h .0) (run-between p cs)
 
 -- ---- the stage ----
 

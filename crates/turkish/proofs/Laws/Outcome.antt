@@ -24,10 +24,20 @@ Post P = Gives (λ k f. P k)
 abbrev pub Flagged : Bool → Out → Type 0
 Flagged f = Gives (λ k g. g ≡ f)
 
+-- an answer of whatever number and flag, where P holds of all
+pub post-all : {P : ℕ → Bool → Type 0} (o : Out) → ((k : ℕ) (f : Bool) → P k f) → Gives P o
+post-all fail h = unfit
+post-all (took k f) h = fits k (h k f)
+
 -- what P says of the answer, Q says too
 pub post-map : {P Q : ℕ → Bool → Type 0} {o : Out} → ((k : ℕ) (f : Bool) → P k f → Q k f) → Gives P o → Gives Q o
 post-map h unfit = unfit
 post-map h (fits k {f} p) = fits k (h k f p)
+
+-- where P and Q hold of the answer, both do
+pub post-both : {P Q : ℕ → Bool → Type 0} {o : Out} → Gives P o → Gives Q o → Gives (λ k f. P k f × Q k f) o
+post-both unfit y = unfit
+post-both (fits k p) (fits _ q) = fits k (p, q)
 
 -- the first of two answers
 pub post-first : {P : ℕ → Bool → Type 0} {o q : Out} → Gives P o → Gives P q → Gives P (first o q)

@@ -51,6 +51,12 @@ pub failed-state : {s t : State} → failed s ≡ failed t → s ≡ t
 unfolding left
 failed-state e = ap left e
 
+-- a result that is a success with the cursor put back where it failed is that success
+pub settled-done : (c : ℕ) (r : Result) (t : State) → settled c r ≡ done t → r ≡ done t
+unfolding settled
+settled-done c (done s) t e = e
+settled-done c (failed s) t e = done-failed (sym e)
+
 -- the characters ahead, some characters on
 pub ahead-on : (s : State) (k : ℕ) → ahead (moveTo s (s .cursor + k)) ≡ drop k (ahead s)
 unfolding ahead moveTo

@@ -17,7 +17,7 @@ use Rattle.turkish.specs.Source.{mark-yUm, mark-sUn, mark-yUz, mark-sUnU
 use Rattle.turkish.specs.Answers.{entered, called, succeeded, left, stemmed, suffixStage}
 use Rattle.turkish.proofs.Laws.Outcome.{Flagged, unfit, fits}
 use Rattle.turkish.proofs.Laws.Flag.{branch1-keeps, branch2-keeps, branch3-lowers, branch4-keeps, branch5-keeps, branch6-keeps}
-use Rattle.turkish.proofs.Source.Means.{Means, means-then, means-or, means-succeed, settled, placed, done-failed, done-state, failed-state}
+use Rattle.turkish.proofs.Source.Means.{Means, means-then, means-or, means-succeed, settled, placed, done-failed, done-state, failed-state, settled-done}
 use Rattle.turkish.proofs.Source.Marks.{yUm-means, sUn-means, yUz-means, sUnUz-means, lAr-means, nUz-means, DUr-means, cAsInA-means, yDU-means, ysA-means, ymUs-means, yken-means}
 
 -- ---- a slice that was opened at the text's end ----
@@ -45,7 +45,7 @@ placeAfter-bra b k h = go (leb k b) (ltb b b) refl
     go false false e = refl
 
 -- what was passed since the slice was opened is deleted
-delete-passed : (t : List ℕ) (j b : ℕ) (s : State)
+pub delete-passed : (t : List ℕ) (j b : ℕ) (s : State)
     → sliceFrom [] (withSlice (standing t j (length t) b s) (length t) (place (standing t j (length t) b s)))
     ≡ standing (drop j t) 0 (length t) (length (drop j t)) s
 unfolding sliceFrom withSlice withText place ahead standing
@@ -66,12 +66,6 @@ delete-passed t j b s =
 unfoldable pub Cuts : State → Out → Result → Type 0
 Cuts s fail r = settled (s .cursor) r ≡ failed s
 Cuts s (took k f) r = (t : State) × (r ≡ done t) × (sliceFrom [] (withSlice t (t .ket) (place t)) .text ≡ drop k (s .text)) × (t .flag ≡ f)
-
--- a result that is a success with the cursor put back where it failed is that success
-settled-done : (c : ℕ) (r : Result) (t : State) → settled c r ≡ done t → r ≡ done t
-unfolding settled
-settled-done c (done s) t e = e
-settled-done c (failed s) t e = done-failed (sym e)
 
 -- the first of two branches
 cuts-or : (s : State) (q : State → Result) (r : Result) (o u : Out) → Cuts s o r → Cuts s u (q s) → Cuts s (first o u) (orElse (s .cursor) r q)
@@ -205,25 +199,25 @@ follows-unset {q} {g} self t k s x =
 -- ---- the six branches ----
 
 -- as they stand in the source, the group of lines 316 and 327 first
-abbrev persons : Command
+abbrev pub persons : Command
 persons = mark-sUnUz or mark-lAr or mark-yUm or mark-sUn or mark-yUz or succeed
 
-abbrev line314 : Command
+abbrev pub line314 : Command
 line314 = mark-ymUs- or mark-yDU or mark-ysA or mark-yken
 
-abbrev line316 : Command
+abbrev pub line316 : Command
 line316 = mark-cAsInA then persons then mark-ymUs-
 
-abbrev line319 : Command
+abbrev pub line319 : Command
 line319 = mark-lAr then ⟧ then delete then try (⟦ then (mark-DUr or mark-yDU or mark-ysA or mark-ymUs-)) then unset
 
-abbrev line323 : Command
+abbrev pub line323 : Command
 line323 = mark-nUz then (mark-yDU or mark-ysA)
 
-abbrev line325 : Command
+abbrev pub line325 : Command
 line325 = (mark-sUnUz or mark-yUz or mark-sUn or mark-yUm) then ⟧ then delete then try (⟦ then mark-ymUs-)
 
-abbrev line327 : Command
+abbrev pub line327 : Command
 line327 = mark-DUr then ⟧ then delete then try (⟦ then persons then mark-ymUs-)
 
 -- the group takes what the simple form's takes

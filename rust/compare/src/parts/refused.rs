@@ -3,14 +3,16 @@
 
 use crate::desk::Desk;
 use crate::ffi::{
-    FannavyFold, FannavyPass, FannavyPostlude, FannavyStage, FannavySyllable, StagePart,
+    FannavyFold, FannavyPass, FannavyPieces, FannavyPiecesText, FannavyPostlude, FannavyStage,
+    FannavySyllable, StagePart,
 };
 use crate::lent::Lent;
+use crate::list::List;
 use crate::report::{Difference, Report};
 use crate::share::share_out;
 use crate::words::damaged::EDGE_BYTES;
 use crate::words::Words;
-use fannavy::LIMIT;
+use fannavy::{LIMIT, PIECES_ROOM, PIECES_TEXT_ROOM};
 
 type Outcome = Result<(), Difference>;
 
@@ -48,6 +50,7 @@ fn every_room(desk: &mut Desk, word: &[u8], report: &mut Report) -> Outcome {
     for room in 0..=word.len() + 2 {
         with_output(desk, room, report)?;
     }
+    with_buffers(desk, word.len(), report)?;
     desk.done(report)
 }
 
@@ -56,11 +59,13 @@ fn some_rooms(desk: &mut Desk, word: &[u8], report: &mut Report) -> Outcome {
     desk.set(word);
     desk.refuses::<FannavySyllable>(0, report)?;
     desk.refuses::<FannavyStage>(0, report)?;
+    desk.refuses::<List>(0, report)?;
     let n = word.len();
     desk.refuses::<StagePart>(n, report)?;
     for room in [0, n.saturating_sub(1), n, n + 1, n + 2, n + 200] {
         with_output(desk, room, report)?;
     }
+    with_buffers(desk, n, report)?;
     desk.done(report)
 }
 
@@ -68,6 +73,22 @@ fn with_output(desk: &mut Desk, room: usize, report: &mut Report) -> Outcome {
     desk.refuses::<FannavyPostlude>(room, report)?;
     desk.refuses::<FannavyFold>(room, report)?;
     desk.refuses::<FannavyPass>(room, report)
+}
+
+// The calls on pieces, whose buffers have a size of their own: the empty one, a shorter one that is
+// another for words of other lengths, and about as long as is enough.
+fn with_buffers(desk: &mut Desk, n: usize, report: &mut Report) -> Outcome {
+    for room in sizes(PIECES_ROOM, n) {
+        desk.refuses::<FannavyPieces>(room, report)?;
+    }
+    for room in sizes(PIECES_TEXT_ROOM, n) {
+        desk.refuses::<FannavyPiecesText>(room, report)?;
+    }
+    Ok(())
+}
+
+fn sizes(least: usize, n: usize) -> [usize; 5] {
+    [0, n % least, least - 1, least, least + 1]
 }
 
 // Words of each length, text and with one byte at some place that makes them no text.

@@ -15,7 +15,7 @@ pub fn syllable(words: &Words, report: &mut Report) -> Result<(), Difference> {
             refusal: 0,
             yes: oracle::more_than_one_syllable_word(word),
         };
-        (answer, Cow::from(""))
+        (answer, Cow::from(&b""[..]))
     })
 }
 
@@ -28,7 +28,7 @@ pub fn stage(words: &Words, report: &mut Report) -> Result<(), Difference> {
             yes: rust.yes,
             flag: rust.flag,
         };
-        (answer, rust.text)
+        (answer, bytes(rust.text))
     })
 }
 
@@ -36,7 +36,7 @@ pub fn part(words: &Words, report: &mut Report) -> Result<(), Difference> {
     on_words(words, report, |word| {
         let text = oracle::stem_nominal_verb_suffixes(word).text;
         let length = text.len();
-        (StagePart { length }, text)
+        (StagePart { length }, bytes(text))
     })
 }
 
@@ -48,7 +48,7 @@ pub fn postlude(words: &Words, report: &mut Report) -> Result<(), Difference> {
             length: rust.text.len(),
             yes: rust.yes,
         };
-        (answer, rust.text)
+        (answer, bytes(rust.text))
     })
 }
 
@@ -62,15 +62,23 @@ pub fn pass(words: &Words, report: &mut Report) -> Result<(), Difference> {
             yes: rust.yes,
             flag: rust.flag,
         };
-        (answer, rust.text)
+        (answer, bytes(rust.text))
     })
 }
 
-// The call gives what the Rust gives of the word.
-fn on_words<C: Call>(
+// A text's bytes.
+fn bytes(text: Cow<str>) -> Cow<[u8]> {
+    match text {
+        Cow::Borrowed(text) => Cow::from(text.as_bytes()),
+        Cow::Owned(text) => Cow::from(text.into_bytes()),
+    }
+}
+
+/// The call gives what the Rust gives of the word.
+pub fn on_words<C: Call>(
     words: &Words,
     report: &mut Report,
-    rust: impl Fn(&str) -> (C, Cow<str>) + Sync,
+    rust: impl Fn(&str) -> (C, Cow<[u8]>) + Sync,
 ) -> Result<(), Difference> {
     let rust = &rust;
     let source = |visit: &mut dyn FnMut(&str) -> _| words.for_stages(visit);
@@ -79,7 +87,7 @@ fn on_words<C: Call>(
         move |word: &str, report: &mut Report| {
             let (answer, text) = rust(word);
             desk.set(word.as_bytes());
-            desk.gives(answer, text.as_bytes(), report)?;
+            desk.gives(answer, &text, report)?;
             desk.done(report)
         }
     })

@@ -78,6 +78,8 @@ fn forms(place: &Place) -> Vec<String> {
 #[cfg(test)]
 mod tests {
     use super::*;
+    #[cfg(feature = "oracle")]
+    use std::collections::BTreeSet;
 
     #[test]
     fn chains_are_all_there() {
@@ -105,5 +107,23 @@ mod tests {
         for branch in BRANCHES {
             assert!(chains(branch).iter().any(taken), "{branch:?}");
         }
+    }
+
+    #[cfg(feature = "oracle")]
+    #[test]
+    fn chains_have_all_pieces_that_a_branch_can_keep() {
+        let mut kept = BTreeSet::new();
+        let mut joints = BTreeSet::new();
+        for chain in all() {
+            for front in ["", "a", "ab"] {
+                let list = oracle::pieces(&format!("{front}{chain}")).list;
+                joints.extend(list.iter().map(|p| format!("{} {:?}", p.name, p.joined)));
+                kept.insert(list.iter().map(|p| p.kind).collect::<Vec<_>>());
+            }
+        }
+        // Nothing, and what each branch can keep.
+        assert_eq!(kept.len(), 1 + 4 + 6 + 5 + 2 + 8 + 7);
+        // Six kinds stand alone, six join in two ways.
+        assert_eq!(joints.len(), 6 + 6 * 2);
     }
 }

@@ -46,20 +46,24 @@ put-byte-requires c κs =
     let sizes = fields-sizes _ _ (stem .before .before .before .before .pre .0) (stem .stem-nominal-verb-suffixes .ensures) in
     omega arith
 
+-- the place behind the stage, from before the pass's text, and the function's entry: a `let` would have `omega` read all that is known there
+abbrev stem : tie.After-put-pass-arg → tie.After-stem-nominal-verb-suffixes
+stem c = c .before .before .before .before .before .before .before .before .before .before .before .before .before .before .before .before .before
+
+abbrev start : tie.After-stem-nominal-verb-suffixes → tie.Start
+start c = c .before .before .before .before
+
 put-pass-requires : tie.Need-put-pass-requires
 unfolding chars lineRoom
 put-pass-requires c κs =
-    let stem = c .before .before .before .before .before .before .before .before .before .before .before .before .before .before .before .before .before in
-    let sizes = fields-sizes _ _ (stem .before .before .before .before .pre .0) (stem .stem-nominal-verb-suffixes .ensures) in
-    (stem .before .before .before .before .pre .0, (stem .before .more-than-one-syllable-word .ensures, (stem .stem-nominal-verb-suffixes .ensures, omega arith)))
+    let sizes = fields-sizes _ _ (start (stem c) .pre .0) (stem c .stem-nominal-verb-suffixes .ensures) in
+    (start (stem c) .pre .0, (stem c .before .more-than-one-syllable-word .ensures, (stem c .stem-nominal-verb-suffixes .ensures, omega (arith, start (stem c) .pre .1))))
 
 put-byte-requires-2 : tie.Need-put-byte-requires-2
 unfolding lineRoom
 put-byte-requires-2 c κs =
-    let sizes =
-    let stem = c .before .before .before .before .before .before .before .before .before .before .before .before .before .before .before .before .before .before .before .before .before in
-    fields-sizes _ _ (stem .before .before .before .before .pre .0) (stem .stem-nominal-verb-suffixes .ensures) in
-    omega arith
+    let sizes = fields-sizes _ _ (start (stem (c .before .before .before .before)) .pre .0) (stem (c .before .before .before .before) .stem-nominal-verb-suffixes .ensures) in
+    omega (arith, start (stem (c .before .before .before .before)) .pre .1)
 
 same-length : tie.Need-same-length
 same-length c = search needs

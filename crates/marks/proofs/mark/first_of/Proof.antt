@@ -9,13 +9,12 @@ use borrow.Author.Needs.{needs}
 use borrow.Author.Tests.{not-true, not-false}
 use Rattle.utf8.specs.Behind.{behind}
 use Rattle.letters.specs.declared.harmony.Told.{Told}
-use Rattle.marks.specs.declared.marked.Marked.the-variants.{To}
 use Rattle.letters.specs.Told.{Hears, toldAt}
 use Rattle.letters.specs.Numbered.{firstOf}
 use Rattle.marks.specs.Reach.{reach}
 use Rattle.letters.proofs.Laws.Told.{hears-told}
-use Rattle.letters.proofs.Laws.Ends.{markOf-unfit}
-use Rattle.marks.proofs.Laws.Marks.{markOf-not, markOf-took, markOf-discord, firstOf-next, firstOf-took, firstOf-end, mayEnd-sees, agrees-free, agrees-bound}
+use Rattle.letters.proofs.Laws.Ends.{traceOf-unfit}
+use Rattle.marks.proofs.Laws.Marks.{traceOf-not, traceOf-took, traceOf-discord, firstOf-next, firstOf-took, firstOf-end, mayEnd-sees, agrees-free, agrees-bound}
 use Rattle.marks.proofs.mark.first_of.Statement.{statement}
 use Rattle.marks.proofs.mark.first_of.Tie as tie
 
@@ -35,7 +34,7 @@ loop-again c =
     let l = t .before .loop in
     let s = t .before .before .before .before in
     let unfit = sym (mayEnd-sees _ (s .args .s) (s .pre .0) _ (c .before .may-end .ensures)) ∙ not-true _ (c .if1 .taken) in
-    (omega arith, l .inv .1, firstOf-next _ _ _ (l .i) (t .loop-test .taken) (markOf-unfit _ _ unfit) ∙ l .inv .2)
+    (omega arith, l .inv .1, firstOf-next _ _ _ (l .i) (t .loop-test .taken) (traceOf-unfit _ _ unfit) ∙ l .inv .2)
 
 mark-requires : tie.Need-mark-requires Inv-loop μ-loop
 mark-requires c κs = c .before .before .before .before .before .before .before .pre .0
@@ -45,7 +44,7 @@ loop-again-2 c =
     let m = c .before .before in
     let t = m .before .before .before .before in
     let l = t .before .loop in
-    let fails = markOf-not _ _ _ (m .mark .ensures) (not-true _ (c .if2 .taken)) in
+    let fails = traceOf-not _ _ _ (m .mark .ensures) (not-true _ (c .if2 .taken)) in
     (omega arith, l .inv .1, firstOf-next _ _ _ (l .i) (t .loop-test .taken) fails ∙ l .inv .2)
 
 returns : tie.Need-returns Inv-loop μ-loop
@@ -55,8 +54,7 @@ returns c =
     let t = m .before .before .before .before in
     let l = t .before .loop in
     let free = sym (c .before .before .is-harmonic .ensures) ∙ not-true _ (c .before .if3 .taken) in
-    ap To (c .moved-to .ensures)
-    ∙ firstOf-took _ _ _ (l .i) (t .loop-test .taken) (markOf-took _ _ _ (m .mark .ensures) (not-false _ (i .if2 .left)) (agrees-free _ free)) ∙ l .inv .2
+    firstOf-took _ _ _ (l .i) (t .loop-test .taken) (traceOf-took _ _ _ (m .mark .ensures) (not-false _ (i .if2 .left)) (agrees-free _ free) (c .moved-to .ensures)) ∙ l .inv .2
 
 hear-requires : tie.Need-hear-requires Inv-loop μ-loop
 hear-requires c κs =
@@ -73,8 +71,7 @@ returns-2 c =
     let l = t .before .loop in
     let bound = sym (h .before .before .is-harmonic .ensures) ∙ not-false _ (h .before .if3 .left) in
     let holds = sym (ap (λ (x : Told). x .holds) (h .hear .ensures)) ∙ c .before .if4 .taken in
-    ap To (c .moved-to2 .ensures)
-    ∙ firstOf-took _ _ _ (l .i) (t .loop-test .taken) (markOf-took _ _ _ (m .mark .ensures) (not-false _ (i .if2 .left)) (agrees-bound _ bound ∙ holds)) ∙ l .inv .2
+    firstOf-took _ _ _ (l .i) (t .loop-test .taken) (traceOf-took _ _ _ (m .mark .ensures) (not-false _ (i .if2 .left)) (agrees-bound _ bound ∙ holds) (c .moved-to2 .ensures)) ∙ l .inv .2
 
 loop-again-3 : tie.Need-loop-again-3 Inv-loop μ-loop
 unfolding toldAt
@@ -85,7 +82,7 @@ loop-again-3 c =
     let l = t .before .loop in
     let bound = sym (h .before .before .is-harmonic .ensures) ∙ not-false _ (h .before .if3 .left) in
     let discord = sym (ap (λ (x : Told). x .holds) (h .hear .ensures)) ∙ c .if4 .left in
-    let fails = markOf-discord _ _ _ (m .mark .ensures) (agrees-bound _ bound ∙ discord) in
+    let fails = traceOf-discord _ _ _ (m .mark .ensures) (agrees-bound _ bound ∙ discord) in
     (omega arith, subst (Hears _ _) (sym (h .hear .ensures)) (hears-told _ _), firstOf-next _ _ _ (l .i) (t .loop-test .taken) fails ∙ l .inv .2)
 
 returns-3 : tie.Need-returns-3 Inv-loop μ-loop

@@ -3,11 +3,10 @@
 use mathlib.Core.Path.{sym, ap, _∙_}
 use borrow.Author.Tests.{not-true, not-false}
 use Rattle.letters.specs.declared.harmony.Told.{Told}
-use Rattle.marks.specs.declared.marked.Marked.the-variants.{To}
 use Rattle.letters.specs.Told.{toldAt}
 use Rattle.marks.specs.Reach.{reach}
-use Rattle.letters.proofs.Laws.Ends.{markOf-unfit}
-use Rattle.marks.proofs.Laws.Marks.{markOf-not, markOf-took, markOf-discord, mayEnd-sees, agrees-free, agrees-bound}
+use Rattle.letters.proofs.Laws.Ends.{traceOf-unfit}
+use Rattle.marks.proofs.Laws.Marks.{traceOf-not, traceOf-took, traceOf-discord, mayEnd-sees, agrees-free, agrees-bound}
 use borrow.Author.Needs.{needs}
 use Rattle.marks.proofs.mark.one_of.Statement.{statement}
 use Rattle.marks.proofs.mark.one_of.Tie as tie
@@ -17,20 +16,20 @@ unfolding reach
 returns c =
     let s = c .before .before .before in
     let unfit = sym (mayEnd-sees _ (s .args .s) (s .pre .0) _ (c .before .may-end .ensures)) ∙ not-true _ (c .if1 .taken) in
-    sym (ap (reach _ _) (markOf-unfit _ _ unfit))
+    sym (ap (reach _ _) (traceOf-unfit _ _ unfit))
 
 returns-2 : tie.Need-returns-2
 unfolding reach
 returns-2 c =
     let m = c .before .before in
-    sym (ap (reach _ _) (markOf-not _ _ _ (m .mark .ensures) (not-true _ (c .if2 .taken))))
+    sym (ap (reach _ _) (traceOf-not _ _ _ (m .mark .ensures) (not-true _ (c .if2 .taken))))
 
 returns-3 : tie.Need-returns-3
 returns-3 c =
     let i = c .before .before .before in
     let m = i .before .before in
     let free = sym (c .before .before .is-harmonic .ensures) ∙ not-true _ (c .before .if3 .taken) in
-    ap To (c .moved-to .ensures) ∙ markOf-took _ _ _ (m .mark .ensures) (not-false _ (i .if2 .left)) (agrees-free _ free)
+    traceOf-took _ _ _ (m .mark .ensures) (not-false _ (i .if2 .left)) (agrees-free _ free) (c .moved-to .ensures)
 
 returns-4 : tie.Need-returns-4
 unfolding reach toldAt
@@ -39,7 +38,7 @@ returns-4 c =
     let m = h .before .before .before .before .before in
     let bound = sym (h .before .before .is-harmonic .ensures) ∙ not-false _ (h .before .if3 .left) in
     let discord = sym (ap (λ (x : Told). x .holds) (h .hear .ensures)) ∙ not-true _ (c .if4 .taken) in
-    sym (ap (reach _ _) (markOf-discord _ _ _ (m .mark .ensures) (agrees-bound _ bound ∙ discord)))
+    sym (ap (reach _ _) (traceOf-discord _ _ _ (m .mark .ensures) (agrees-bound _ bound ∙ discord)))
 
 returns-5 : tie.Need-returns-5
 unfolding toldAt
@@ -49,7 +48,7 @@ returns-5 c =
     let m = i .before .before in
     let bound = sym (h .before .before .is-harmonic .ensures) ∙ not-false _ (h .before .if3 .left) in
     let holds = sym (ap (λ (x : Told). x .holds) (h .hear .ensures)) ∙ not-false _ (c .before .if4 .left) in
-    ap To (c .moved-to2 .ensures) ∙ markOf-took _ _ _ (m .mark .ensures) (not-false _ (i .if2 .left)) (agrees-bound _ bound ∙ holds)
+    traceOf-took _ _ _ (m .mark .ensures) (not-false _ (i .if2 .left)) (agrees-bound _ bound ∙ holds) (c .moved-to2 .ensures)
 
 pub one-of-spec : {M : Type 1} → statement M
 one-of-spec =

@@ -1,12 +1,13 @@
--- `stages::stage::first_branch` meets its contract: the group of line 314, and all from where it reaches on deleted. Assumes nothing.
-use mathlib.Core.Path.{sym, ap, _∙_}
+-- `stages::stage::first_branch` meets its contract: the group of line 314, and all from where it leads on deleted. Assumes nothing.
+use mathlib.Core.Path.{sym, _∙_}
 use mathlib.Core.List.{[], _∷_}
 use borrow.Author.Tests.{not-true}
 use borrow.Author.Needs.{needs}
 use Rattle.turkish.specs.Simple.Stage.{branch1}
 use Rattle.letters.specs.Numbered.{numbered}
-use Rattle.marks.specs.Reach.{reach}
-use Rattle.stages.proofs.Laws.Branches.{someEnd-sees, group-four, cut-none, cut-fails, cut-reach}
+use Rattle.stages.specs.Trail.{noStop, noTrail}
+use Rattle.stages.proofs.Laws.Trails.{steps-group, reach-fails, cut-none, cut-step}
+use Rattle.stages.proofs.Laws.Branches.{someEnd-sees, group-four}
 use Rattle.stages.proofs.stage.first_branch.Statement.{statement}
 use Rattle.stages.proofs.stage.first_branch.Tie as tie
 
@@ -14,24 +15,25 @@ returns : tie.Need-returns
 unfolding branch1 numbered
 returns c =
     let s = c .before .before .before in
-    let none = someEnd-sees _ (s .args .s) (s .pre .0) (11 ∷ 9 ∷ 10 ∷ 12 ∷ []) (c .before .ends-first .ensures) (not-true _ (c .if1 .taken)) in
-    cut-none _ _ _ (sym (group-four _ 11 9 10 12) ∙ none)
+    let fails = someEnd-sees _ (s .args .s) (s .pre .0) (11 ∷ 9 ∷ 10 ∷ 12 ∷ []) (c .before .ends-first .ensures) (not-true _ (c .if1 .taken)) in
+    cut-none _ _ _ (sym (group-four _ 11 9 10 12) ∙ fails)
 
 first-of-requires : tie.Need-first-of-requires
 first-of-requires c κs = let s = c .before .before .before .before in (s .pre .0, s .pre .1)
 
 returns-2 : tie.Need-returns-2
 unfolding branch1 numbered
-returns-2 c = cut-fails _ _ _ (c .before .before .first-of .ensures ∙ ap (reach _ _) (group-four _ 11 9 10 12)) (c .enum-told .given .1)
+returns-2 c = cut-none _ _ _ (sym (group-four _ 11 9 10 12) ∙ reach-fails _ _ _ (c .before .before .first-of .ensures) (c .enum-told .given .1))
 
 returns-3 : tie.Need-returns-3
-unfolding branch1 numbered
+unfolding branch1 numbered noTrail noStop
 returns-3 c =
-    let b = c .before .before in
-    cut-reach _ _ _ (b .before .before .first-of .ensures ∙ ap (reach _ _) (group-four _ 11 9 10 12)) (b .c .given .1) (c .deleted .ensures)
+    let a = c .before .before .before in
+    let step = steps-group _ _ _ (group-four _ 11 9 10 12) (a .before .before .first-of .ensures) (a .c .given .1) in
+    cut-step _ _ step (c .before .deleted .ensures) (c .behind .ensures)
 
 pub first-branch-spec : {M : Type 1} → statement M
 first-branch-spec =
     tie.close
     (tie.spec (λ c κs. search needs) returns (λ c. search needs) first-of-requires (λ c. search needs) (λ c. search needs) returns-2
-    (λ c κs. search needs) returns-3)
+    (λ c κs. search needs) (λ c κs. search needs) returns-3)

@@ -1,13 +1,17 @@
--- `stages::stage::fourth_branch` meets its contract: what must follow nUz goes on from where that reaches. Assumes nothing.
-use mathlib.Core.Path.{ap, _∙_}
+-- `stages::stage::fourth_branch` meets its contract: what must follow nUz goes on from where that leads. In each answer a is the place
+-- behind nUz's record, m behind nUz, s behind what is seen there, and g behind the group. Assumes nothing.
+use mathlib.Core.Path.{sym, _∙_}
+use mathlib.Core.List.{[], _∷_}
 use borrow.Author.Needs.{needs}
-use Rattle.turkish.specs.Simple.Grammar.{run, mark, _or_}
-use Rattle.turkish.specs.Simple.Marks.{yDU, ysA}
+use Rattle.turkish.specs.Simple.Grammar.{mark, _or_}
+use Rattle.turkish.specs.Simple.Marks.{nUz, yDU, ysA}
+use Rattle.turkish.specs.Simple.Pieces.{trace}
 use Rattle.turkish.specs.Simple.Stage.{branch4}
-use Rattle.letters.specs.Numbered.{numbered}
-use Rattle.marks.specs.Reach.{reach}
+use Rattle.letters.specs.Numbered.{numbered, firstOf}
 use Rattle.letters.proofs.Laws.Told.{hears-unasked}
-use Rattle.stages.proofs.Laws.Branches.{open-reach, reach-seen, sees-made, after-fails, then-fails, then-cut, group-two}
+use Rattle.stages.specs.Trail.{noStop, noTrail}
+use Rattle.stages.proofs.Laws.Trails.{steps-mark, steps-group, reach-fails, cut-none, after-none, open-step, along-step, then-none, then-cut}
+use Rattle.stages.proofs.Laws.Branches.{reach-seen, sees-made, group-two}
 use Rattle.stages.proofs.stage.fourth_branch.Statement.{statement}
 use Rattle.stages.proofs.stage.fourth_branch.Tie as tie
 
@@ -15,43 +19,45 @@ one-of-requires : tie.Need-one-of-requires
 one-of-requires c κs = (c .before .pre .0, c .before .pre .1)
 
 returns : tie.Need-returns
-unfolding run branch4 numbered
-returns c = after-fails _ _ _ (c .before .before .one-of .ensures) _ (c .enum-told .given .1)
+unfolding trace branch4 numbered
+returns c = cut-none _ _ _ (after-none _ _ (reach-fails _ _ _ (c .before .before .one-of .ensures) (c .enum-told .given .1)))
 
 look-back-requires : tie.Need-look-back-requires
+unfolding numbered
 look-back-requires c κs =
-    let a = c .before .before .before in
-    open-reach _ _ _ (a .before .before .pre .0 .opens) (a .one-of .ensures) (c .before .c .given .1)
+    let a = c .before in
+    let m = a .before .before in
+    open-step _ _ (steps-mark _ _ nUz (m .one-of .ensures) (a .c .given .1)) (m .before .before .pre .0 .opens)
 
 first-of-requires : tie.Need-first-of-requires
 first-of-requires c κs =
-    let b = c .before in
-    let a = b .before .before .before .before in
-    let opens = open-reach _ _ _ (a .before .before .pre .0 .opens) (a .one-of .ensures) (b .before .before .c .given .1) in
-    (sees-made _ _ (b .look-back .ensures) opens, hears-unasked _ (b .look-back .result .c))
+    let s = c .before in
+    (sees-made _ _ (s .look-back .ensures) (look-back-requires (s .before) (s .look-back .lifetimes)), hears-unasked _ (s .look-back .result .c))
 
 returns-2 : tie.Need-returns-2
-unfolding run branch4 numbered
+unfolding trace branch4 numbered
 returns-2 c =
-    let b = c .before .before in
-    let s = b .before .before in
+    let g = c .before .before in
+    let s = g .before .before in
     let a = s .before .before in
-    then-fails _ _ _ (a .before .before .one-of .ensures) (a .c .given .1) (run (mark yDU or mark ysA))
-    (reach-seen _ _ (run (mark yDU or mark ysA)) (s .look-back .ensures) (b .first-of .ensures ∙ ap (reach _ _) (group-two _ 9 10))) (c .enum-told2 .given .1)
+    let step = steps-mark _ _ nUz (a .before .before .one-of .ensures) (a .c .given .1) in
+    let is = reach-seen _ _ (firstOf (9 ∷ 10 ∷ [])) (s .look-back .ensures) (g .first-of .ensures) in
+    cut-none _ _ _ (then-none _ _ step (trace (mark yDU or mark ysA)) (sym (group-two _ 9 10) ∙ reach-fails _ _ _ is (c .enum-told2 .given .1)))
 
 returns-3 : tie.Need-returns-3
-unfolding run branch4 numbered
+unfolding trace branch4 numbered noTrail noStop
 returns-3 c =
-    let d = c .before .before in
-    let b = d .before .before in
-    let s = b .before .before in
+    let d = c .before .before .before .before in
+    let g = d .before .before in
+    let s = g .before .before in
     let a = s .before .before in
-    then-cut _ _ _ (a .before .before .one-of .ensures) (a .c .given .1) (run (mark yDU or mark ysA))
-    (reach-seen _ _ (run (mark yDU or mark ysA)) (s .look-back .ensures) (b .first-of .ensures ∙ ap (reach _ _) (group-two _ 9 10))) (d .d .given .1)
-    (c .deleted .ensures)
+    let step = steps-mark _ _ nUz (a .before .before .one-of .ensures) (a .c .given .1) in
+    let is = reach-seen _ _ (firstOf (9 ∷ 10 ∷ [])) (s .look-back .ensures) (g .first-of .ensures) in
+    let next = steps-group _ _ _ (group-two _ 9 10) is (d .d .given .1) in
+    then-cut _ _ step (trace (mark yDU or mark ysA)) (along-step _ _ next (c .before .behind .ensures)) (c .before .before .deleted .ensures) (c .behind2 .ensures)
 
 pub fourth-branch-spec : {M : Type 1} → statement M
 fourth-branch-spec =
     tie.close
     (tie.spec one-of-requires (λ c. search needs) (λ c. search needs) returns look-back-requires (λ c. search needs) first-of-requires
-    (λ c. search needs) (λ c. search needs) returns-2 (λ c κs. search needs) returns-3)
+    (λ c. search needs) (λ c. search needs) returns-2 (λ c κs. search needs) (λ c κs. search needs) (λ c κs. search needs) returns-3)

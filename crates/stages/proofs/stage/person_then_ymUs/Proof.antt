@@ -1,14 +1,12 @@
--- `stages::stage::person_then_ymUs` meets its contract: ymUs_ goes on from where a person's ending, or nothing, reaches. Assumes nothing.
-use mathlib.Core.Path.{sym, ap, _∙_}
-use denote.Ref.{now}
-use lib.ListN.{drop}
-use Rattle.utf8.specs.Behind.{behind}
-use Rattle.turkish.specs.Simple.Grammar.{Out, after, markOf, run}
+-- `stages::stage::person_then_ymUs` meets its contract: ymUs_ goes on from where a person's ending, or nothing, leads. In each answer s is
+-- the function's entry, p the place behind that ending tried, and m behind ymUs_. Assumes nothing.
 use Rattle.turkish.specs.Simple.Marks.{ymUs}
+use Rattle.turkish.specs.Simple.Pieces.{traceOf, trace}
 use Rattle.letters.specs.Numbered.{numbered}
-use Rattle.marks.specs.Reach.{reach}
 use Rattle.letters.proofs.Laws.Told.{hears-unasked}
-use Rattle.stages.proofs.Laws.Branches.{open-tried, sees-made, reach-seen, tried-then, person-first}
+use Rattle.stages.specs.Trail.{noStop, noTrail}
+use Rattle.stages.proofs.Laws.Trails.{steps-mark, reach-fails, along-none, open-step, along-step, then-none, then-along}
+use Rattle.stages.proofs.Laws.Branches.{steps-person, sees-made, reach-seen}
 use borrow.Author.Needs.{needs}
 use Rattle.stages.proofs.stage.person_then_ymUs.Statement.{statement}
 use Rattle.stages.proofs.stage.person_then_ymUs.Tie as tie
@@ -17,22 +15,35 @@ try-of-requires : tie.Need-try-of-requires
 try-of-requires c κs = c .before .before .pre
 
 look-back-requires : tie.Need-look-back-requires
-look-back-requires c κs = open-tried _ _ _ (c .before .before .before .pre) (c .try-of .ensures)
+look-back-requires c κs =
+    let p = c .before in
+    let s = p .before .before .before in
+    open-step _ _ (steps-person _ _ (s .pre) (p .try-of .ensures)) (s .pre)
 
 one-of-requires : tie.Need-one-of-requires
 one-of-requires c κs = (sees-made _ _ (c .look-back .ensures) (look-back-requires (c .before) κs), hears-unasked _ (c .look-back .result .c))
 
 returns : tie.Need-returns
-unfolding run numbered
+unfolding trace numbered
 returns c =
-    let b = c .before .before in
-    let s = b .before .before .before in
-    let behind-c = behind (now (s .args .w)) (s .args .c) in
-    reach-seen _ _ (markOf ymUs) (c .before .look-back .ensures) (c .one-of .ensures)
-    ∙ tried-then _ _ _ (markOf ymUs) (s .pre) (b .try-of .ensures)
-    ∙ ap (λ (o : Out). reach (now (s .args .w)) (s .args .c) (after o (λ k. markOf ymUs (drop k behind-c)))) (sym (person-first behind-c))
+    let m = c .before .before in
+    let p = m .before .before .before in
+    let step = steps-person _ _ (p .before .before .before .pre) (p .try-of .ensures) in
+    let is = reach-seen _ _ (traceOf ymUs) (m .before .look-back .ensures) (m .one-of .ensures) in
+    along-none _ _ _ (then-none _ _ step (traceOf ymUs) (reach-fails _ _ _ is (c .enum-told .given .1)))
+
+returns-2 : tie.Need-returns-2
+unfolding trace numbered noTrail noStop
+returns-2 c =
+    let e = c .before .before .before in
+    let m = e .before .before in
+    let p = m .before .before .before in
+    let step = steps-person _ _ (p .before .before .before .pre) (p .try-of .ensures) in
+    let is = reach-seen _ _ (traceOf ymUs) (m .before .look-back .ensures) (m .one-of .ensures) in
+    then-along _ _ step (traceOf ymUs) (along-step _ _ (steps-mark _ _ ymUs is (e .e .given .1)) (c .before .behind .ensures)) (c .behind2 .ensures)
 
 pub person-then-ymUs-spec : {M : Type 1} → statement M
 person-then-ymUs-spec =
     tie.close
-    (tie.spec (λ c. search needs) try-of-requires look-back-requires one-of-requires returns)
+    (tie.spec (λ c. search needs) try-of-requires look-back-requires one-of-requires (λ c. search needs) (λ c. search needs) returns
+    (λ c κs. search needs) (λ c κs. search needs) returns-2)

@@ -2,7 +2,8 @@
 use denote.Ref.{now}
 use Rattle.letters.specs.Numbered.{firstOf}
 use Rattle.letters.proofs.Laws.Told.{hears-unasked}
-use Rattle.stages.proofs.Laws.Branches.{sees-made, reach-seen, tried-fails, tried-to}
+use Rattle.stages.proofs.Laws.Trails.{tried-fails, tried-to}
+use Rattle.stages.proofs.Laws.Branches.{sees-made, reach-seen}
 use borrow.Author.Needs.{needs}
 use Rattle.stages.proofs.stage.try_of.Statement.{statement}
 use Rattle.stages.proofs.stage.try_of.Tie as tie

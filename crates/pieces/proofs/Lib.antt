@@ -1,0 +1,2 @@
+-- What the calls on pieces rest on.
+pub mod Laws

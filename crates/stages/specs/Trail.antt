@@ -1,0 +1,45 @@
+-- The marks that a branch keeps, as the code gives them. Assumes nothing.
+use Prim.Native.Nat.{ℕ}
+use mathlib.Core.Bool.{cond}
+use mathlib.Core.List.{List, [], _∷_}
+use lib.Dec.{eqb}
+use Rattle.utf8.specs.declared.cursor.Cursor.{Cursor}
+use Rattle.utf8.specs.Behind.{backBy, deleted}
+use Rattle.turkish.specs.Simple.Pieces.{Taken, Trace, none, keeps, total}
+use Rattle.marks.specs.Reach.{leading}
+use Rattle.stages.specs.declared.trail.Stop.{Stop}
+use Rattle.stages.specs.declared.trail.Trail.{Trail}
+use Rattle.stages.specs.declared.trail.Tried.{Tried}
+use Rattle.stages.specs.declared.trail.Branch.{Branch}
+use Rattle.stages.specs.declared.trail.Branch.the-variants.{Fits, Unfit}
+
+-- no mark kept
+unfoldable pub noStop : Stop
+noStop = record { kind = 0; at = 0 }
+
+unfoldable pub noTrail : Trail
+noTrail = record { first = noStop; second = noStop; third = noStop }
+
+-- marks kept behind one more, which has a number and begins at a place; number 0 is none
+unfoldable pub behindTrail : ℕ → ℕ → Trail → Trail
+behindTrail k at t = cond (eqb k 0) t (record { first = record { kind = k; at = at }; second = t .first; third = t .second })
+
+-- the marks taken from a record on, one behind the other
+unfoldable pub trailOf : List ℕ → Cursor → List Taken → Trail
+trailOf w c [] = noTrail
+trailOf w c (t ∷ ts) = behindTrail (t .kind) (backBy w c (t .size) .cursor) (trailOf w (backBy w c (t .size)) ts)
+
+-- a branch's answer: the record moved back over all that it takes
+unfoldable pub along : List ℕ → Cursor → Trace → Branch
+along w c none = Unfit
+along w c (keeps ts f) = Fits (backBy w c (total ts)) (trailOf w c ts)
+
+-- the same with all from there on deleted
+unfoldable pub cutTo : List ℕ → Cursor → Trace → Branch
+cutTo w c none = Unfit
+cutTo w c (keeps ts f) = Fits (deleted (backBy w c (total ts))) (trailOf w c ts)
+
+-- a group tried: the record moved back where a mark fits, and the record itself where none does
+unfoldable pub triedTo : List ℕ → Cursor → Trace → Tried
+triedTo w c none = record { c = c; kind = 0 }
+triedTo w c (keeps ts f) = record { c = backBy w c (total ts); kind = leading ts }
