@@ -19,5 +19,6 @@ pub mod Accepted
 pub mod Vowels
 pub mod Syllables
 pub mod Words
+pub mod Folding
 pub mod Same
 pub mod Leaves

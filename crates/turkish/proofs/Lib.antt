@@ -10,6 +10,7 @@ pub mod Shapes
 pub mod PieceLines
 pub mod ReadBack
 pub mod Sizes
+pub mod Folds
 pub mod Tables
 pub mod PostludeRules
 pub mod Source

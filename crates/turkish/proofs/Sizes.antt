@@ -1,18 +1,16 @@
--- How many bytes the postlude, the pass and the fold give: never more than their outputs must hold. And the part that the stage
--- hands back: a front of the word, the bytes of the characters kept. Assumes nothing.
+-- How many bytes the postlude and the pass give: never more than their outputs must hold. And the part that the stage hands back: a
+-- front of the word, the bytes of the characters kept. Assumes nothing.
 use Prim.Native.Nat.{ℕ, zero, suc, _+_, _≤_}
-use Prim.Native.Char.{code}
 use mathlib.Core.Path.{_≡_, refl, sym, ap, _∙_}
-use mathlib.Core.Bool.{Bool, true, _&&_}
+use mathlib.Core.Bool.{Bool, true}
 use mathlib.Core.List.{List, [], _∷_}
 use native.Mathlib.Omega.{arith}
-use lib.ListN.{length, take, drop, length-append}
+use lib.ListN.{length, take, drop}
 use lib.Seq.{length-take-le}
-use lib.Dec.{eqb, leb}
-use borrow.Author.Tests.{eqb-true, leb-true}
+use lib.Dec.{leb}
+use borrow.Author.Tests.{leb-true}
 use Rattle.encoding.specs.Encoding.{encode}
 use Rattle.encoding.proofs.Laws.Booleans.{and-left, and-right, cond-test}
-use Rattle.encoding.proofs.Laws.Encoding.{encode-one}
 use Rattle.utf8.proofs.Laws.Characters.{back-le}
 use Rattle.utf8.proofs.TextCharacters.{take-back}
 use Rattle.turkish.specs.Letters.{starts}
@@ -20,19 +18,15 @@ use Rattle.turkish.specs.Vowels.{lastVowel}
 use Rattle.turkish.specs.Simple.Harmony.{moreThanOneSyllable}
 use Rattle.turkish.specs.Simple.Stage.{stage, kept, keptLength}
 use Rattle.turkish.specs.Simple.Postlude.{reserved, gained, appends, appendU, Hardening, hardenings, hardIn, hard, harden, postlude}
-use Rattle.turkish.specs.WordPass.{foldChar, fold, Passed, pass}
-use Rattle.turkish.specs.Calls.{chars, bytes, accepted, stageText, stagePart, postludeText, foldText, passText}
+use Rattle.turkish.specs.WordPass.{Passed, pass}
+use Rattle.turkish.specs.Calls.{chars, bytes, accepted, stageText, stagePart, postludeText, passText}
 use Rattle.turkish.proofs.Laws.Tests.{every}
 use Rattle.turkish.proofs.Laws.Accepted.{accepted-text, bytes-chars}
-use Rattle.turkish.proofs.Laws.Words.{bytes-cons}
+use Rattle.turkish.proofs.Laws.Words.{length-bytes-cons}
 use Rattle.turkish.proofs.Source.Calls.{suffixStage-text, postludeOf-text, simplePass, pass-simple}
 use Rattle.turkish.proofs.PostludeRules.{gained-elim, postlude-one}
 
 -- ---- characters ----
-
--- one more character takes its bytes more
-length-bytes-cons : (c : ℕ) (cs : List ℕ) → length (bytes (c ∷ cs)) ≡ length (bytes cs) + length (encode c)
-length-bytes-cons c cs = rw (bytes-cons, length-append)
 
 -- some characters fewer take no more bytes
 bytes-drop : (n : ℕ) (cs : List ℕ) → length (bytes (drop n cs)) ≤ length (bytes cs)
@@ -61,28 +55,6 @@ hardIn-size (h ∷ hs) c e =
 hard-size : (c : ℕ) → length (encode (hard c)) ≤ length (encode c) + 2
 unfolding hard
 hard-size c = hardIn-size hardenings c (unfold hardenings every becomesTwo encode in refl)
-
--- a folded character takes as many bytes
-foldChar-size : (c : ℕ) → length (encode (foldChar c)) ≡ length (encode c)
-unfolding foldChar encode
-foldChar-size c =
-    cond-test P (leb (code "A") c && leb c (code "Z")) ascii
-    (cond-test P (eqb c (code "Ç")) (equal (code "Ç"))
-    (cond-test P (eqb c (code "Ğ")) (equal (code "Ğ"))
-    (cond-test P (eqb c (code "Ö")) (equal (code "Ö"))
-    (cond-test P (eqb c (code "Ş")) (equal (code "Ş"))
-    (cond-test P (eqb c (code "Ü")) (equal (code "Ü")) refl)))))
-  where
-    P : ℕ → Type 0
-    P d = length (encode d) ≡ length (encode c)
-
-    ascii : leb (code "A") c && leb c (code "Z") ≡ true → P (c + 0x20)
-    ascii e =
-        let h : c ≤ 0x5A = leb-true c 0x5A (and-right (leb (code "A") c) (leb c (code "Z")) e) in
-        ap length (encode-one (c + 0x20) (omega arith)) ∙ sym (ap length (encode-one c (omega arith)))
-
-    equal : (u : ℕ) → eqb c u ≡ true → length (encode u) ≡ length (encode c)
-    equal u e = ap (λ (d : ℕ). length (encode d)) (sym (eqb-true c u e))
 
 -- ---- texts ----
 
@@ -121,12 +93,6 @@ pass-size cs =
     (λ e. cond-test (TwoMore cs) (stage cs .flag) (λ e. omega (arith, postlude-size (kept cs))) (omega arith))
     (omega arith))
 
--- the fold adds none
-fold-size : (cs : List ℕ) → length (bytes (fold cs)) ≡ length (bytes cs)
-unfolding fold
-fold-size [] = refl
-fold-size (c ∷ cs) = omega (arith, length-bytes-cons c cs, length-bytes-cons (foldChar c) (fold cs), foldChar-size c, fold-size cs)
-
 -- ---- words ----
 
 -- the postlude's output of n + 2 bytes is long enough
@@ -138,11 +104,6 @@ postludeText-size w e = rw (postludeOf-text (chars w)) (rw (bytes-chars w e) at 
 pub passText-size : (w : List ℕ) → accepted w ≡ true → length (passText w) ≤ length w + 2
 unfolding passText
 passText-size w e = rw (bytes-chars w e) at (pass-size (chars w))
-
--- and the fold's of n bytes, which it fills
-pub foldText-size : (w : List ℕ) → accepted w ≡ true → length (foldText w) ≡ length w
-unfolding foldText
-foldText-size w e = rw (bytes-chars w e) at (fold-size (chars w))
 
 -- the bytes of the characters kept are a front of the word
 pub kept-bytes : (w : List ℕ) → accepted w ≡ true → take (keptLength w) w ≡ bytes (kept (chars w))

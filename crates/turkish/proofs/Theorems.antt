@@ -49,7 +49,8 @@ use Rattle.turkish.proofs.Laws.Accepted.{accepted-iff}
 use Rattle.turkish.proofs.Fronts.{pair-fares-alike}
 use Rattle.turkish.proofs.Nothing.{left-empty}
 use Rattle.turkish.proofs.Laws.Syllables.{moreThanOneSyllable-no}
-use Rattle.turkish.proofs.Sizes.{postludeText-size, passText-size, foldText-size, stageText-length, stagePart-front}
+use Rattle.turkish.proofs.Sizes.{postludeText-size, passText-size, stageText-length, stagePart-front}
+use Rattle.turkish.proofs.Folds.{foldText-size}
 use Rattle.turkish.proofs.Tables.{one-key, key-letters, key-start}
 use Rattle.turkish.proofs.PostludeRules.{postlude-one}
 use Rattle.turkish.proofs.PieceTheorems.{at-most-three-pieces, kinds-1-to-12, end-to-end, together-removed, covered-once, pieces-within, joined-told, buffer-fits, buffer-bytes, text-fits}

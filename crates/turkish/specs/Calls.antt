@@ -14,7 +14,8 @@ use Rattle.turkish.specs.declared.answer.PostludeAnswer.{PostludeAnswer}
 use Rattle.turkish.specs.declared.answer.FoldAnswer.{FoldAnswer}
 use Rattle.turkish.specs.declared.answer.PassAnswer.{PassAnswer}
 use Rattle.turkish.specs.Answers.{syllableCheck, suffixStage, postludeOf}
-use Rattle.turkish.specs.WordPass.{fold, pass}
+use Rattle.turkish.specs.Fold.{fold}
+use Rattle.turkish.specs.WordPass.{pass}
 
 -- ---- a word as characters ----
 

@@ -7,6 +7,7 @@ pub mod Source
 pub mod Answers
 pub mod Pieces
 pub mod WordPass
+pub mod Fold
 pub mod Calls
 pub mod PieceCalls
 pub mod Vowels

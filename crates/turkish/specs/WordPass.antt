@@ -1,24 +1,8 @@
--- The two additions to turkish.sbl (document 01, "Fold" and "Word pass"). Assumes nothing.
-use Prim.Native.Nat.{ℕ, _+_}
-use Prim.Native.Char.{code}
-use mathlib.Core.Bool.{Bool, true, false, cond, _&&_}
-use mathlib.Core.List.{List, map}
-use lib.Dec.{eqb, leb}
+-- The word pass (document 01, "Word pass"), an addition to turkish.sbl. Assumes nothing.
+use Prim.Native.Nat.{ℕ}
+use mathlib.Core.Bool.{Bool, true, false, cond}
+use mathlib.Core.List.{List}
 use Rattle.turkish.specs.Answers.{syllableCheck, Stemmed, suffixStage, postludeOf}
-
--- one character folded: A to Z, and Ç Ğ Ö Ş Ü; every other one stays
-unfoldable pub foldChar : ℕ → ℕ
-foldChar c =
-    cond (leb (code "A") c && leb c (code "Z")) (c + 0x20)
-    (cond (eqb c (code "Ç")) (code "ç")
-    (cond (eqb c (code "Ğ")) (code "ğ")
-    (cond (eqb c (code "Ö")) (code "ö")
-    (cond (eqb c (code "Ş")) (code "ş")
-    (cond (eqb c (code "Ü")) (code "ü") c)))))
-
--- all of a text's
-unfoldable pub fold : List ℕ → List ℕ
-fold cs = map foldChar cs
 
 -- the pass: its text, the syllable answer, the stage's answer and the flag
 pub record Passed : Type 0 where

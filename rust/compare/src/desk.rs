@@ -40,7 +40,7 @@ impl Desk {
             _ => (C::refused(number), &b""[..]),
         };
         let expected = Told::new(answer, Some(C::in_order(text)));
-        let Some(least) = C::NEED.least(word.len()) else {
+        let Some(least) = C::NEED.least(word) else {
             return self.compare(0, &expected, report);
         };
         self.compare(least, &expected, report)?;
@@ -81,7 +81,7 @@ impl Desk {
     }
 
     fn name<C: Call>(&self, room: usize) -> Name {
-        let least = C::NEED.least(self.lent.word().len());
+        let least = C::NEED.least(self.lent.word());
         Name(C::NAME, least.map(|_| room))
     }
 

@@ -15,11 +15,11 @@ pub enum Need {
 }
 
 impl Need {
-    /// The least output for a word of `n` bytes; none where the call takes no output.
-    pub fn least(self, n: usize) -> Option<usize> {
+    /// The least output for a word; none where the call takes no output.
+    pub fn least(self, word: &[u8]) -> Option<usize> {
         match self {
             Need::Nothing => None,
-            Need::MoreThanWord(more) => Some(n + more),
+            Need::MoreThanWord(more) => Some(word.len() + more),
             Need::Buffer(size) => Some(size),
         }
     }
@@ -40,7 +40,7 @@ pub fn number(word: &[u8], need: Need, room: usize) -> u32 {
         1
     } else if from_utf8(word).is_err() {
         2
-    } else if need.least(word.len()).is_some_and(|least| room < least) {
+    } else if need.least(word).is_some_and(|least| room < least) {
         need.number()
     } else {
         0

@@ -3,7 +3,7 @@
 use Prim.Native.Nat.{ℕ, zero, suc, _+_, _/_, _%_, _≤_, _<_}
 use mathlib.Core.Path.{_≡_, refl, sym, ap, _∙_}
 use mathlib.Core.Bool.{_&&_, false≢true}
-use mathlib.Core.List.{List, [], _∷_, _++_, map, reverse, append-nil, reverse-cons, reverse-reverse, map-append}
+use mathlib.Core.List.{List, [], _∷_, _++_, map, List·Memᴰ·not-nil, reverse, append-nil, reverse-cons, reverse-reverse, map-append}
 use native.Mathlib.Omega.{arith}
 use lib.ListN.{length, getD}
 use lib.Dec.{eqb, leb}
@@ -13,8 +13,9 @@ use Rattle.encoding.specs.Text.{TextOf}
 use Rattle.encoding.proofs.Laws.Booleans.{and-left, and-right, cond-cases}
 use Rattle.encoding.proofs.Laws.Encoding.{encode-elim, encode-one}
 use Rattle.utf8.proofs.TextCharacters.{before-text}
-use Rattle.turkish.specs.WordPass.{foldChar, fold}
+use Rattle.turkish.specs.Fold.{capitals, foldBy, foldChar, fold}
 use Rattle.turkish.specs.Calls.{chars, bytes, foldText}
+use Rattle.turkish.proofs.Laws.Folding.{foldBy-elim}
 use Rattle.folding.specs.FoldBytes.{foldByte, foldBytes}
 use Rattle.folding.proofs.Laws.FoldByte.{foldByte-capital, foldByte-stays}
 
@@ -77,15 +78,15 @@ foldChar-elim : (P : ℕ → Type 0) (c : ℕ)
     → (c ≡ 0xDC → P 0xFC)
     → (Left c → P c)
     → P (foldChar c)
-unfolding foldChar
+unfolding foldChar foldBy capitals
 foldChar-elim P c capital ç ğ ö ş ü left =
-    cond-cases P (leb 0x41 c && leb c 0x5A) (λ e. capital (leb-true 0x41 c (and-left (leb 0x41 c) (leb c 0x5A) e)) (leb-true c 0x5A (and-right (leb 0x41 c) (leb c 0x5A) e))) λ n.
     cond-cases P (eqb c 0xC7) (λ e. ç (eqb-true c 0xC7 e)) λ n₁.
     cond-cases P (eqb c 0x11E) (λ e. ğ (eqb-true c 0x11E e)) λ n₂.
     cond-cases P (eqb c 0xD6) (λ e. ö (eqb-true c 0xD6 e)) λ n₃.
     cond-cases P (eqb c 0x15E) (λ e. ş (eqb-true c 0x15E e)) λ n₄.
     cond-cases P (eqb c 0xDC) (λ e. ü (eqb-true c 0xDC e)) λ n₅.
-    left (λ h k. false≢true (sym n ∙ rw (le-leb 0x41 c h, le-leb c 0x5A k)), eqb-false c 0xC7 n₁, eqb-false c 0x11E n₂, eqb-false c 0xD6 n₃, eqb-false c 0x15E n₄, eqb-false c 0xDC n₅)
+    foldBy-elim P [] c (λ l m e. absurd (List·Memᴰ·not-nil m)) (λ o. capital)
+    (λ o n. left (n, eqb-false c 0xC7 n₁, eqb-false c 0x11E n₂, eqb-false c 0xD6 n₃, eqb-false c 0x15E n₄, eqb-false c 0xDC n₅))
 
 -- the second of two bytes of such a character stays
 second-stays : (c : ℕ) → Left c → foldByte (0xC0 + c / 0x40) (0x80 + c % 0x40) ≡ 0x80 + c % 0x40

@@ -7,7 +7,7 @@ use lib.ListN.{length}
 use borrow.Author.Tests.{ne-eqb}
 use Rattle.turkish.specs.Calls.{written, refusalInto, foldRefusal, foldCall, foldOut}
 use Rattle.turkish.proofs.Laws.Accepted.{accepted-text}
-use Rattle.turkish.proofs.Sizes.{foldText-size}
+use Rattle.turkish.proofs.Folds.{foldText-size}
 use Rattle.folding.specs.FoldBytes.{foldBytes}
 use Rattle.words.proofs.Laws.Refusals.{into-accepted}
 use Rattle.folding.proofs.Laws.FoldBytes.{foldBytes-text}

@@ -1,11 +1,11 @@
 -- A text as characters: the bytes of characters told nearest first, and its end and its front, which are its characters' two parts
 -- encoded. Assumes nothing.
-use Prim.Native.Nat.{ℕ, _≤_}
+use Prim.Native.Nat.{ℕ, _+_, _≤_}
 use mathlib.Core.Path.{_≡_, sym, _∙_}
 use mathlib.Core.Bool.{true, _&&_}
 use mathlib.Core.List.{List, [], _∷_, _++_, reverse, append-nil, reverse-append, reverse-reverse, append-cancel-left}
 use native.Mathlib.Omega.{arith}
-use lib.ListN.{length, take, drop, take-append-drop, length-take}
+use lib.ListN.{length, take, drop, take-append-drop, length-append, length-take}
 use borrow.Author.Tests.{leb-true}
 use Rattle.encoding.specs.Scalar.{scalars}
 use Rattle.encoding.specs.Encoding.{encode, encodeAll}
@@ -25,6 +25,10 @@ bytes-append e f = rw (reverse-append, encodeAll-append)
 pub bytes-cons : (c : ℕ) (cs : List ℕ) → bytes (c ∷ cs) ≡ bytes cs ++ encode c
 unfolding bytes encodeAll
 bytes-cons c cs = rw append-nil at (bytes-append (c ∷ []) cs)
+
+-- and take its bytes more
+pub length-bytes-cons : (c : ℕ) (cs : List ℕ) → length (bytes (c ∷ cs)) ≡ length (bytes cs) + length (encode c)
+length-bytes-cons c cs = rw (bytes-cons, length-append)
 
 -- scalar values encoded have themselves for characters
 chars-bytes : (cs : List ℕ) → scalars (reverse cs) ≡ true → chars (bytes cs) ≡ cs
