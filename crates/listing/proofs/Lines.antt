@@ -9,6 +9,7 @@ use borrow.Author.Tests.{eqb-true, eqb-false, eq-eqb, ne-eqb, le-ltb}
 use Rattle.encoding.specs.Validity.{isText}
 use Rattle.turkish.specs.Letters.{text, tab, lf, any, has}
 use Rattle.turkish.specs.Calls.{limit, refusal, accepted}
+use Rattle.turkish.proofs.Laws.Tests.{has-none}
 use Rattle.lines.specs.Line.{lineRefusal, fields, refusedLine, listLine}
 use Rattle.listing.specs.Listing.{unclosed, linesFrom, listAll, listing}
 use Rattle.listing.proofs.Laws.Held.{listLine-long}
@@ -38,26 +39,21 @@ module _ (w : List ℕ) where
 
 -- ---- the lines of an input ----
 
--- neither of two is yes where not one of them is
-neither : (s t : Bool) → (s || t) ≡ false → (s ≡ false) × (t ≡ false)
-neither true t e = absurd (false≢true (sym e))
-neither false t e = (refl, e)
-
 -- what ends in a line feed and has no other is one line
 linesFrom-line : (line w rest : List ℕ) → has w lf ≡ false → linesFrom line (w ++ (lf ∷ rest)) ≡ (line ++ w) ∷ linesFrom [] rest
 unfolding linesFrom has any
 linesFrom-line line [] rest n = rw (eq-eqb lf lf refl, append-nil line)
 linesFrom-line line (b ∷ w) rest n =
-    let d = neither (eqb lf b) (any (eqb lf) w) n in
-    rw (ne-eqb b lf (λ e. eqb-false lf b (d .0) (sym e)), linesFrom-line (line ++ (b ∷ [])) w rest (d .1), append-assoc)
+    let d = has-none lf b w n in
+    rw (ne-eqb b lf (d .0), linesFrom-line (line ++ (b ∷ [])) w rest (d .1), append-assoc)
 
 -- what has none is a last line that is not closed
 linesFrom-last : (line w : List ℕ) → has w lf ≡ false → linesFrom line w ≡ unclosed (line ++ w)
 unfolding linesFrom has any
 linesFrom-last line [] n = rw (append-nil line)
 linesFrom-last line (b ∷ w) n =
-    let d = neither (eqb lf b) (any (eqb lf) w) n in
-    rw (ne-eqb b lf (λ e. eqb-false lf b (d .0) (sym e)), linesFrom-last (line ++ (b ∷ [])) w (d .1), append-assoc)
+    let d = has-none lf b w n in
+    rw (ne-eqb b lf (d .0), linesFrom-last (line ++ (b ∷ [])) w (d .1), append-assoc)
 
 -- so a word ended by a line feed gives its line, and then comes the listing of what follows
 pub listing-line : (w rest : List ℕ) → has w lf ≡ false → listing (w ++ (lf ∷ rest)) ≡ listLine w ++ listing rest

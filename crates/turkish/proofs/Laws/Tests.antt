@@ -2,12 +2,12 @@
 -- Assumes nothing.
 use Prim.Native.Nat.{ℕ, zero, suc}
 use mathlib.Core.Path.{_≡_, refl, sym, ap, _∙_}
-use mathlib.Core.Bool.{Bool, true, false, _&&_}
+use mathlib.Core.Bool.{Bool, true, false, _&&_, _||_, false≢true}
 use mathlib.Core.List.{List, [], _∷_, List·Memᴰ, List·Memᴰ·head, List·Memᴰ·tail}
 use lib.ListN.{getD}
 use lib.Dec.{eqb}
 use borrow.Author.Tests.{eqb-true, eqb-false, eq-eqb, ne-eqb}
-use Rattle.turkish.specs.Letters.{any}
+use Rattle.turkish.specs.Letters.{any, has}
 use Rattle.encoding.proofs.Laws.Booleans.{and-left, and-right}
 
 -- it is no matter which of two numbers is held against the other
@@ -54,3 +54,12 @@ module _ (f : ℕ → Bool) where
   pub any-none : {l : List ℕ} → l ≡ [] → false ≡ any f l
   unfolding any
   any-none e = rw e
+
+-- where none is x, the first one is not, and none of the others is
+pub has-none : (x c : ℕ) (cs : List ℕ) → has (c ∷ cs) x ≡ false → (c ≡ x → ⊥) × (has cs x ≡ false)
+unfolding has any
+has-none x c cs e = go (eqb x c) refl e
+  where
+    go : (t : Bool) → eqb x c ≡ t → (t || any (eqb x) cs) ≡ false → (c ≡ x → ⊥) × (any (eqb x) cs ≡ false)
+    go true p e = absurd (false≢true (sym e))
+    go false p e = (λ q. eqb-false x c p (sym q), e)
