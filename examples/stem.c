@@ -1,4 +1,4 @@
-/* Prints the stems of a few Turkish words, three of them in steps, the stem of a heading, the pieces
+/* Prints the stems of a few Turkish words, three of them in steps, the stems of headings, the pieces
    of removed endings, and three refusals. Given words as arguments, it prints the pieces of these,
    a line for each word, and nothing else.
    Build: cc -std=c11 -I include examples/stem.c target/staticlib/libfannavy.a -o stem */
@@ -86,18 +86,18 @@ static void print_steps(const char *word) {
     printf("mended '%.*s'\n", (int)postlude.length, (const char *)out);
 }
 
-/* A heading is in capitals and is folded first. */
+/* A heading is in capitals and is folded first. The folded text may be longer than the heading. */
 static void print_heading(const char *heading) {
     char small[FANNAVY_FOLD_ROOM(FANNAVY_LIMIT) + 1];
     FannavyFold fold =
-        fannavy_fold(bytes(heading), strlen(heading), (uint8_t *)small, FANNAVY_LIMIT);
+        fannavy_fold(bytes(heading), strlen(heading), (uint8_t *)small, sizeof small - 1);
 
     if (refused(fold.refusal)) {
         return;
     }
     small[fold.length] = '\0';
     printf("'%s': ", heading);
-    print_stem(small, FANNAVY_PASS_ROOM(fold.length));
+    print_stem(small, FANNAVY_PASS_ROOM(FANNAVY_LIMIT));
 }
 
 /* The kinds' names by their numbers. */
@@ -171,6 +171,8 @@ static void print_samples(void) {
     print_steps("kitablar");
     print_steps("lar");
     print_heading("GÖZLÜKÇÜLER");
+    print_heading("IŞIKLAR");
+    print_heading("İZLERDİR");
     print_pieces("evmişlerdir");
     print_pieces("aymışsınızcasına");
     print_pieces("saatler");

@@ -32,9 +32,14 @@ extern "C" {
 /* The longest word, in bytes: one byte more is refused. */
 #define FANNAVY_LIMIT 1024
 
-/* The least output for a word of n bytes: of fannavy_postlude and fannavy_pass; of fannavy_fold. */
+/* The least output for a word of n bytes, of fannavy_postlude and fannavy_pass. */
 #define FANNAVY_PASS_ROOM(n) ((size_t)(n) + 2)
-#define FANNAVY_FOLD_ROOM(n) ((size_t)(n))
+
+/*
+ * An output that always suffices for the fold of a word of n bytes. fannavy_fold itself asks only for
+ * as many bytes as the folded text has.
+ */
+#define FANNAVY_FOLD_ROOM(n) (2 * (size_t)(n))
 
 /* The least output whatever the word: of fannavy_pieces; of fannavy_pieces_text. */
 #define FANNAVY_PIECES_ROOM 9
@@ -110,10 +115,16 @@ typedef struct {
 } FannavyFold;
 
 /*
- * Writes the word in small letters to out[0] .. out[length - 1], where length is n: A to Z become a
- * to z (I becomes i), and Ç Ğ Ö Ş Ü become ç ğ ö ş ü. Every other character is copied, İ too.
+ * Writes the word in small letters to out[0] .. out[length - 1]: I becomes ı and İ becomes i, the
+ * other letters of A to Z become a to z, and Ç Ğ Ö Ş Ü become ç ğ ö ş ü. Every other character is
+ * copied, a dot above (U+0307) too. Folding the text again leaves it as it is.
  *
- * `room` is the output's size, FANNAVY_FOLD_ROOM(n) or more. Refuses by the numbers 1, 2 and 3.
+ *   length  how many bytes the folded text has, from half to twice n: ı has a byte more than I, and
+ *           i one less than İ. It may be over FANNAVY_LIMIT
+ *
+ * `room` is the output's size. The call is refused by the number 3 exactly where the folded text is
+ * longer, so FANNAVY_FOLD_ROOM(n) is never too short; with less the text may have to be measured
+ * first, which takes longer. Refuses by the numbers 1, 2 and 3.
  */
 FannavyFold fannavy_fold(const uint8_t *w, size_t n, uint8_t *out, size_t room);
 

@@ -54,7 +54,7 @@ pub extern "C" fn fannavy_postlude(w: &[u8], out: &mut [u8]) -> PostludeAnswer
     postlude::postlude_word(w, out)
 }
 
-// The word folded, to an output of n bytes or more.
+// The word folded, to an output as long as the folded text or longer; 2n bytes always are.
 #[no_mangle]
 pub extern "C" fn fannavy_fold(w: &[u8], out: &mut [u8]) -> FoldAnswer
     ensures { λ r. ⌜ r ≡ foldCall (now (w .entry)) (length (now (out .entry))) ⌝ }

@@ -1,80 +1,90 @@
-// The fold of a word of bytes, written to a lent output of n bytes or more. Every folded character has as many bytes as before, so
-// each byte is folded by itself, with the byte before it.
+// The fold of a word of bytes (document 01, "Fold"; document 02, request 2), written to a lent output that is as long as the folded
+// text or longer. ı has a byte more than I, and i one less than İ, so where the output might be too short the text is measured first.
+use crate::plain;
+use crate::walk;
 use turkish::answer::FoldAnswer;
 use words::refusal;
 ghost use mathlib.Core.Path.{_≡_};
-ghost use Prim.Native.Nat.{_≤_};
+ghost use mathlib.Core.Bool.{true};
+ghost use lib.Dec.{leb};
 ghost use lib.ListN.{length};
-ghost use Rattle.turkish.specs.Calls.{written, foldCall, foldOut};
-ghost use Rattle.folding.specs.FoldBytes.{foldByte, foldBytes};
+ghost use Rattle.turkish.specs.Calls.{accepted, foldText, foldCall, foldOut};
+ghost use Rattle.folding.specs.FoldBytes.{plain, longPlain};
 
-// A byte folded, after the byte `before`: A to Z, and the second bytes of Ç Ö Ü, Ğ and Ş.
-fn fold_byte(before: u8, b: u8) -> u8
-    ensures { λ r. ⌜ r ≡ foldByte before b ⌝ }
+// From this length on a word is tried for being plain; in a shorter one the test costs more than it spares.
+const LONG: usize = 16;
+
+// Whether the word is long enough for the test, and plain.
+fn is_long_plain(w: &[u8]) -> bool
+    ensures { λ r. ⌜ r ≡ longPlain (now (w .entry)) ⌝ }
 {
-    if b < 0x41 {
-        return b;
+    if w.len() < LONG {
+        return false;
     }
-    if b <= 0x5A {
-        return b + 0x20;
-    }
-    if before == 0xC3 {
-        if b == 0x87 {
-            return 0xA7;
-        }
-        if b == 0x96 {
-            return 0xB6;
-        }
-        if b == 0x9C {
-            return 0xBC;
-        }
-        return b;
-    }
-    if before == 0xC4 {
-        if b == 0x9E {
-            return 0x9F;
-        }
-        return b;
-    }
-    if before == 0xC5 {
-        if b == 0x9E {
-            return 0x9F;
-        }
-        return b;
-    }
-    b
+    plain::is_plain(w)
 }
 
-// Writes the folded bytes of w.
-fn write_folded(w: &[u8], out: &mut [u8])
-    requires { ⌜ length (now w) ≤ length (now out) ⌝ }
-    ensures { λ _. ⌜ now (out .exit) ≡ written (foldBytes 0 (now (w .entry))) (now (out .entry)) ⌝ }
+// Whether the folded word fits into `room` bytes. Twice its own length always does.
+fn fits(w: &[u8], room: usize) -> bool
+    requires { ⌜ accepted (now w) ≡ true ⌝ }
+    ensures { λ r. ⌜ r ≡ leb (length (foldText (now (w .entry)))) room ⌝ }
 {
-    let mut before = 0;
-    let mut i = 0;
-    while i < w.len() {
-        let b = w[i];
-        out[i] = fold_byte(before, b);
-        before = b;
-        i += 1;
+    if 2 * w.len() <= room {
+        return true;
+    }
+    walk::folded_length(w) <= room
+}
+
+// The fold of a plain word, which is as long as the word.
+fn fold_plain(w: &[u8], out: &mut [u8]) -> FoldAnswer
+    requires { ⌜ accepted (now w) ≡ true ⌝ }
+    requires { ⌜ plain (now w) ≡ true ⌝ }
+    ensures { λ r. ⌜ r ≡ foldCall (now (w .entry)) (length (now (out .entry))) ⌝ }
+    ensures { λ _. ⌜ now (out .exit) ≡ foldOut (now (w .entry)) (now (out .entry)) ⌝ }
+{
+    if out.len() < w.len() {
+        return FoldAnswer {
+            refusal: refusal::TOO_SHORT,
+            length: 0,
+        };
+    }
+    plain::write_plain(w, out);
+    FoldAnswer {
+        refusal: 0,
+        length: w.len(),
     }
 }
 
-// The word with A to Z and Ç Ğ Ö Ş Ü in their small letters.
+// The fold of any accepted word.
+fn fold_steps(w: &[u8], out: &mut [u8]) -> FoldAnswer
+    requires { ⌜ accepted (now w) ≡ true ⌝ }
+    ensures { λ r. ⌜ r ≡ foldCall (now (w .entry)) (length (now (out .entry))) ⌝ }
+    ensures { λ _. ⌜ now (out .exit) ≡ foldOut (now (w .entry)) (now (out .entry)) ⌝ }
+{
+    if !fits(w, out.len()) {
+        return FoldAnswer {
+            refusal: refusal::TOO_SHORT,
+            length: 0,
+        };
+    }
+    let length = walk::write_steps(w, out);
+    FoldAnswer { refusal: 0, length }
+}
+
+// The word with A to Z and Ç Ğ Ö Ş Ü in their small letters, where I becomes ı and İ becomes i.
 pub fn fold_word(w: &[u8], out: &mut [u8]) -> FoldAnswer
     ensures { λ r. ⌜ r ≡ foldCall (now (w .entry)) (length (now (out .entry))) ⌝ }
     ensures { λ _. ⌜ now (out .exit) ≡ foldOut (now (w .entry)) (now (out .entry)) ⌝ }
 {
-    let n = refusal::refusal_into(w, w.len(), out.len());
+    let n = refusal::refusal_of(w);
     if n != 0 {
         return FoldAnswer {
             refusal: n,
             length: 0,
         };
     }
-    write_folded(w, out);
-    FoldAnswer {
-        refusal: 0,
-        length: w.len(),
+    if is_long_plain(w) {
+        return fold_plain(w, out);
     }
+    fold_steps(w, out)
 }

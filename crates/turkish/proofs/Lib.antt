@@ -11,6 +11,7 @@ pub mod PieceLines
 pub mod ReadBack
 pub mod Sizes
 pub mod Folds
+pub mod FoldWords
 pub mod Tables
 pub mod PostludeRules
 pub mod Source

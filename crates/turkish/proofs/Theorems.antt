@@ -3,18 +3,19 @@
 -- What the calls give is what turkish.sbl's commands answer (specs: Snowball, Source, Answers, Pieces, Calls, PieceCalls); the code's own
 -- contracts rest on simpler forms (Simple: Harmony, Grammar, Marks, Stage, Pieces, Postlude), and that these are the same is proved here.
 -- Assumes nothing.
-use Prim.Native.Nat.{ℕ, _+_, _≤_, _<_}
+use Prim.Native.Nat.{ℕ, _+_, _*_, _≤_, _<_}
+use Prim.Native.Char.{code}
 use Prim.Native.String.{String}
-use mathlib.Core.Path.{_≡_, refl, sym, _∙_}
+use mathlib.Core.Path.{_≡_, refl, sym, ap, _∙_}
 use mathlib.Core.Bool.{true, false, cond}
 use mathlib.Core.List.{List, _++_, map, reverse, List·Memᴰ, List·Permᴰ}
 use mathlib.Core.Logic.{_↔_}
 use native.Mathlib.Omega.{arith}
-use lib.ListN.{length, take, drop, getD, length-drop}
+use lib.ListN.{length, take, drop, getD, replicate, length-drop}
 use lib.Dec.{eqb}
 use Rattle.encoding.specs.Validity.{isText}
 use Rattle.encoding.specs.Encoding.{continuation}
-use Rattle.turkish.specs.Letters.{starts}
+use Rattle.turkish.specs.Letters.{has, starts}
 use Rattle.turkish.specs.Snowball.{State, ahead, Result, done, failed, Direction, forward, backward, letters, deep, Command, _then_, try, literal, routine, itself, run}
 use Rattle.turkish.specs.Source as source
 use Rattle.turkish.specs.Answers.{called, syllableCheck, stemmed, suffixStage, repaired, postludeOf}
@@ -26,7 +27,9 @@ use Rattle.turkish.specs.Simple.Stage.{stage, kept}
 use Rattle.turkish.specs.Simple.Pieces.{stageMarks, located}
 use Rattle.turkish.specs.Simple.Postlude.{reserved, appends, appendU, harden, postlude, postludeYes}
 use Rattle.turkish.specs.Simple.Tables.{Table, tables, nonzero}
-use Rattle.turkish.specs.Calls.{chars, bytes, limit, accepted, stageText, stagePart, stageCall, postludeText, postludeRefusal, postludeOut, foldText, foldRefusal, foldOut, passText, passRefusal, passOut}
+use Rattle.turkish.specs.Fold.{capitals01, foldBy}
+use Rattle.turkish.specs.Calls.{chars, bytes, limit, accepted, stageText, stagePart, stageCall, postludeText, postludeRefusal, postludeOut}
+use Rattle.turkish.specs.Calls.{foldText, foldRefusal, foldCall, foldOut, passText, passRefusal, passOut}
 use Rattle.turkish.specs.PieceCalls.{Span, spansOf, given, mostPieces, piecesRoom, buffer, bufferOf, piecesRefusal, PiecesOut, textRoom, pieceLine, textOf}
 use Rattle.turkish.specs.PieceCalls.{piecesTextRefusal, piecesTextCall, PiecesTextOut, EndToEnd, between, covering, spelled, mostBytes}
 use Rattle.turkish.specs.Fronts.{mostRemoved, front, Pair, reachesReserved, passGives, SameAnswers, leftEmpty, oneOf}
@@ -50,7 +53,9 @@ use Rattle.turkish.proofs.Fronts.{pair-fares-alike}
 use Rattle.turkish.proofs.Nothing.{left-empty}
 use Rattle.turkish.proofs.Laws.Syllables.{moreThanOneSyllable-no}
 use Rattle.turkish.proofs.Sizes.{postludeText-size, passText-size, stageText-length, stagePart-front}
-use Rattle.turkish.proofs.Folds.{foldText-size}
+use Rattle.turkish.proofs.Folds.{foldText-doubled, foldText-before, foldText-text, foldText-foldText, foldCall-fits, foldCall-short}
+use Rattle.turkish.proofs.Folds.{letters-I-text, letters-I-length, letters-I-folded, letters-ı-length}
+use Rattle.turkish.proofs.FoldWords as FoldWords
 use Rattle.turkish.proofs.Tables.{one-key, key-letters, key-start}
 use Rattle.turkish.proofs.PostludeRules.{postlude-one}
 use Rattle.turkish.proofs.PieceTheorems.{at-most-three-pieces, kinds-1-to-12, end-to-end, together-removed, covered-once, pieces-within, joined-told, buffer-fits, buffer-bytes, text-fits}
@@ -72,10 +77,10 @@ pub refused-stays : (w out : List ℕ)
 unfolding postludeOut foldOut passOut
 refused-stays w out = (λ e. rw e, λ e. rw e, λ e. rw e)
 
--- the outputs asked for suffice: n + 2 bytes for postlude and pass, n for the fold, which fills them
+-- the outputs asked for suffice: n + 2 bytes for postlude and pass, and 2n for the fold; what the fold asks for is `fold-refuses-short`
 pub outputs-suffice : (w : List ℕ) → accepted w ≡ true
-    → (length (postludeText w) ≤ length w + 2) × (length (passText w) ≤ length w + 2) × (length (foldText w) ≡ length w)
-outputs-suffice w a = (postludeText-size w a, passText-size w a, foldText-size w a)
+    → (length (postludeText w) ≤ length w + 2) × (length (passText w) ≤ length w + 2) × (length (foldText w) ≤ 2 * length w)
+outputs-suffice w a = (postludeText-size w a, passText-size w a, foldText-doubled w (accepted-iff w .0 a .1) .0)
 
 -- ---- demand 2: turkish.sbl, and the simple forms that the code's contracts rest on ----
 
@@ -255,6 +260,50 @@ pub calls-read-back-one-way : (u v : List ℕ) {o p x y : List ℕ} → eqb (pie
     → PiecesTextOut u o x → PiecesTextOut v p y → stageText u ≡ stageText v
     → take (piecesTextCall u (length o) .length) x ≡ take (piecesTextCall v (length p) .length) y → u ≡ v
 calls-read-back-one-way = calls-tell-word
+
+-- ---- the fold (document 02, request 2) ----
+
+-- headings with their folded texts and the calls' answers, each with an output that is long enough and one that is a byte short
+pub words-folded : FoldWords.Folded FoldWords.table
+words-folded = FoldWords.words-met
+
+-- an accepted word is refused, under 3, exactly where the output is shorter than its folded text
+pub fold-refuses-short : (w : List ℕ) (room : ℕ) → accepted w ≡ true
+    → (length (foldText w) ≤ room → foldCall w room ≡ record { refusal = 0; length = length (foldText w) })
+    × (room < length (foldText w) → foldCall w room ≡ record { refusal = 3; length = 0 })
+fold-refuses-short w room a = (foldCall-fits w room a, foldCall-short w room a)
+
+-- the folded text of a text is a text
+pub folded-is-text : (w : List ℕ) → isText w ≡ true → isText (foldText w) ≡ true
+folded-is-text = foldText-text
+
+-- folding twice is folding once
+pub folds-once : (w : List ℕ) → isText w ≡ true → foldText (foldText w) ≡ foldText w
+folds-once = foldText-foldText
+
+-- its length is at most twice the word's and at least half of it
+pub folded-length : (w : List ℕ) → isText w ≡ true → (length (foldText w) ≤ 2 * length w) × (length w ≤ 2 * length (foldText w))
+folded-length = foldText-doubled
+
+-- a word without I and İ folds as before, by document 01's letters, to as many bytes
+pub folds-as-before : (w : List ℕ) → isText w ≡ true → has (chars w) (code "I") ≡ false → has (chars w) (code "İ") ≡ false
+    → (foldText w ≡ bytes (map (foldBy capitals01) (chars w))) × (length (foldText w) ≡ length w)
+folds-as-before = foldText-before
+
+-- n letters I, up to the limit, fold to n letters ı, of twice as many bytes: with an output of 2n bytes the call gives 2n, and with any
+-- shorter one number 3
+pub letters-I-double : (n : ℕ) → n ≤ limit → let w = bytes (replicate n (code "I")) in
+    (length w ≡ n) × (foldText w ≡ bytes (replicate n (code "ı"))) × (foldCall w (2 * n) ≡ record { refusal = 0; length = 2 * n })
+    × ((room : ℕ) → room < 2 * n → foldCall w room ≡ record { refusal = 3; length = 0 })
+letters-I-double n h =
+    let w = bytes (replicate n (code "I")) in
+    let l : length (foldText w) ≡ 2 * n = ap length (letters-I-folded n) ∙ letters-ı-length n in
+    let a : accepted w ≡ true = accepted-iff w .1 (rw (letters-I-length n) h, letters-I-text n) in (
+      letters-I-length n,
+      letters-I-folded n,
+      rw l at (foldCall-fits w (2 * n) a (omega arith)),
+      λ room k. foldCall-short w room a (omega arith),
+    )
 
 -- ---- the key tables and the postlude's rules ----
 

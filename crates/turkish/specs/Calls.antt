@@ -1,5 +1,6 @@
 -- What each call gives for a word of bytes, refused calls included, and what its lent output holds after it (document 01, "Whose
--- fault a refusal is" and "Syllable check, postlude, folding, word pass"). The contracts cite these. Assumes nothing.
+-- fault a refusal is" and "Syllable check, postlude, folding, word pass"; document 02, request 2). The contracts cite these.
+-- Assumes nothing.
 use Prim.Native.Nat.{ℕ, _+_}
 use mathlib.Core.Bool.{Bool, false, cond}
 use mathlib.Core.List.{List, [], _++_, reverse}
@@ -90,13 +91,13 @@ postludeCall w room =
 unfoldable pub postludeOut : List ℕ → List ℕ → List ℕ
 postludeOut w out = cond (eqb (postludeRefusal w (length out)) 0) (written (postludeText w) out) out
 
--- ---- fold: an output of n bytes ----
+-- ---- fold: an output as long as the folded text ----
 
 unfoldable pub foldText : List ℕ → List ℕ
 foldText w = bytes (fold (chars w))
 
 unfoldable pub foldRefusal : List ℕ → ℕ → ℕ
-foldRefusal w room = refusalInto w (length w) room
+foldRefusal w room = refusalInto w (length (foldText w)) room
 
 unfoldable pub foldCall : List ℕ → ℕ → FoldAnswer
 foldCall w room =

@@ -155,7 +155,7 @@ take-back-reverse (c ∷ cs) q (suc n) h =
     (take-back-reverse cs (encode c ++ q) n (scalars-tail c cs h))
 
 -- scalar values reversed are scalar values
-scalars-reverse : (cs : List ℕ) → scalars cs ≡ true → scalars (reverse cs) ≡ true
+pub scalars-reverse : (cs : List ℕ) → scalars cs ≡ true → scalars (reverse cs) ≡ true
 unfolding scalars
 scalars-reverse [] h = refl
 scalars-reverse (c ∷ cs) h = rw (reverse-cons, scalars-append, scalars-reverse cs (scalars-tail c cs h), scalar-head c cs h)

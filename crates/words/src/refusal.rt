@@ -6,6 +6,9 @@ ghost use Rattle.turkish.specs.Calls.{refusal, refusalShort, refusalInto};
 // The longest word, in bytes.
 pub const LIMIT: usize = 1024;
 
+// The number of an output that is too short.
+pub const TOO_SHORT: u32 = 3;
+
 // 1 over the limit, 2 not UTF-8.
 pub fn refusal_of(w: &[u8]) -> u32
     ensures { λ r. ⌜ r ≡ refusal (now (w .entry)) ⌝ }
@@ -33,9 +36,9 @@ pub fn refusal_short(w: &[u8], number: u32, need: usize, room: usize) -> u32
     0
 }
 
-// 3 where that is an output.
+// The same where that is an output.
 pub fn refusal_into(w: &[u8], need: usize, room: usize) -> u32
     ensures { λ r. ⌜ r ≡ refusalInto (now (w .entry)) need room ⌝ }
 {
-    refusal_short(w, 3, need, room)
+    refusal_short(w, TOO_SHORT, need, room)
 }

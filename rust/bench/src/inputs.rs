@@ -1,5 +1,7 @@
-//! The words that are timed: the vocabulary, and words of 24 and of 1,000 bytes of several make-ups.
+//! The words that are timed: the vocabulary, and words of 24 and of 1,000 bytes of several make-ups; and
+//! headings for the fold.
 
+use compare::words::headings::capitals;
 use compare::words::read_vocabulary;
 use std::path::Path;
 
@@ -53,6 +55,35 @@ pub fn inputs(vocabulary: &Path) -> Result<Vec<Input>, String> {
             LONG,
             ["e", "bcçdfgğ", "lar"],
         ),
+    ])
+}
+
+/// The words for the fold: in capitals and as they are; the error as above.
+pub fn headings(vocabulary: &Path) -> Result<Vec<Input>, String> {
+    let words = read_vocabulary(vocabulary)?;
+    Ok(vec![
+        Input {
+            name: "vocabulary in capitals",
+            words: words.iter().map(|word| capitals(word)).collect(),
+        },
+        Input {
+            name: "vocabulary",
+            words,
+        },
+        copies("24 bytes, ASCII capitals", SHORT, ["", "EVLERIMIZDEKI", ""]),
+        copies("24 bytes, ASCII", SHORT, ["", "evlerimizdeki", ""]),
+        copies(
+            "1,000 bytes, ASCII capitals",
+            LONG,
+            ["", "EVLERIMIZDEKI", ""],
+        ),
+        copies("1,000 bytes, ASCII", LONG, ["", "evlerimizdeki", ""]),
+        copies(
+            "1,000 bytes, Turkish capitals",
+            LONG,
+            ["", "ÇALIŞTIRILMIŞİĞ", ""],
+        ),
+        copies("1,000 bytes, Turkish", LONG, ["", "çalıştırılmışiğ", ""]),
     ])
 }
 

@@ -6,9 +6,9 @@ mod pairs;
 #[cfg(feature = "oracle")]
 mod program;
 
-use inputs::{inputs, Input};
+use inputs::{headings, inputs, Input};
 use measure::{measure, Times};
-use pairs::{Pair, PAIRS};
+use pairs::{Pair, FOLD, PAIRS};
 use shared::command::command;
 use shared::places;
 use std::path::PathBuf;
@@ -97,16 +97,18 @@ fn programs(_: &Settings) -> Result<(), String> {
 
 fn calls(settings: &Settings) -> Result<(), String> {
     let inputs = inputs(&settings.vocabulary)?;
+    let headings = headings(&settings.vocabulary)?;
     let rounds = settings.rounds;
     println!("Nanoseconds a word, median of {rounds} rounds. Fannavy takes bytes and checks them; the Rust takes text, or, from bytes,");
     println!("after `str::from_utf8`. Ratio: Fannavy's time over the Rust's; below 1, Fannavy is faster.\n");
     println!("| call | words | bytes a word | Fannavy | Rust | ratio | Rust from bytes | ratio |");
     println!("|---|---|--:|--:|--:|--:|--:|--:|");
-    for pair in PAIRS {
-        for input in &inputs {
-            let times = measure(pair, input, rounds)?;
-            println!("{}", row(pair, input, &times));
-        }
+    let both = PAIRS
+        .iter()
+        .flat_map(|pair| inputs.iter().map(move |input| (pair, input)));
+    for (pair, input) in both.chain(headings.iter().map(|input| (&FOLD, input))) {
+        let times = measure(pair, input, rounds)?;
+        println!("{}", row(pair, input, &times));
     }
     Ok(())
 }

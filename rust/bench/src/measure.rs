@@ -2,7 +2,7 @@
 
 use crate::inputs::Input;
 use crate::pairs::{Output, Pair};
-use fannavy::{pass_room, LIMIT};
+use fannavy::{fold_room, LIMIT};
 use std::hint::black_box;
 use std::str::from_utf8;
 use std::time::{Duration, Instant};
@@ -55,7 +55,7 @@ type Side<'a> = dyn Fn(&str, &mut Output) -> usize + 'a;
 
 // The time of some passes over the words, and the sum of the answers.
 fn time(call: &Side, words: &[String], passes: usize) -> (Duration, usize) {
-    let mut output: Output = [0; pass_room(LIMIT)];
+    let mut output: Output = [0; fold_room(LIMIT)];
     let mut sum = 0usize;
     let start = Instant::now();
     for _ in 0..passes {

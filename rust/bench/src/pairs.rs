@@ -1,9 +1,10 @@
 //! The calls that are timed, each with its Rust counterpart. A further pair is one more entry.
 
-use fannavy::{pass_room, LIMIT};
+use compare::folded::folded;
+use fannavy::{fold_room, LIMIT};
 
 /// An output long enough for every call.
-pub type Output = [u8; pass_room(LIMIT)];
+pub type Output = [u8; fold_room(LIMIT)];
 
 /// The same work on both sides. An answer is a number, so that nothing can be left out as unused. The
 /// output is lent to both; the Rust makes its own texts.
@@ -73,8 +74,15 @@ pub const PAIRS: &[Pair] = &[
     },
 ];
 
+/// The fold, of headings. The crate has none: its counterpart is the rule, character by character.
+pub const FOLD: Pair = Pair {
+    name: "fold",
+    takes_text: true,
+    proved: |word, output| fannavy::fold(word.as_bytes(), output).map_or(REFUSED, <[u8]>::len),
+    rust: |word, _| folded(word).len(),
+};
+
 // No word here is refused; if one is, the sums differ.
-#[cfg(feature = "oracle")]
 const REFUSED: usize = 1 << 32;
 
 // A text's length and the answers beside it as one number.

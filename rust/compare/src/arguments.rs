@@ -15,7 +15,8 @@ differ, with both answers.
   --letters N        every word of up to N characters over the stages' letters (default 4)
   --piles N          N piles of three endings, besides every pile of one and of two; for the stages
                      also N piles of four, and N of 15 to 18 characters (default 300000)
-  --random N         N random words of each kind: text, bytes, damaged words (default 300000)
+  --random N         N random words of each kind: text, headings, bytes, damaged words (default
+                     300000)
   --long             these sizes for a run of over 100 million words for each of the stages; name the
                      parts from syllable on, since the others take much longer
   --vocabulary PATH  one word to a line (default: the variable FANNAVY_VOCABULARY, or

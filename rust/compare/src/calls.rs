@@ -161,7 +161,7 @@ impl Call for FannavyPostlude {
 
 impl Call for FannavyFold {
     const NAME: &'static str = "fold";
-    const NEED: Need = Need::MoreThanWord(0);
+    const NEED: Need = Need::Folded;
 
     fn call(lent: &mut Lent, output: &mut Output) -> Self {
         into_output(ffi::fannavy_fold, lent, output)

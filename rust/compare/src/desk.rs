@@ -47,6 +47,21 @@ impl Desk {
         self.compare(least + 1 + least % 61, &expected, report)
     }
 
+    /// The call gives this answer and this text with an output of `room` bytes, or refuses by the rule.
+    pub fn gives_into<C: Call>(
+        &mut self,
+        room: usize,
+        answer: C,
+        text: &[u8],
+        report: &mut Report,
+    ) -> Outcome {
+        let (answer, text) = match rule::number(self.lent.word(), C::NEED, room) {
+            0 => (answer, text),
+            number => (C::refused(number), &b""[..]),
+        };
+        self.compare(room, &Told::new(answer, Some(C::in_order(text))), report)
+    }
+
     // One call with an output of `room` bytes.
     fn compare<C: Call>(
         &mut self,

@@ -7,6 +7,7 @@ pub mod child;
 pub mod cursor;
 pub mod desk;
 pub mod ffi;
+pub mod folded;
 pub mod lent;
 pub mod list;
 #[cfg(feature = "oracle")]

@@ -123,7 +123,7 @@ pub const PARTS: &[Part] = &[
     },
     Part {
         name: "fold",
-        what: "the fold, with its rule character by character",
+        what: "the fold's text and refusals, with its rule character by character",
         run: Run::Words(fold::run),
     },
     Part {

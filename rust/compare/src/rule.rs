@@ -1,5 +1,7 @@
-//! The rule of refusals, of document 01 and of document 02's request 1: the first number that applies.
+//! The rule of refusals, of document 01 and of document 02's requests 1 and 2: the first number that
+//! applies.
 
+use crate::folded::folded;
 use fannavy::LIMIT;
 use std::str::from_utf8;
 
@@ -10,16 +12,20 @@ pub enum Need {
     Nothing,
     /// So many bytes more than the word has.
     MoreThanWord(usize),
+    /// As many bytes as the word's folded text has.
+    Folded,
     /// So many bytes, whatever the word: a buffer for pieces.
     Buffer(usize),
 }
 
 impl Need {
-    /// The least output for a word; none where the call takes no output.
+    /// The least output for a word; none where the call takes no output. What is no text has no folded
+    /// text, and is refused before its output is looked at.
     pub fn least(self, word: &[u8]) -> Option<usize> {
         match self {
             Need::Nothing => None,
             Need::MoreThanWord(more) => Some(word.len() + more),
+            Need::Folded => Some(from_utf8(word).map_or(0, |text| folded(text).len())),
             Need::Buffer(size) => Some(size),
         }
     }
@@ -63,6 +69,14 @@ mod tests {
         assert_eq!(number(&long[1..], two_more, LIMIT + 2), 0);
         assert_eq!(number(b"", two_more, 1), 3);
         assert_eq!(number(b"", Need::Nothing, 0), 0);
+        let capitals = [b'I'; LIMIT];
+        assert_eq!(number(&broken, Need::Folded, 0), 1);
+        assert_eq!(number(&broken[1..], Need::Folded, 0), 2);
+        assert_eq!(number(&capitals, Need::Folded, 2 * LIMIT - 1), 3);
+        assert_eq!(number(&capitals, Need::Folded, 2 * LIMIT), 0);
+        assert_eq!(number("İ".as_bytes(), Need::Folded, 0), 3);
+        assert_eq!(number("İ".as_bytes(), Need::Folded, 1), 0);
+        assert_eq!(number(b"", Need::Folded, 0), 0);
         let nine = Need::Buffer(9);
         assert_eq!(number(&broken, nine, 0), 1);
         assert_eq!(number(&broken[1..], nine, 0), 2);

@@ -4,6 +4,7 @@
 pub mod chains;
 pub mod damaged;
 pub mod endings;
+pub mod headings;
 pub mod letters;
 pub mod long;
 pub mod named;
@@ -84,6 +85,13 @@ impl Words {
         chains::each(visit)?;
         piles::each_of_four(self.sizes.piles, self.random(5), visit)?;
         sixteen::each(self.sizes.piles, self.random(6), visit)
+    }
+
+    /// The words for the fold: those for the stages, random headings, and one letter over and over.
+    pub fn for_fold<E>(&self, visit: Visit<E>) -> Result<(), E> {
+        self.for_stages(visit)?;
+        headings::each_random(self.sizes.random, self.random(8), visit)?;
+        headings::each_run(visit)
     }
 
     /// Byte strings, most of which are no text: random bytes, and words with some bytes damaged.

@@ -36,9 +36,9 @@ pub const fn pass_room(n: usize) -> usize {
     n + 2
 }
 
-/// The least output of [`fold`] for a word of `n` bytes.
+/// An output that always suffices for the [`fold`] of a word of `n` bytes.
 pub const fn fold_room(n: usize) -> usize {
-    n
+    2 * n
 }
 
 /// The least buffer for a word's pieces in the archive's own form; [`pieces`] brings it along.
@@ -154,13 +154,17 @@ pub fn postlude<'a>(word: &[u8], out: &'a mut [u8]) -> Result<Postlude<'a>, Refu
     })
 }
 
-/// The word in small letters: A to Z, Ç Ğ Ö Ş Ü; every other character is copied. It is as long as
-/// the word, and so is the least output ([`fold_room`]).
+/// The word in small letters: I becomes ı and İ becomes i, the other letters of A to Z become a to z,
+/// and Ç Ğ Ö Ş Ü become ç ğ ö ş ü; every other character is copied. The text may be longer or shorter
+/// than the word. An output as long as the text is enough; [`fold_room`] always is.
 ///
 /// ```
-/// let mut out = [0; 7];
-/// assert_eq!(fannavy::fold("AĞAÇ 1".as_bytes(), &mut out), Err(fannavy::Refusal::OutputTooShort));
-/// assert_eq!(fannavy::fold("AĞAÇ".as_bytes(), &mut out)?, "ağaç".as_bytes());
+/// let mut out = [0; fannavy::fold_room(5)];
+/// assert_eq!(fannavy::fold("IŞIK".as_bytes(), &mut out)?, "ışık".as_bytes());
+/// assert_eq!(fannavy::fold("İZLER".as_bytes(), &mut out)?, b"izler");
+///
+/// let refusal = fannavy::fold("IŞIK".as_bytes(), &mut out[..6]);
+/// assert_eq!(refusal, Err(fannavy::Refusal::OutputTooShort));
 /// # Ok::<(), fannavy::Refusal>(())
 /// ```
 pub fn fold<'a>(word: &[u8], out: &'a mut [u8]) -> Result<&'a [u8], Refusal> {
@@ -250,6 +254,41 @@ mod tests {
             let line = format!("#define FANNAVY_{name} {size}");
             assert!(HEADER.lines().any(|other| other == line), "no {line}");
         }
+    }
+
+    #[test]
+    fn the_header_has_the_same_rooms() {
+        assert_eq!((pass_room(5), fold_room(5)), (5 + 2, 2 * 5));
+        for line in [
+            "#define FANNAVY_PASS_ROOM(n) ((size_t)(n) + 2)",
+            "#define FANNAVY_FOLD_ROOM(n) (2 * (size_t)(n))",
+        ] {
+            assert!(HEADER.lines().any(|other| other == line), "no {line}");
+        }
+    }
+
+    #[test]
+    fn a_fold_needs_as_much_as_its_text() {
+        for (word, text) in [
+            ("", ""),
+            ("I", "ı"),
+            ("İ", "i"),
+            ("ISIRGAN", "ısırgan"),
+            ("DİYARBAKIR", "diyarbakır"),
+            ("I\u{307}", "ı\u{307}"),
+        ] {
+            let (word, text) = (word.as_bytes(), text.as_bytes());
+            assert!(text.len() <= fold_room(word.len()));
+            let mut out = vec![0; text.len()];
+            assert_eq!(fold(word, &mut out), Ok(text));
+            if let Some(short) = text.len().checked_sub(1) {
+                assert_eq!(fold(word, &mut out[..short]), Err(Refusal::OutputTooShort));
+            }
+        }
+        let capitals = [b'I'; LIMIT];
+        let mut out = [0; fold_room(LIMIT)];
+        assert_eq!(fold(&capitals, &mut out).map(<[u8]>::len), Ok(2 * LIMIT));
+        assert_eq!(fold(&capitals, &mut out[1..]), Err(Refusal::OutputTooShort));
     }
 
     #[test]

@@ -11,8 +11,8 @@ use borrow.Author.Tests.{ltb-false, le-ltb}
 use Rattle.encoding.specs.Text.{TextOf}
 use Rattle.encoding.specs.Validity.{isText}
 use Rattle.encoding.proofs.CheckExact.{isText-encodes}
-use Rattle.utf8.proofs.TextCharacters.{encode-before}
 use Rattle.turkish.specs.Calls.{chars, bytes, limit, refusal, accepted}
+use Rattle.turkish.proofs.Laws.Words.{bytes-chars-text}
 
 -- a word is accepted exactly when it is short enough and a text
 pub accepted-iff : (w : List ℕ) → (accepted w ≡ true) ↔ ((length w ≤ limit) × (isText w ≡ true))
@@ -31,5 +31,4 @@ accepted-text w e = isText-encodes w (accepted-iff w .0 e .1)
 
 -- whose characters' bytes are its own
 pub bytes-chars : (w : List ℕ) → accepted w ≡ true → bytes (chars w) ≡ w
-unfolding bytes chars
-bytes-chars w e = encode-before w (accepted-text w e)
+bytes-chars w e = bytes-chars-text w (accepted-text w e)

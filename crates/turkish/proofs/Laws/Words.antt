@@ -31,16 +31,21 @@ pub length-bytes-cons : (c : ℕ) (cs : List ℕ) → length (bytes (c ∷ cs)) 
 length-bytes-cons c cs = rw (bytes-cons, length-append)
 
 -- scalar values encoded have themselves for characters
-chars-bytes : (cs : List ℕ) → scalars (reverse cs) ≡ true → chars (bytes cs) ≡ cs
+pub chars-bytes : (cs : List ℕ) → scalars (reverse cs) ≡ true → chars (bytes cs) ≡ cs
 unfolding chars bytes
 chars-bytes cs h = rw (append-nil, reverse-reverse) at (before-text (reverse cs) [] h)
 
 -- a text's characters are scalar values
-scalars-chars : (w : List ℕ) → TextOf w → scalars (reverse (chars w)) ≡ true
+pub scalars-chars : (w : List ℕ) → TextOf w → scalars (reverse (chars w)) ≡ true
 unfolding chars
 scalars-chars w t = rw (← t .encoded, rw append-nil at (before-text (t .chars) [] (t .valid)), reverse-reverse) (t .valid)
 
--- so are those of two parts
+-- and their bytes are its own
+pub bytes-chars-text : (w : List ℕ) → TextOf w → bytes (chars w) ≡ w
+unfolding bytes chars
+bytes-chars-text w t = encode-before w t
+
+-- those of two parts are scalar values too
 scalars-parts : (e f : List ℕ) → scalars (reverse (e ++ f)) ≡ true → (scalars (reverse e) ≡ true) × (scalars (reverse f) ≡ true)
 scalars-parts e f h =
     let p : scalars (reverse f) && scalars (reverse e) ≡ true = rw (reverse-append, scalars-append) at h in

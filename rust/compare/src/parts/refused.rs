@@ -1,5 +1,5 @@
-//! Refused calls, held to the rule: outputs of every size below the need, words that are no text,
-//! words over the limit, and several causes at once.
+//! Refused calls, held to the rule: outputs of every size up to n + 2, words that are no text, words
+//! over the limit, and several causes at once.
 
 use crate::desk::Desk;
 use crate::ffi::{
@@ -44,7 +44,8 @@ pub fn run(words: &Words, report: &mut Report) -> Outcome {
     })
 }
 
-// Every size of the output up to the first that is enough.
+// Every size of the output up to n + 2 bytes, the first that is enough for postlude and pass; the
+// fold's own sizes are in its part.
 fn every_room(desk: &mut Desk, word: &[u8], report: &mut Report) -> Outcome {
     desk.set(word);
     for room in 0..=word.len() + 2 {
@@ -54,7 +55,7 @@ fn every_room(desk: &mut Desk, word: &[u8], report: &mut Report) -> Outcome {
     desk.done(report)
 }
 
-// Every call; the outputs empty, about as long as is enough, and much longer.
+// Every call; the outputs empty, about as long as the word, and much longer.
 fn some_rooms(desk: &mut Desk, word: &[u8], report: &mut Report) -> Outcome {
     desk.set(word);
     desk.refuses::<FannavySyllable>(0, report)?;
