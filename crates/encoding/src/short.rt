@@ -4,14 +4,14 @@ ghost use mathlib.Core.Path.{_≡_};
 ghost use Rattle.encoding.specs.Neighbours.{shortBegins, shortFollows, shortAfter};
 
 // Whether a character of one or two bytes begins with the byte.
-fn begins(x: u8) -> bool
+pub(crate) fn begins(x: u8) -> bool
     ensures { λ r. ⌜ r ≡ shortBegins x ⌝ }
 {
     (x < 0x80) | ((0xC2 <= x) & (x < 0xE0))
 }
 
 // Whether x may follow a where no character has more than two bytes.
-fn may_follow(a: u8, x: u8) -> bool
+pub(crate) fn may_follow(a: u8, x: u8) -> bool
     ensures { λ r. ⌜ r ≡ shortFollows a x ⌝ }
 {
     let due = 0xC0 <= a;

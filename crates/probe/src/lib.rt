@@ -1,6 +1,7 @@
-// For the comparison with the Rust: the cursor's steps, the record going in and coming out as plain numbers; the suffix stage's part,
-// copied, since no exported call can hand back a slice; and the list of a removed ending's pieces, laid out flat, since none can hand back
-// an enum. No host links this.
+// For the comparison with the Rust: the UTF-8 check's plain runs; the cursor's steps, the record going in and coming out as plain numbers;
+// the suffix stage's part, copied, since no exported call can hand back a slice; and the list of a removed ending's pieces, laid out flat,
+// since none can hand back an enum. No host links this.
+use encoding::plain;
 use kinds::kind;
 use pieces::removed;
 use turkish::endings::Joining;
@@ -12,11 +13,23 @@ use utf8::step;
 use words::stage;
 ghost use mathlib.Core.Path.{_≡_};
 ghost use lib.ListN.{length};
+ghost use Rattle.encoding.specs.PlainRuns.{runEnd};
 ghost use Rattle.utf8.specs.Steps.{previousChar, nextChar, eqSB, eqS};
 ghost use Rattle.turkish.specs.Calls.{stagePart};
 ghost use Rattle.turkish.specs.PieceCalls.{joinedOf, kindJoined};
 ghost use Rattle.probe.specs.Part.{partLength, partOut};
 ghost use Rattle.probe.specs.Flat.{flatStep, flatLiteral, cursorOf, joinedNumber, flatRemoved, FlatList};
+
+// Where the plain run from a place on ends; the place itself where that lies past the word.
+#[no_mangle]
+pub extern "C" fn probe_run_end(w: &[u8], from: usize) -> usize
+    ensures { λ r. ⌜ r ≡ runEnd (now (w .entry)) from ⌝ }
+{
+    if w.len() < from {
+        return from;
+    }
+    plain::run_end(w, from)
+}
 
 // A step's answer, laid out flat; ch is 0 for a literal.
 #[repr(C)]

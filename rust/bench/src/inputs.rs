@@ -1,6 +1,7 @@
 //! The words that are timed: the vocabulary, and words of 24 and of 1,000 bytes of several make-ups; and
 //! headings for the fold.
 
+use compare::words::filled::filled;
 use compare::words::headings::capitals;
 use compare::words::read_vocabulary;
 use std::path::Path;
@@ -8,6 +9,9 @@ use std::path::Path;
 const SHORT: usize = 24;
 const LONG: usize = 1000;
 const COPIES: usize = 256;
+// One Turkish letter in 24 bytes, and one in 50.
+const SHORT_PART: &str = "STM32F407-VGT6ş-R25-104";
+const LONG_PARTS: &str = "STM32F407-VGT6-R25-1042X-000117ı2-A4455-99123-X1-";
 
 pub struct Input {
     pub name: &'static str,
@@ -55,6 +59,9 @@ pub fn inputs(vocabulary: &Path) -> Result<Vec<Input>, String> {
             LONG,
             ["e", "bcçdfgğ", "lar"],
         ),
+        // Part numbers with a Turkish letter here and there.
+        copies("24 bytes, part number", SHORT, ["", SHORT_PART, ""]),
+        copies("1,000 bytes, part numbers", LONG, ["", LONG_PARTS, ""]),
     ])
 }
 
@@ -90,18 +97,8 @@ pub fn headings(vocabulary: &Path) -> Result<Vec<Input>, String> {
 // Copies of one word of exactly `length` bytes: a front, a filler over and over, letters where no
 // whole character fits, and a tail.
 fn copies(name: &'static str, length: usize, [front, filler, tail]: [&str; 3]) -> Input {
-    let mut word = String::from(front);
-    let room = length - tail.len();
-    for ch in filler.chars().cycle() {
-        if word.len() + ch.len_utf8() > room {
-            break;
-        }
-        word.push(ch);
-    }
-    while word.len() < room {
-        word.push('b');
-    }
-    word.push_str(tail);
+    let room = length - front.len() - tail.len();
+    let word = [front, &filled(filler, room), tail].concat();
     Input {
         name,
         words: vec![word; COPIES],

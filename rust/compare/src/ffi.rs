@@ -37,6 +37,7 @@ pub struct ProbeRemoved {
 }
 
 extern "C" {
+    pub fn probe_run_end(w: *const u8, n: usize, from: usize) -> usize;
     pub fn probe_stage_part(w: *const u8, n: usize, out: *mut u8, m: usize) -> usize;
     pub fn probe_removed(w: *const u8, n: usize) -> ProbeRemoved;
     pub fn probe_previous_char(

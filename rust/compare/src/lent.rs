@@ -19,7 +19,7 @@ impl Lent {
         Lent::between(0xEE, 0xAE, word)
     }
 
-    /// With vowels on both sides, for the stages, to the same end.
+    /// With vowels on both sides, for the stages and for plain runs, to the same end.
     pub fn among_vowels(word: &[u8]) -> Lent {
         Lent::between(b'a', b'a', word)
     }

@@ -12,6 +12,7 @@ mod pieces;
 #[cfg(feature = "oracle")]
 mod program;
 mod refused;
+mod runs;
 mod sequences;
 #[cfg(feature = "oracle")]
 mod stages;
@@ -44,6 +45,11 @@ pub const PARTS: &[Part] = &[
         name: "check",
         what: "the UTF-8 check on words, random bytes and damaged words, with str::from_utf8",
         run: Run::Words(check::run),
+    },
+    Part {
+        name: "runs",
+        what: "where plain runs end, with slice::chunks_exact and is_ascii",
+        run: Run::Words(runs::run),
     },
     Part {
         name: "characters",

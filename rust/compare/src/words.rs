@@ -4,6 +4,7 @@
 pub mod chains;
 pub mod damaged;
 pub mod endings;
+pub mod filled;
 pub mod headings;
 pub mod letters;
 pub mod long;

@@ -1,6 +1,6 @@
 -- What a passed test says of its parts, and how its parts make it pass or fail, for the whole repository. Assumes nothing.
 use Prim.Native.Nat.{ℕ, _≤_, _<_}
-use mathlib.Core.Path.{_≡_, refl}
+use mathlib.Core.Path.{_≡_, refl, sym, _∙_}
 use mathlib.Core.Logic.{_⊎_, inl, inr}
 use mathlib.Core.Bool.{Bool, true, false, cond, not, _&&_, _||_, or-false, false≢true}
 use lib.Dec.{ltb}
@@ -26,6 +26,14 @@ pub and-each : (a b c : Bool) → a && b && c ≡ true → (a ≡ true) × (b �
 and-each true true c e = (refl, refl, e)
 and-each true false c e = absurd (false≢true e)
 and-each false b c e = absurd (false≢true e)
+
+-- a test that is made only where one before it passes: where it is made
+pub and-asked : {a r p q : Bool} → a ≡ true → a ≡ p → r ≡ q → r ≡ p && q
+and-asked t e f = rw (← e, t) f
+
+-- and where it is not
+pub and-spared : {a r p : Bool} (q : Bool) → a ≡ false → a ≡ p → r ≡ a → r ≡ p && q
+and-spared q t e f = rw (← e, t) (f ∙ t)
 
 -- a test that passes by one of two
 pub or-either : (a b : Bool) → a || b ≡ true → (a ≡ true) ⊎ (b ≡ true)
@@ -59,6 +67,11 @@ chosen false p q = refl
 pub not-eq-false : (a : Bool) → not a ≡ true → a ≡ false
 not-eq-false true e = absurd (false≢true e)
 not-eq-false false e = refl
+
+-- and one whose contrary fails passes
+pub not-eq-true : (a : Bool) → not a ≡ false → a ≡ true
+not-eq-true true e = refl
+not-eq-true false e = sym e
 
 -- one number is below another, or it is not
 pub lt-or-le : {P : Type 0} (a b : ℕ) → (a < b → P) → (b ≤ a → P) → P

@@ -55,7 +55,7 @@ unfolding asks
 asks-most a = (λ h. omega arith, λ h. omega arith, omega arith)
 
 -- the range after any byte lies among the bytes that begin nothing
-lead-range : (a : ℕ) → (0x80 ≤ lead a .low) × (lead a .high ≤ 0xBF)
+pub lead-range : (a : ℕ) → (0x80 ≤ lead a .low) × (lead a .high ≤ 0xBF)
 unfolding table37 due refused
 lead-range a = lead-elim (λ (d : Due). (0x80 ≤ d .low) × (d .high ≤ 0xBF)) (λ (r : Row). (0x80 ≤ r .low) × (r .high ≤ 0xBF)) a (omega arith) (λ r q f u. q) (omega arith)
 
