@@ -3,13 +3,13 @@ use Prim.Native.Nat.{ℕ}
 use mathlib.Core.Bool.{Bool, true, false, cond}
 use mathlib.Core.List.{List, [], _∷_}
 use lib.Dec.{eqb}
-use Rattle.turkish.specs.Simple.Grammar.{Mark}
+use Rattle.turkish.specs.Simple.Grammar.{Joint, Mark}
 use Rattle.turkish.specs.Simple.Pieces.{Trace, none, firstTrace, traceOf}
-use Rattle.turkish.specs.Simple.Marks.{yUm, sUn, yUz, sUnUz, lAr, nUz, DUr, cAsInA, yDU, ysA, ymUs, yken}
+use Rattle.turkish.specs.Simple.Marks.{unjoined, yUm, sUn, yUz, sUnUz, lAr, nUz, DUr, cAsInA, yDU, ysA, ymUs, yken}
 
 -- a mark that never fits
 unfoldable pub never : Mark
-never = record { kind = 0; harmonic = true; keys = []; joins = false }
+never = record { kind = 0; harmonic = true; keys = []; joint = unjoined }
 
 unfoldable pub numbered : ℕ → Mark
 numbered n =
@@ -32,11 +32,11 @@ tabled k = cond (eqb k 12) [] (numbered k .keys)
 
 -- a mark without its harmony test, and without its number
 unfoldable pub unharmonic : Mark → Mark
-unharmonic m = record { kind = 0; harmonic = false; keys = m .keys; joins = m .joins }
+unharmonic m = record { kind = 0; harmonic = false; keys = m .keys; joint = m .joint }
 
--- a key of these, with or without an optional y before it, and no harmony test
-unfoldable pub keyedBy : List (List ℕ) → Bool → Mark
-keyedBy ks joins = record { kind = 0; harmonic = false; keys = ks; joins = joins }
+-- a key of these, with what joins it, and no harmony test
+unfoldable pub keyedBy : List (List ℕ) → Joint → Mark
+keyedBy ks joint = record { kind = 0; harmonic = false; keys = ks; joint = joint }
 
 -- the first of a group that fits
 unfoldable pub firstOf : List ℕ → List ℕ → Trace

@@ -17,8 +17,8 @@ use utf8::cursor::Cursor;
 use utf8::step;
 ghost use mathlib.Core.Path.{_≡_};
 ghost use Rattle.utf8.specs.Behind.{behind, Open};
-ghost use Rattle.turkish.specs.Simple.Grammar.{optionalY, markOf};
-ghost use Rattle.turkish.specs.Simple.Marks.{yDU, yken};
+ghost use Rattle.turkish.specs.Simple.Grammar.{joining, markOf};
+ghost use Rattle.turkish.specs.Simple.Marks.{byY, yDU, yken};
 ghost use Rattle.turkish.specs.Simple.Pieces.{traceOf};
 ghost use Rattle.letters.specs.Search.{found};
 ghost use Rattle.letters.specs.Seen.{Sees};
@@ -55,7 +55,7 @@ pub const YKEN: u32 = 12;
 // An optional y before the cursor (turkish.rs, `r_mark_suffix_with_optional_y_consonant`).
 fn mark_suffix_with_optional_y_consonant(w: &[u8], c: Cursor) -> Passed
     requires { ⌜ Open (now w) c ⌝ }
-    ensures { λ r. ⌜ r ≡ passes (now (w .entry)) c (optionalY 0x79 (behind (now (w .entry)) c)) ⌝ }
+    ensures { λ r. ⌜ r ≡ passes (now (w .entry)) c (joining byY (behind (now (w .entry)) c)) ⌝ }
 {
     let low = c.limit_backward;
     let part = &w[low..];
@@ -135,7 +135,7 @@ fn find_key(w: &[u8], s: Seen, kind: u32) -> Among
 
 // Whether an optional y stands before the key of the mark with this number.
 fn is_joining(kind: u32) -> bool
-    ensures { λ r. ⌜ r ≡ numbered kind .joins ⌝ }
+    ensures { λ r. ⌜ r ≡ numbered kind .joint .asked ⌝ }
 {
     ((kind == YUM) | (kind == YUZ))
         | (((kind == YDU) | (kind == YSA)) | ((kind == YMUS) | (kind == YKEN)))

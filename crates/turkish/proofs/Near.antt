@@ -13,8 +13,8 @@ use lib.Dec.{eqb}
 use Rattle.turkish.specs.Letters.{text, fromEnd, has, starts}
 use Rattle.turkish.specs.Vowels.{vowel, lastVowel, beforeLastVowel}
 use Rattle.turkish.specs.Simple.Harmony.{partner, harmony, moreThanOneSyllable}
-use Rattle.turkish.specs.Simple.Grammar.{Out, took, more, after, asking, among, optionalY, markOf, Command, mark, _then_, _or_, nothing, unset, try, run}
-use Rattle.turkish.specs.Simple.Marks.{marked, yUm, sUn, yUz, sUnUz, lAr, nUz, DUr, cAsInA, yDU, ysA, ymUs, yken}
+use Rattle.turkish.specs.Simple.Grammar.{Out, took, more, after, asking, among, Joint, optional, joining, markOf, Command, mark, _then_, _or_, nothing, unset, try, run}
+use Rattle.turkish.specs.Simple.Marks.{unjoined, byY, marked, yUm, sUn, yUz, sUnUz, lAr, nUz, DUr, cAsInA, yDU, ysA, ymUs, yken}
 use Rattle.turkish.specs.Simple.Stage.{person, branch1, branch2, branch3, branch4, branch5, branch6, branches, staged, stage, kept}
 use Rattle.turkish.specs.Simple.Postlude.{reserved, gained, appends, appendU, hard, harden, postlude}
 use Rattle.turkish.specs.WordPass.{pass}
@@ -61,7 +61,7 @@ moreThanOneSyllable-near e f g a = any-vowels vowel (beforeLastVowel (e ++ f)) (
 
 -- the characters that a command may look at, harmony aside
 unfoldable pub need : Command → ℕ
-need (mark m) = longest (m .keys) + cond (m .joins) 2 0
+need (mark m) = longest (m .keys) + cond (m .joint .asked) 2 0
 need (p then q) = max (need p) (most p + need q)
 need (p or q) = max (need p) (need q)
 need nothing = 0
@@ -80,14 +80,19 @@ unfolding among longest
 among-append [] e f h = refl
 among-append (k ∷ ks) e f h = rw (starts-append k e f (omega arith), among-append ks e f (omega arith))
 
--- what follows a mark's key, no further than two characters, or none
-joins-near : (j : Bool) (e f g : List ℕ) → cond j 2 0 ≤ length e
-    → cond j (optionalY 0x79 (e ++ f)) (took 0 true) ≡ cond j (optionalY 0x79 (e ++ g)) (took 0 true)
-unfolding optionalY
-joins-near true [] f g h = absurd (omega arith)
-joins-near true (c ∷ []) f g h = absurd (omega arith)
-joins-near true (c ∷ v ∷ e) f g h = refl
-joins-near false e f g h = refl
+-- a joint, no further than two characters, or none
+joining-near : (j : Joint) (e f g : List ℕ) → cond (j .asked) 2 0 ≤ length e → joining j (e ++ f) ≡ joining j (e ++ g)
+unfolding joining optional
+joining-near j e f g h = go (j .asked) e h
+  where
+    letter : List ℕ → Out
+    letter = optional (j .letters) (j .vowelled)
+
+    go : (a : Bool) (e : List ℕ) → cond a 2 0 ≤ length e → cond a (letter (e ++ f)) (took 0 true) ≡ cond a (letter (e ++ g)) (took 0 true)
+    go true [] h = absurd (omega arith)
+    go true (c ∷ []) h = absurd (omega arith)
+    go true (c ∷ d ∷ e) h = refl
+    go false e h = refl
 
 -- after an answer that takes n characters at most, what sees no further than m characters past them
 after-near : (q : List ℕ → Out) (n m : ℕ) (e f g : List ℕ) {o : Out} → ((x : List ℕ) → m ≤ length x → q (x ++ f) ≡ q (x ++ g))
@@ -103,8 +108,8 @@ unfolding run markOf need
 run-near (mark m) e f g a h =
     rw (harmony-near e f g a, among-append (m .keys) e f (omega arith), among-append (m .keys) e g (omega arith))
     (ap (asking (not (m .harmonic) || harmony (e ++ g)))
-    (after-near (λ (cs : List ℕ). cond (m .joins) (optionalY 0x79 cs) (took 0 true)) (longest (m .keys)) (cond (m .joins) 2 0) e f g
-    (λ x. joins-near (m .joins) x f g) h (among-most (m .keys) e)))
+    (after-near (joining (m .joint)) (longest (m .keys)) (cond (m .joint .asked) 2 0) e f g
+    (λ x. joining-near (m .joint) x f g) h (among-most (m .keys) e)))
 run-near (p then q) e f g a h =
     rw (run-near p e f g a (omega arith)) (after-near (run q) (most p) (need q) e f g (λ x. run-near q x f g a) (omega arith) (run-most p (e ++ g)))
 run-near (p or q) e f g a h = rw (run-near p e f g a (omega arith), run-near q e f g a (omega arith))
@@ -115,7 +120,7 @@ run-near unset e f g a h = refl
 
 -- the stage's command may look at 16 characters
 need-branches : need branches ≡ endLength
-unfolding endLength need most longest branches branch1 branch2 branch3 branch4 branch5 branch6 person try marked yUm sUn yUz sUnUz lAr nUz DUr cAsInA yDU ysA ymUs yken fromEnd text
+unfolding endLength need most longest branches branch1 branch2 branch3 branch4 branch5 branch6 person try unjoined byY marked yUm sUn yUz sUnUz lAr nUz DUr cAsInA yDU ysA ymUs yken fromEnd text
 need-branches = refl
 
 -- the stage answers alike on words with a shared end of 16 characters

@@ -17,8 +17,8 @@ use Rattle.turkish.specs.Letters.{text, any, has, starts}
 use Rattle.turkish.specs.Letters
 use Rattle.turkish.specs.Vowels.{vowels, vowel, lastVowel, beforeLastVowel}
 use Rattle.turkish.specs.Simple.Harmony.{partnerTable, partnersIn, partner, harmony}
-use Rattle.turkish.specs.Simple.Grammar.{more, after, first, asking, among, markOf, mark, _or_, try, run}
-use Rattle.turkish.specs.Simple.Marks.{marked, yUm, sUn, yUz, sUnUz, lAr, nUz, DUr, cAsInA, yDU, ysA, ymUs, yken}
+use Rattle.turkish.specs.Simple.Grammar.{more, after, first, asking, among, joining, markOf, mark, _or_, try, run}
+use Rattle.turkish.specs.Simple.Marks.{unjoined, byY, marked, yUm, sUn, yUz, sUnUz, lAr, nUz, DUr, cAsInA, yDU, ysA, ymUs, yken}
 use Rattle.turkish.specs.Simple.Stage.{branch1, branch2, branch3, branch4, branch5, branch6, branches, staged, stage, kept, keptLength}
 use Rattle.turkish.specs.Calls.{chars, bytes, accepted}
 use Rattle.turkish.specs.Fronts.{leftEmpty, oneOf}
@@ -30,7 +30,8 @@ use Rattle.turkish.proofs.Laws.Leaves.{mark-leaves, unharmonic, spares,
 
 -- branch 5 leaves a character of a text that is no key of sUnUz
 branch5-leaves : (cs : List ℕ) → oneOf (sUnUz .keys) cs ≡ false → Post (λ k. k + 1 ≤ length cs) (run branch5 cs)
-unfolding run branch5 try leaves spares every unharmonic harmony any partner has partnersIn partnerTable lastVowel beforeLastVowel vowel vowels text Letters.fromEnd marked yUm sUn yUz sUnUz ymUs
+unfolding run branch5 try leaves spares every unharmonic harmony any partner has partnersIn partnerTable lastVowel beforeLastVowel vowel vowels
+    text Letters.fromEnd unjoined byY marked yUm sUn yUz sUnUz ymUs
 branch5-leaves cs h =
     post-then
     (post-first (mark-leaves sUnUz cs 1 (omega arith) (λ t o. absurd (false≢true (sym h ∙ o)))) (run-leaves (mark yUz or mark sUn or mark yUm) 0 cs (omega arith)))
@@ -38,7 +39,8 @@ branch5-leaves cs h =
 
 -- and so does the stage, as the other branches leave one of every text
 branches-leaves : (cs : List ℕ) → oneOf (sUnUz .keys) cs ≡ false → Post (λ k. k + 1 ≤ length cs) (run branches cs)
-unfolding run branches branch1 branch2 branch3 branch4 branch6 try leaves spares every unharmonic harmony any partner has partnersIn partnerTable lastVowel beforeLastVowel vowel vowels text Letters.fromEnd marked lAr DUr yDU ysA ymUs yken
+unfolding run branches branch1 branch2 branch3 branch4 branch6 try leaves spares every unharmonic harmony any partner has partnersIn partnerTable lastVowel beforeLastVowel vowel vowels
+    text Letters.fromEnd unjoined byY marked lAr DUr yDU ysA ymUs yken
 branches-leaves cs h =
     let z : 0 ≤ length cs = omega arith in
     post-first (run-leaves branch1 0 cs z)
@@ -57,7 +59,8 @@ kept-others (c ∷ cs) h =
 
 -- nothing is kept of nothing, nor of a key of sUnUz
 kept-keys : every (λ cs. same (kept cs) []) ([] ∷ sUnUz .keys) ≡ true
-unfolding kept stage staged run branches branch1 branch2 branch3 branch4 branch5 branch6 try same every harmony any partner has partnersIn partnerTable lastVowel beforeLastVowel vowel vowels text Letters.fromEnd marked yUm sUn yUz sUnUz lAr nUz DUr cAsInA yDU ysA ymUs yken starts among markOf more after first asking
+unfolding kept stage staged run branches branch1 branch2 branch3 branch4 branch5 branch6 try same every harmony any partner has partnersIn partnerTable
+    lastVowel beforeLastVowel vowel vowels text Letters.fromEnd unjoined byY marked yUm sUn yUz sUnUz lAr nUz DUr cAsInA yDU ysA ymUs yken starts among joining markOf more after first asking
 kept-keys = refl
 
 -- the stage keeps nothing exactly of nothing and of the keys of sUnUz

@@ -12,7 +12,7 @@ use Rattle.turkish.specs.Simple.Pieces.{total, stageMarks, located}
 use Rattle.turkish.specs.Calls.{chars, accepted, stageText}
 use Rattle.turkish.specs.PieceCalls.{Span, spanOf, spansOf, mostPieces, piecesRoom, bufferOf, textRoom, textOf, EndToEnd, between, covering, spelled, mostBytes}
 use Rattle.turkish.proofs.Laws.Members.{mem-perm}
-use Rattle.turkish.proofs.Laws.Joints.{stageMarks-joint}
+use Rattle.turkish.proofs.Laws.Joints.{stageMarks-joinedAs}
 use Rattle.turkish.proofs.Laws.FirstLetters.{ToldByLetter, located-told}
 use Rattle.turkish.proofs.Laws.Traces.{removed-total}
 use Rattle.turkish.proofs.Laws.Leaves.{stage-within}
@@ -83,7 +83,7 @@ joined-told w p a i =
     let cs = chars w in
     let all : length cs ≡ length cs - 0 = omega arith in
     let marks = stageMarks cs in
-    located-told w a 0 marks (stageMarks-numbered cs) (stageMarks-joint cs) (omega (arith, stageMarks-within cs)) p
+    located-told w a 0 marks (stageMarks-numbered cs) (stageMarks-joinedAs cs) (omega (arith, stageMarks-within cs)) p
     (rw (keptMarks-simple cs, all) at i)
 
 -- and in the word

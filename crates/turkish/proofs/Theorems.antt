@@ -15,13 +15,13 @@ use lib.ListN.{length, take, drop, getD, replicate, length-drop}
 use lib.Dec.{eqb}
 use Rattle.encoding.specs.Validity.{isText}
 use Rattle.encoding.specs.Encoding.{continuation}
-use Rattle.turkish.specs.Letters.{has, starts}
+use Rattle.turkish.specs.Letters.{text, has, starts}
 use Rattle.turkish.specs.Snowball.{State, ahead, Result, done, failed, Direction, forward, backward, letters, deep, Command, _then_, try, literal, routine, itself, run}
 use Rattle.turkish.specs.Source as source
 use Rattle.turkish.specs.Answers.{called, syllableCheck, stemmed, suffixStage, repaired, postludeOf}
 use Rattle.turkish.specs.Pieces.{alone, withY, afterVowel, reading}
 use Rattle.turkish.specs.Simple.Harmony.{harmony, moreThanOneSyllable}
-use Rattle.turkish.specs.Simple.Grammar.{optionalY, markOf}
+use Rattle.turkish.specs.Simple.Grammar.{optional, markOf}
 use Rattle.turkish.specs.Simple.Marks.{yUm, sUn, yUz, sUnUz, lAr, nUz, DUr, cAsInA, yDU, ysA, ymUs, yken}
 use Rattle.turkish.specs.Simple.Stage.{stage, kept}
 use Rattle.turkish.specs.Simple.Pieces.{stageMarks, located}
@@ -110,7 +110,7 @@ pub harmony-of-source : Means backward source.check-vowel-harmony (λ cs. takeIf
 harmony-of-source = harmony-means
 
 -- the optional y
-pub optional-y-of-source : Means backward source.mark-suffix-with-optional-y-consonant (optionalY 0x79)
+pub optional-y-of-source : Means backward source.mark-suffix-with-optional-y-consonant (optional (text "y") true)
 optional-y-of-source = optionalY-means
 
 -- the twelve marks

@@ -13,9 +13,9 @@ use borrow.Author.Tests.{eqb-true}
 use Rattle.encoding.proofs.Laws.Booleans.{and-left, and-right, or-either, cond-cases, cond-test, cond-both}
 use Rattle.turkish.specs.Letters.{text, fromEnd, any, has, starts}
 use Rattle.turkish.specs.Simple.Harmony.{harmony}
-use Rattle.turkish.specs.Simple.Grammar.{Out, fail, after, asking, among, Mark, markOf}
+use Rattle.turkish.specs.Simple.Grammar.{Out, fail, after, asking, among, Joint, Mark, markOf}
 use Rattle.turkish.specs.Simple.Pieces.{none, afterTrace, firstTrace, traceOf, trace}
-use Rattle.turkish.specs.Simple.Marks.{marked, yUm, sUn, yUz, sUnUz, lAr, nUz, DUr, cAsInA, yDU, ysA, ymUs, yken}
+use Rattle.turkish.specs.Simple.Marks.{unjoined, byY, marked, yUm, sUn, yUz, sUnUz, lAr, nUz, DUr, cAsInA, yDU, ysA, ymUs, yken}
 use Rattle.turkish.specs.Simple.Stage.{branch1, branch2, branch3, branch4, branch5, branch6, branches}
 use Rattle.turkish.proofs.Laws.Tests.{every}
 use Rattle.turkish.proofs.Laws.Outcome.{Gives, unfit, post-all}
@@ -187,13 +187,13 @@ numbered-unharmonic k (inr (inl e)) = ap (λ (i : ℕ). numbered i .harmonic) e
 numbered-unharmonic k (inr (inr (inl e))) = ap (λ (i : ℕ). numbered i .harmonic) e
 numbered-unharmonic k (inr (inr (inr e))) = ap (λ (i : ℕ). numbered i .harmonic) e
 
--- ---- the optional y ----
+-- ---- the joint ----
 
 -- the marks that an optional y joins
-pub numbered-joins : (k : ℕ) → (eqb k 1 || eqb k 3) || ((eqb k 9 || eqb k 10) || (eqb k 11 || eqb k 12)) ≡ numbered k .joins
-unfolding numbered never marked yUm sUn yUz sUnUz lAr nUz DUr cAsInA yDU ysA ymUs yken
-numbered-joins k =
-    let H : Mark → Type 0 = λ m. (eqb k 1 || eqb k 3) || ((eqb k 9 || eqb k 10) || (eqb k 11 || eqb k 12)) ≡ m .joins in
+pub numbered-asked : (k : ℕ) → (eqb k 1 || eqb k 3) || ((eqb k 9 || eqb k 10) || (eqb k 11 || eqb k 12)) ≡ numbered k .joint .asked
+unfolding numbered never unjoined byY marked yUm sUn yUz sUnUz lAr nUz DUr cAsInA yDU ysA ymUs yken
+numbered-asked k =
+    let H : Mark → Type 0 = λ m. (eqb k 1 || eqb k 3) || ((eqb k 9 || eqb k 10) || (eqb k 11 || eqb k 12)) ≡ m .joint .asked in
     cond-cases H (eqb k 1) (λ e. rw (eqb-true k 1 e)) (λ e1.
     (cond-cases H (eqb k 2) (λ e. rw (eqb-true k 2 e)) λ e2.
     (cond-cases H (eqb k 3) (λ e. rw (eqb-true k 3 e)) λ e3.
@@ -207,6 +207,32 @@ numbered-joins k =
     (cond-cases H (eqb k 11) (λ e. rw (eqb-true k 11 e)) λ e11.
     (cond-cases H (eqb k 12) (λ e. rw (eqb-true k 12 e)) λ e12.
     rw (e1, e3, e9, e10, e11, e12)))))))))))))
+
+-- a joint that asks for a y, if for a letter
+record YAlone (j : Joint) : Type 0 where
+  is : j .asked ≡ true → j ≡ byY
+
+-- nothing else joins a mark
+pub numbered-byY : (k : ℕ) → numbered k .joint .asked ≡ true → numbered k .joint ≡ byY
+unfolding numbered never unjoined marked yUm sUn yUz sUnUz lAr nUz DUr cAsInA yDU ysA ymUs yken
+numbered-byY k =
+    let H : Mark → Type 0 = λ m. YAlone (m .joint) in
+    let y : YAlone byY = record { is = λ a. refl } in
+    let none : YAlone unjoined = record { is = λ a. absurd (false≢true a) } in
+    let all : YAlone (numbered k .joint) =
+    cond-both H (eqb k 1) _ _ y
+    (cond-both H (eqb k 2) _ _ none
+    (cond-both H (eqb k 3) _ _ y
+    (cond-both H (eqb k 4) _ _ none
+    (cond-both H (eqb k 5) _ _ none
+    (cond-both H (eqb k 6) _ _ none
+    (cond-both H (eqb k 7) _ _ none
+    (cond-both H (eqb k 8) _ _ none
+    (cond-both H (eqb k 9) _ _ y
+    (cond-both H (eqb k 10) _ _ y
+    (cond-both H (eqb k 11) _ _ y
+    (cond-both H (eqb k 12) _ _ y none))))))))))) in
+    all .is
 
 -- ---- numbers ----
 

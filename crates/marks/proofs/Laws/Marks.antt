@@ -1,4 +1,4 @@
--- A mark by its parts: a key searched and an optional y before it, then harmony; and the marks of a group one after the other.
+-- A mark by its parts: a key searched and its joint, then harmony; and the marks of a group one after the other.
 -- Assumes nothing.
 use Prim.Native.Nat.{ℕ, suc, _+_, _≤_, _<_}
 use mathlib.Core.Path.{_≡_, refl, sym, ap, _∙_}
@@ -15,7 +15,7 @@ use Rattle.utf8.specs.Behind.{behind, backBy, Open}
 use Rattle.utf8.proofs.Laws.Behind.{behind-backBy, backBy-add, moveTo-backBy, open-backBy}
 use Rattle.turkish.specs.Letters.{starts}
 use Rattle.turkish.specs.Simple.Harmony.{harmony}
-use Rattle.turkish.specs.Simple.Grammar.{Out, fail, took, more, after, asking, among, optionalY, Mark, markOf}
+use Rattle.turkish.specs.Simple.Grammar.{Out, fail, took, more, after, asking, among, Joint, joining, Mark, markOf}
 use Rattle.turkish.specs.Simple.Pieces.{Trace, none, keeps, total, firstTrace, traceOut, traceOf}
 use Rattle.turkish.proofs.Laws.Outcome.{Gives, unfit, fits}
 use Rattle.turkish.proofs.Laws.Traces.{traceOf-none}
@@ -70,9 +70,9 @@ passes-more w c k (took j f) = ap (λ (r : Cursor). passedTo (r .cursor)) (backB
 
 -- ---- a mark without its harmony test ----
 
-module _ (ks : List (List ℕ)) (joins : Bool) (w : List ℕ) (c : Cursor) {a : Among} (is : a ≡ found ks w c) where
+module _ (ks : List (List ℕ)) (joint : Joint) (w : List ℕ) (c : Cursor) {a : Among} (is : a ≡ found ks w c) where
   -- no key
-  pub keyed-nothing : a ≡ Nothing → notPassed ≡ passes w c (markOf (keyedBy ks joins) (behind w c))
+  pub keyed-nothing : a ≡ Nothing → notPassed ≡ passes w c (markOf (keyedBy ks joint) (behind w c))
   unfolding markOf keyedBy asking after passes found
   keyed-nothing e = rw (foundFrom-none 0 ks w c (sym e ∙ is))
 
@@ -86,18 +86,18 @@ module _ (ks : List (List ℕ)) (joins : Bool) (w : List ℕ) (c : Cursor) {a : 
     pub keyed-open : Open w c → Open w d
     keyed-open o = rw (finds .there) (open-backBy w c (finds .taken) o)
 
-    -- a key, and the optional y before it
-    pub keyed-joined : joins ≡ true → {p : Passed} → p ≡ passes w d (optionalY 0x79 (behind w d)) → p ≡ passes w c (markOf (keyedBy ks joins) (behind w c))
+    -- a key, and the joint before it
+    pub keyed-joined : {p : Passed} → p ≡ passes w d (joining joint (behind w d)) → p ≡ passes w c (markOf (keyedBy ks joint) (behind w c))
     unfolding markOf keyedBy asking after
-    keyed-joined t {p} q =
+    keyed-joined {p} q =
         let k = finds .taken in
-        q ∙ ap (λ (r : Cursor). passes w r (optionalY 0x79 (behind w r))) (finds .there)
-        ∙ ap (λ (cs : List ℕ). passes w (backBy w c k) (optionalY 0x79 cs)) (behind-backBy w c k)
-        ∙ passes-more w c k (optionalY 0x79 (drop k (behind w c))) ∙ sym (rw (finds .takes, t))
+        q ∙ ap (λ (r : Cursor). passes w r (joining joint (behind w r))) (finds .there)
+        ∙ ap (λ (cs : List ℕ). passes w (backBy w c k) (joining joint cs)) (behind-backBy w c k)
+        ∙ passes-more w c k (joining joint (drop k (behind w c))) ∙ sym (rw (finds .takes))
 
     -- a key alone
-    pub keyed-alone : joins ≡ false → passedTo (d .cursor) ≡ passes w c (markOf (keyedBy ks joins) (behind w c))
-    unfolding markOf keyedBy asking after more passes
+    pub keyed-alone : joint .asked ≡ false → passedTo (d .cursor) ≡ passes w c (markOf (keyedBy ks joint) (behind w c))
+    unfolding markOf joining keyedBy asking after more passes
     keyed-alone t =
         let k = finds .taken in
         ap (λ (r : Cursor). passedTo (r .cursor)) (finds .there ∙ ap (backBy w c) (sym (add-zero k))) ∙ sym (rw (finds .takes, t))
@@ -125,9 +125,9 @@ unfolding firstTrace reach
 reach-first w c none q e = let z : _≡_ {A = ℕ} 0 1 = cc in absurd (omega arith)
 reach-first w c (keeps ts f) q e = e
 
--- a mark by its key and optional y, without its harmony test
+-- a mark by its key and joint, without its harmony test
 module _ (w : List ℕ) (c : Cursor) (k : ℕ) {p : Passed} (is : p ≡ passes w c (markOf (unharmonic (numbered k)) (behind w c))) where
-  -- without its key and optional y it keeps nothing
+  -- without its key and joint it keeps nothing
   pub traceOf-not : p .moved ≡ false → traceOf (numbered k) (behind w c) ≡ none
   traceOf-not m =
       traceOf-none (numbered k) (behind w c)

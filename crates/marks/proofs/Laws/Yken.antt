@@ -24,11 +24,11 @@ use Rattle.lent.specs.declared.Over.{Over}
 use Rattle.lent.specs.Over.{over}
 use Rattle.turkish.specs.Letters.{text, fromEnd, any, has, starts}
 use Rattle.turkish.specs.Vowels.{vowels, vowel}
-use Rattle.turkish.specs.Simple.Grammar.{fail, took, more, after, asking, among, optionalY, markOf}
-use Rattle.turkish.specs.Simple.Marks.{marked, yken}
+use Rattle.turkish.specs.Simple.Grammar.{fail, took, more, after, asking, among, optional, joining, markOf}
+use Rattle.turkish.specs.Simple.Marks.{byY, marked, yken}
 use Rattle.letters.specs.declared.passed.Passed.{Passed}
 use Rattle.letters.specs.Passed.{passedTo, notPassed, passes}
-use Rattle.marks.proofs.Laws.OptionalY.{optionalY-getD}
+use Rattle.marks.proofs.Laws.Optional.{optional-getD}
 use Rattle.marks.proofs.Laws.Literal.{ascii, ascii-reverseAux, lastWidth-char, literal-chars}
 
 -- ---- an ASCII literal behind an open record ----
@@ -101,11 +101,11 @@ starts-y (c ∷ cs) = go (eqb c 0x79) refl
     go false e = rw (ne-eqb 0x79 c (λ f. eqb-false c 0x79 e (sym f))) (sym e)
 
 -- yken is `ken` and then an optional y
-markOf-yken : (cs : List ℕ) → markOf yken cs ≡ cond (starts (reverse ken) cs) (more 3 true (optionalY 0x79 (drop 3 cs))) fail
-unfolding markOf yken marked fromEnd text asking among after
+markOf-yken : (cs : List ℕ) → markOf yken cs ≡ cond (starts (reverse ken) cs) (more 3 true (optional y true (drop 3 cs))) fail
+unfolding markOf joining byY yken marked fromEnd text asking among after
 markOf-yken cs = go (starts (reverse ken) cs)
   where
-    go : (t : Bool) → after (cond t (took 3 true) fail) (λ k. optionalY 0x79 (drop k cs)) ≡ cond t (more 3 true (optionalY 0x79 (drop 3 cs))) fail
+    go : (t : Bool) → after (cond t (took 3 true) fail) (λ k. optional y true (drop k cs)) ≡ cond t (more 3 true (optional y true (drop 3 cs))) fail
     go true = refl
     go false = refl
 
@@ -189,7 +189,7 @@ module _ (w : List ℕ) (c : Cursor) (o : Open w c) (k : Over) (is : k ≡ over 
     yken-key : passes w c (markOf yken (behind w c)) ≡ cond (vowel (getD (behind w c) 4 0)) (passedTo (k .here .cursor)) notPassed
     unfolding more passes
     yken-key =
-        rw (markOf-yken (behind w c), ken-starts, optionalY-getD 0x79 (drop 3 (behind w c)), ← starts-y, ← y-starts, getD-drop 3 (behind w c) 1 0, here-backBy)
+        rw (markOf-yken (behind w c), ken-starts, optional-getD 0x79 (drop 3 (behind w c)), ← starts-y, ← y-starts, getD-drop 3 (behind w c) 1 0, here-backBy)
         (go (vowel (getD (behind w c) 4 0)) (cond (k .joined) 1 0))
       where
         go : (t : Bool) (n : ℕ) → passes w c (more 3 true (cond t (took n true) fail)) ≡ cond t (passedTo (backBy w c (3 + n) .cursor)) notPassed

@@ -19,7 +19,7 @@ use Rattle.turkish.specs.Simple.Pieces.{Taken, total, joinedBy, located}
 use Rattle.turkish.specs.Calls.{chars, accepted}
 use Rattle.turkish.specs.PieceCalls.{Span, offset, spanOf, kindNumber, kindJoined, told}
 use Rattle.turkish.proofs.Laws.PieceCounts.{Numbered, Each}
-use Rattle.turkish.proofs.Laws.Joints.{joins, Joint, joint-head, joint-tail}
+use Rattle.turkish.proofs.Laws.Joints.{joins, JoinedAs, joinedAs-head, joinedAs-tail}
 use Rattle.turkish.proofs.Laws.Offsets.{offset-back, joinedBy-byte}
 use Rattle.kinds.specs.Kinds.{kindAt}
 use Rattle.kinds.proofs.Laws.Kinds.{kindNumber-kindAt, kindJoined-kindAt}
@@ -55,7 +55,7 @@ module _ (w : List ℕ) (a : accepted w ≡ true) where
   back-whole n = backBy-back w (length w) (length w) n
 
   -- so are all marks taken one after the other
-  pub told-listed : (n : ℕ) (ts : List Taken) → Each Numbered ts → Joint (drop n (chars w)) ts → n + total ts ≤ length (chars w)
+  pub told-listed : (n : ℕ) (ts : List Taken) → Each Numbered ts → JoinedAs (drop n (chars w)) ts → n + total ts ≤ length (chars w)
       → map told (listed w (backBy w (whole w) n) ts) ≡ map (spanOf w) (located (length (chars w) - n) ts)
   unfolding listed located total
   told-listed n [] s j h = refl
@@ -65,9 +65,9 @@ module _ (w : List ℕ) (a : accepted w ≡ true) where
       let there : backBy w c (t .size) .cursor ≡ back w (length w) (n + t .size) = ap (λ (d : Cursor). d .cursor) next ∙ back-whole (n + t .size) in
       let here : Kept = record { kind = t .kind; joined = t .joined; from = length (chars w) - n; to = length (chars w) - n - t .size } in
       let first : told (pieceOf w (stopOf w c t) (c .cursor)) ≡ spanOf w here =
-      rw (there, back-whole n) (told-piece n t (s t (List·Memᴰ·head refl)) (joint-head j) (omega arith)) in
+      rw (there, back-whole n) (told-piece n t (s t (List·Memᴰ·head refl)) (joinedAs-head j) (omega arith)) in
       let left : length (chars w) - n - t .size ≡ length (chars w) - (n + t .size) = omega arith in
-      let rest : Joint (drop (n + t .size) (chars w)) ts = rw (drop-drop (t .size) n (chars w)) at (joint-tail j) in
+      let rest : JoinedAs (drop (n + t .size) (chars w)) ts = rw (drop-drop (t .size) n (chars w)) at (joinedAs-tail j) in
       let others : map told (listed w (backBy w c (t .size)) ts) ≡ map (spanOf w) (located (length (chars w) - n - t .size) ts) =
       rw (next, left) (told-listed (n + t .size) ts (λ u i. s u (List·Memᴰ·tail i)) rest (omega arith)) in
       ap₂ (λ (p : Span) (ps : List Span). p ∷ ps) first others

@@ -15,7 +15,7 @@ use Rattle.turkish.specs.Calls.{chars, accepted, stageText}
 use Rattle.turkish.specs.PieceCalls.{Span, spanOf, spansOf, told, unused, mostPieces}
 use Rattle.turkish.proofs.Laws.Members.{mem-getD}
 use Rattle.turkish.proofs.Laws.PieceCounts.{stageMarks-most, stageMarks-numbered}
-use Rattle.turkish.proofs.Laws.Joints.{stageMarks-joint}
+use Rattle.turkish.proofs.Laws.Joints.{stageMarks-joinedAs}
 use Rattle.turkish.proofs.Sizes.{stageText-length}
 use Rattle.turkish.proofs.Source.KeptStage.{keptMarks-simple}
 use Rattle.turkish.proofs.PieceTheorems.{stageMarks-within, at-most-three-pieces, end-to-end, pieces-within, pieces-inside}
@@ -72,7 +72,7 @@ module _ (w : List ℕ) (a : accepted w ≡ true) where
       let cs = chars w in
       let all : length cs - 0 ≡ length cs = omega arith in
       let start = backBy-zero w (whole w) (open-whole w) in
-      let from-end = told-listed w a 0 (marksOf w) (stageMarks-numbered cs) (stageMarks-joint cs) (omega (arith, stageMarks-within cs)) in
+      let from-end = told-listed w a 0 (marksOf w) (stageMarks-numbered cs) (stageMarks-joinedAs cs) (omega (arith, stageMarks-within cs)) in
       (rw start at from-end) ∙ ap (λ (n : ℕ). map (spanOf w) (located n (marksOf w))) all ∙ ap (map (spanOf w)) (sym (keptMarks-simple cs))
 
   -- so are the entries below the count

@@ -6,15 +6,13 @@ use mathlib.Core.Bool.{Bool, true, false, cond, not, _||_, false≢true}
 use mathlib.Core.List.{List, [], _∷_}
 use native.Mathlib.Omega.{arith}
 use lib.ListN.{length, drop}
-use lib.Dec.{eqb}
 use Rattle.turkish.specs.Letters.{text, fromEnd, starts}
-use Rattle.turkish.specs.Vowels.{vowel}
 use Rattle.turkish.specs.Simple.Harmony.{harmony}
-use Rattle.turkish.specs.Simple.Grammar.{Out, fail, took, among, optionalY, markOf, Command, mark, _then_, _or_, nothing, unset, try, run}
-use Rattle.turkish.specs.Simple.Marks.{marked, yUm, sUn, yUz, sUnUz, lAr, nUz, DUr, cAsInA, yDU, ysA, ymUs, yken}
+use Rattle.turkish.specs.Simple.Grammar.{Out, fail, took, among, Joint, joining, markOf, Command, mark, _then_, _or_, nothing, unset, try, run}
+use Rattle.turkish.specs.Simple.Marks.{unjoined, byY, marked, yUm, sUn, yUz, sUnUz, lAr, nUz, DUr, cAsInA, yDU, ysA, ymUs, yken}
 use Rattle.turkish.specs.Simple.Stage.{person, branch1, branch2, branch3, branch4, branch5, branch6, branches, staged, stage}
 use Rattle.turkish.specs.Fronts.{mostRemoved}
-use Rattle.turkish.proofs.Laws.Outcome.{Post, unfit, fits, post-map, post-first, post-asking, post-cond, post-then}
+use Rattle.turkish.proofs.Laws.Outcome.{Post, unfit, fits, post-map, post-first, post-asking, post-cond, post-then, post-joining}
 
 -- ---- the bounds ----
 
@@ -30,7 +28,7 @@ shortest (k ∷ ks) = min (length k) (shortest ks)
 -- a command takes at most so many characters
 unfoldable pub most : Command → ℕ
 unfolding longest
-most (mark m) = longest (m .keys) + cond (m .joins) 1 0
+most (mark m) = longest (m .keys) + cond (m .joint .asked) 1 0
 most (p then q) = most p + most q
 most (p or q) = max (most p) (most q)
 most nothing = 0
@@ -61,29 +59,16 @@ among-between (k ∷ ks) cs = post-cond (starts k cs) (fits (length k) (omega ar
 pub among-most : (ks : List (List ℕ)) (cs : List ℕ) → Post (λ k. k ≤ longest ks) (among ks cs)
 among-most ks cs = post-map (λ k f h. h .1) (among-between ks cs)
 
--- a test counts at most one
-one-at-most : (t : Bool) → cond t 1 0 ≤ 1
-one-at-most true = omega arith
-one-at-most false = omega arith
-
--- an optional y takes at most one character
-optionalY-between : (y : ℕ) (cs : List ℕ) → Post (Between 0 1) (optionalY y cs)
-unfolding optionalY
-optionalY-between y [] = unfit
-optionalY-between y (c ∷ []) = unfit
-optionalY-between y (c ∷ v ∷ cs) = post-cond (vowel v) (fits (cond (eqb c y) 1 0) (omega (arith, one-at-most (eqb c y)))) unfit
-
--- and a mark that does not join takes none
-joins-between : (j : Bool) (cs : List ℕ) → Post (Between 0 (cond j 1 0)) (cond j (optionalY 0x79 cs) (took 0 true))
-joins-between true cs = optionalY-between 0x79 cs
-joins-between false cs = fits 0 (omega arith)
+-- a joint takes at most one character, and none where it asks for none
+joining-between : (j : Joint) (cs : List ℕ) → Post (Between 0 (cond (j .asked) 1 0)) (joining j cs)
+joining-between j cs = post-joining j cs (λ a. omega arith) (λ c d ds a e. (omega arith, λ h. rw a (omega arith)))
 
 -- a command takes what is computed for it
 run-between : (p : Command) (cs : List ℕ) → Post (Between (least p) (most p)) (run p cs)
 unfolding run markOf least most
 run-between (mark m) cs =
     post-asking (not (m .harmonic) || harmony cs) λ t.
-    (post-then (among-between (m .keys) cs) (λ k f h. post-map (λ j f i. omega arith) (joins-between (m .joins) (drop k cs))))
+    (post-then (among-between (m .keys) cs) (λ k f h. post-map (λ j f i. omega arith) (joining-between (m .joint) (drop k cs))))
 run-between (p then q) cs = post-then (run-between p cs) (λ k f h. post-map (λ j f i. omega arith) (run-between q (drop k cs)))
 run-between (p or q) cs = post-first (post-map (λ k f h. omega arith) (run-between p cs)) (post-map (λ k f h. omega arith) (run-between q cs))
 run-between nothing cs = fits 0 (omega arith)
@@ -101,7 +86,7 @@ run-least p cs = post-map (λ k f h. h .0) (run-between p cs)
 
 -- the stage's command takes at least one character and at most 15
 branches-between : (least branches ≡ 1) × (most branches ≡ mostRemoved)
-unfolding mostRemoved least most branches branch1 branch2 branch3 branch4 branch5 branch6 person try marked yUm sUn yUz sUnUz lAr nUz DUr cAsInA yDU ysA ymUs yken fromEnd text
+unfolding mostRemoved least most branches branch1 branch2 branch3 branch4 branch5 branch6 person try unjoined byY marked yUm sUn yUz sUnUz lAr nUz DUr cAsInA yDU ysA ymUs yken fromEnd text
 branches-between = (refl, refl)
 
 -- so does the stage where it says yes

@@ -14,7 +14,7 @@ use Rattle.turkish.specs.Simple.Pieces.{Taken, total, located}
 use Rattle.turkish.specs.Calls.{chars, accepted}
 use Rattle.turkish.specs.PieceCalls.{Span, offset, spanOf}
 use Rattle.turkish.proofs.Laws.PieceCounts.{Numbered, Each}
-use Rattle.turkish.proofs.Laws.Joints.{joins, Joint, joint-head, joint-tail}
+use Rattle.turkish.proofs.Laws.Joints.{joins, JoinedAs, joinedAs-head, joinedAs-tail}
 use Rattle.turkish.proofs.Laws.Offsets.{offset-back, joinedBy-byte}
 
 -- the joining that a kind and a first letter tell
@@ -26,7 +26,7 @@ abbrev pub ToldByLetter : List ℕ → Span → Type 0
 ToldByLetter w p = p .joined ≡ tellJoined (p .kind) (getD w (p .first) 0)
 
 -- marks taken one after the other from the nearest n characters on joined as their first letters tell
-pub located-told : (w : List ℕ) → accepted w ≡ true → (n : ℕ) (ts : List Taken) → Each Numbered ts → Joint (drop n (chars w)) ts
+pub located-told : (w : List ℕ) → accepted w ≡ true → (n : ℕ) (ts : List Taken) → Each Numbered ts → JoinedAs (drop n (chars w)) ts
     → n + total ts ≤ length (chars w) → (p : Span) → List·Memᴰ p (map (spanOf w) (located (length (chars w) - n) ts)) → ToldByLetter w p
 unfolding located total spanOf tellJoined
 located-told w a n [] s j h p i = absurd (List·Memᴰ·not-nil i)
@@ -35,7 +35,7 @@ located-told w a n (t ∷ ts) s j h p i =
     let to : length (chars w) - n - t .size ≡ length (chars w) - m = omega arith in
     let one = s t (List·Memᴰ·head refl) .some in
     let first : t .joined ≡ tellJoined (t .kind) (getD w (offset w (length (chars w) - n - t .size)) 0) =
-    rw (to, offset-back w m a) (joint-head j ∙ joinedBy-byte w (joins (t .kind)) n (t .size) a one (omega arith)) in
-    let rest : Joint (drop m (chars w)) ts = rw (drop-drop (t .size) n (chars w)) at (joint-tail j) in
+    rw (to, offset-back w m a) (joinedAs-head j ∙ joinedBy-byte w (joins (t .kind)) n (t .size) a one (omega arith)) in
+    let rest : JoinedAs (drop m (chars w)) ts = rw (drop-drop (t .size) n (chars w)) at (joinedAs-tail j) in
     let others = located-told w a m ts (λ u k. s u (List·Memᴰ·tail k)) rest (omega arith) p in
     ⊎-elim (λ e. rw e first) (λ k. others (rw to at k)) (List·Memᴰ·cases-cons i)

@@ -2,17 +2,15 @@
 -- branches. Assumes nothing.
 use Prim.Native.Nat.{ℕ}
 use mathlib.Core.Path.{_≡_, refl}
-use mathlib.Core.Bool.{Bool, true, false, cond, not, _&&_, _||_, false≢true}
+use mathlib.Core.Bool.{Bool, true, false, not, _&&_, _||_, false≢true}
 use mathlib.Core.List.{List, [], _∷_}
 use lib.ListN.{length, drop}
-use lib.Dec.{eqb}
 use Rattle.encoding.proofs.Laws.Booleans.{and-left, and-right, and-false}
 use Rattle.turkish.specs.Letters.{starts}
-use Rattle.turkish.specs.Vowels.{vowel}
 use Rattle.turkish.specs.Simple.Harmony.{harmony}
-use Rattle.turkish.specs.Simple.Grammar.{Out, fail, took, after, among, optionalY, markOf, Command, mark, _then_, _or_, nothing, unset, try, run}
+use Rattle.turkish.specs.Simple.Grammar.{Out, fail, took, after, among, markOf, Command, mark, _then_, _or_, nothing, unset, try, run}
 use Rattle.turkish.specs.Simple.Stage.{person, branch1, branch2, branch3, branch4, branch5, branch6}
-use Rattle.turkish.proofs.Laws.Outcome.{Flagged, unfit, fits, post-map, post-first, post-asking, post-cond, post-more, post-then}
+use Rattle.turkish.proofs.Laws.Outcome.{Flagged, unfit, fits, post-map, post-first, post-asking, post-cond, post-more, post-then, post-joining}
 
 -- ---- a flag left true ----
 
@@ -25,13 +23,6 @@ flagged-among : (ks : List (List ℕ)) (cs : List ℕ) → Flagged true (among k
 unfolding among
 flagged-among [] cs = unfit
 flagged-among (k ∷ ks) cs = post-cond (starts k cs) (fits (length k) refl) (flagged-among ks cs)
-
--- by an optional y
-flagged-optionalY : (y : ℕ) (cs : List ℕ) → Flagged true (optionalY y cs)
-unfolding optionalY
-flagged-optionalY y [] = unfit
-flagged-optionalY y (c ∷ []) = unfit
-flagged-optionalY y (c ∷ v ∷ cs) = post-cond (vowel v) (fits (cond (eqb c y) 1 0) refl) unfit
 
 -- a command without `unset`
 keeps : Command → Bool
@@ -46,7 +37,7 @@ keeps-flag : (p : Command) (cs : List ℕ) → keeps p ≡ true → Flagged true
 unfolding keeps run markOf
 keeps-flag (mark m) cs e =
     post-asking (not (m .harmonic) || harmony cs) λ t.
-    flagged-after (flagged-among (m .keys) cs) (λ k. post-cond (m .joins) (flagged-optionalY 0x79 (drop k cs)) (fits 0 refl))
+    flagged-after (flagged-among (m .keys) cs) (λ k. post-joining (m .joint) (drop k cs) (λ a. refl) (λ c d ds a e. (refl, λ h. refl)))
 keeps-flag (p then q) cs e =
     flagged-after (keeps-flag p cs (and-left (keeps p) (keeps q) e)) (λ k. keeps-flag q (drop k cs) (and-right (keeps p) (keeps q) e))
 keeps-flag (p or q) cs e =

@@ -8,7 +8,7 @@ use lib.Seq.{drop-drop}
 use lib.Dec.{eqb}
 use Rattle.encoding.proofs.Laws.Booleans.{and-left, and-right}
 use Rattle.turkish.specs.Simple.Grammar.{Mark, Command, mark, _then_, _or_, nothing, unset, try, run}
-use Rattle.turkish.specs.Simple.Marks.{marked, yUm, sUn, yUz, sUnUz, lAr, nUz, DUr, cAsInA, yDU, ysA, ymUs, yken}
+use Rattle.turkish.specs.Simple.Marks.{unjoined, byY, marked, yUm, sUn, yUz, sUnUz, lAr, nUz, DUr, cAsInA, yDU, ysA, ymUs, yken}
 use Rattle.turkish.specs.Simple.Stage.{person, branch1, branch2, branch3, branch4, branch5, branch6, branches}
 use Rattle.turkish.specs.Simple.Pieces.{Taken, total, joinedBy, traceOf, trace, stageMarks}
 use Rattle.turkish.proofs.Laws.Outcome.{post-map}
@@ -20,31 +20,31 @@ unfoldable pub joins : ℕ → Bool
 joins k = (eqb k 1 || eqb k 3) || ((eqb k 9 || eqb k 10) || (eqb k 11 || eqb k 12))
 
 -- of marks taken one after the other before a place, each joined as its number and its first letter say
-pub data Joint : List ℕ → List Taken → Type 0 where
-  none : {cs : List ℕ} → Joint cs []
-  one : {cs : List ℕ} (t : Taken) {ts : List Taken} → t .joined ≡ joinedBy (joins (t .kind)) (t .size) cs → Joint (drop (t .size) cs) ts → Joint cs (t ∷ ts)
+pub data JoinedAs : List ℕ → List Taken → Type 0 where
+  none : {cs : List ℕ} → JoinedAs cs []
+  one : {cs : List ℕ} (t : Taken) {ts : List Taken} → t .joined ≡ joinedBy (joins (t .kind)) (t .size) cs → JoinedAs (drop (t .size) cs) ts → JoinedAs cs (t ∷ ts)
 
 module _ {cs : List ℕ} {t : Taken} {ts : List Taken} where
   -- so did the first of them
-  pub joint-head : Joint cs (t ∷ ts) → t .joined ≡ joinedBy (joins (t .kind)) (t .size) cs
-  joint-head (one u e j) = e
+  pub joinedAs-head : JoinedAs cs (t ∷ ts) → t .joined ≡ joinedBy (joins (t .kind)) (t .size) cs
+  joinedAs-head (one u e j) = e
 
   -- and the others, from where it ends
-  pub joint-tail : Joint cs (t ∷ ts) → Joint (drop (t .size) cs) ts
-  joint-tail (one u e j) = j
+  pub joinedAs-tail : JoinedAs cs (t ∷ ts) → JoinedAs (drop (t .size) cs) ts
+  joinedAs-tail (one u e j) = j
 
 -- marks taken and then more, from where the first ones end
-joint-append : {cs : List ℕ} {ts us : List Taken} → Joint cs ts → Joint (drop (total ts) cs) us → Joint cs (ts ++ us)
+joinedAs-append : {cs : List ℕ} {ts us : List Taken} → JoinedAs cs ts → JoinedAs (drop (total ts) cs) us → JoinedAs cs (ts ++ us)
 unfolding total
-joint-append none y = y
-joint-append {cs} {us = us} (one t {ts} e x) y = one t e (joint-append {us = us} x (subst (λ (ds : List ℕ). Joint ds us) (sym (drop-drop (total ts) (t .size) cs)) y))
+joinedAs-append none y = y
+joinedAs-append {cs} {us = us} (one t {ts} e x) y = one t e (joinedAs-append {us = us} x (subst (λ (ds : List ℕ). JoinedAs ds us) (sym (drop-drop (total ts) (t .size) cs)) y))
 
 -- a mark of the grammar whose number says whether an optional y joins it
 agrees : Bool → Bool → Bool
 agrees a b = cond a b (not b)
 
 says : Mark → Bool
-says m = agrees (m .joins) (joins (m .kind))
+says m = agrees (m .joint .asked) (joins (m .kind))
 
 -- two answers that agree are equal
 agrees-equal : (a b : Bool) → agrees a b ≡ true → a ≡ b
@@ -55,30 +55,30 @@ agrees-equal false true e = e
 agrees-equal false false e = refl
 
 -- such a mark joins as its number says
-mark-joint : (m : Mark) (cs : List ℕ) → says m ≡ true → Keeping (Joint cs) (traceOf m cs)
+mark-joinedAs : (m : Mark) (cs : List ℕ) → says m ≡ true → Keeping (JoinedAs cs) (traceOf m cs)
 unfolding traceOf run says
-mark-joint m cs e =
-    let j = agrees-equal (m .joins) (joins (m .kind)) e in
+mark-joinedAs m cs e =
+    let j = agrees-equal (m .joint .asked) (joins (m .kind)) e in
     keeping-mark m cs (post-map (λ k f h. one _ (ap (λ (b : Bool). joinedBy b k cs) j) none) (run-least (mark m) cs))
 
 -- and so do the marks that a command of such marks keeps
-trace-joint : (p : Command) (cs : List ℕ) → everyMark says p ≡ true → Keeping (Joint cs) (trace p cs)
+trace-joinedAs : (p : Command) (cs : List ℕ) → everyMark says p ≡ true → Keeping (JoinedAs cs) (trace p cs)
 unfolding trace everyMark
-trace-joint (mark m) cs e = mark-joint m cs e
-trace-joint (p then q) cs e =
-    keeping-after (λ k. trace q (drop k cs)) (trace-joint p cs (and-left (everyMark says p) (everyMark says q) e)) λ ts x.
-    keeping-map (λ us y. joint-append x y) (trace-joint q (drop (total ts) cs) (and-right (everyMark says p) (everyMark says q) e))
-trace-joint (p or q) cs e =
-    keeping-first (trace-joint p cs (and-left (everyMark says p) (everyMark says q) e)) (trace-joint q cs (and-right (everyMark says p) (everyMark says q) e))
-trace-joint nothing cs e = keeping [] none
-trace-joint unset cs e = keeping [] none
+trace-joinedAs (mark m) cs e = mark-joinedAs m cs e
+trace-joinedAs (p then q) cs e =
+    keeping-after (λ k. trace q (drop k cs)) (trace-joinedAs p cs (and-left (everyMark says p) (everyMark says q) e)) λ ts x.
+    keeping-map (λ us y. joinedAs-append x y) (trace-joinedAs q (drop (total ts) cs) (and-right (everyMark says p) (everyMark says q) e))
+trace-joinedAs (p or q) cs e =
+    keeping-first (trace-joinedAs p cs (and-left (everyMark says p) (everyMark says q) e)) (trace-joinedAs q cs (and-right (everyMark says p) (everyMark says q) e))
+trace-joinedAs nothing cs e = keeping [] none
+trace-joinedAs unset cs e = keeping [] none
 
 -- the stage's marks say so
 branches-say : everyMark says branches ≡ true
-unfolding everyMark says agrees joins branches branch1 branch2 branch3 branch4 branch5 branch6 person try marked yUm sUn yUz sUnUz lAr nUz DUr cAsInA yDU ysA ymUs yken
+unfolding everyMark says agrees joins branches branch1 branch2 branch3 branch4 branch5 branch6 person try unjoined byY marked yUm sUn yUz sUnUz lAr nUz DUr cAsInA yDU ysA ymUs yken
 branches-say = refl
 
 -- so every mark that the stage keeps joined as its number and its first letter say
-pub stageMarks-joint : (cs : List ℕ) → Joint cs (stageMarks cs)
+pub stageMarks-joinedAs : (cs : List ℕ) → JoinedAs cs (stageMarks cs)
 unfolding stageMarks
-stageMarks-joint cs = keeping-taken none (trace-joint branches cs branches-say)
+stageMarks-joinedAs cs = keeping-taken none (trace-joinedAs branches cs branches-say)

@@ -9,7 +9,7 @@ use Rattle.turkish.proofs.Laws.Outcome.{Post, unfit, fits}
 
 -- a mark that took k of these characters
 abbrev pub takenBy : Mark → List ℕ → ℕ → Taken
-takenBy m cs k = record { kind = m .kind; size = k; joined = joinedBy (m .joins) k cs }
+takenBy m cs k = record { kind = m .kind; size = k; joined = joinedBy (m .joint .asked) k cs }
 
 -- an answer that fails, or of whose marks P holds
 pub data Keeping (P : List Taken → Type 0) : Trace → Type 0 where

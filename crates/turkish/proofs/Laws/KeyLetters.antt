@@ -1,8 +1,8 @@
--- The characters that a command takes are letters of its marks' keys, and the y that joins one: a test that all these pass, every
+-- The characters that a command takes are letters of its marks' keys and of their joints: a test that all these pass, every
 -- character taken passes. So no byte of what the stage removes is an LF. Assumes nothing.
 use Prim.Native.Nat.{ℕ, _+_, _≤_, _<_}
 use mathlib.Core.Path.{_≡_, refl, sym}
-use mathlib.Core.Bool.{Bool, true, cond, not, _&&_, _||_, false≢true}
+use mathlib.Core.Bool.{Bool, true, not, _&&_, _||_, false≢true}
 use mathlib.Core.List.{List, [], _∷_, cons-eq-cons}
 use native.Mathlib.Omega.{arith}
 use lib.ListN.{length, take, drop}
@@ -13,15 +13,15 @@ use Rattle.encoding.specs.Encoding.{encode, encodeAll}
 use Rattle.encoding.proofs.Laws.Booleans.{and-left, and-right, cond-test}
 use Rattle.encoding.proofs.Laws.Encoding.{encode-elim}
 use Rattle.turkish.specs.Letters.{text, lf, fromEnd, starts}
-use Rattle.turkish.specs.Vowels.{vowel}
 use Rattle.turkish.specs.Simple.Harmony.{harmony}
-use Rattle.turkish.specs.Simple.Grammar.{Out, among, optionalY, markOf, Command, mark, _then_, _or_, nothing, unset, try, run}
-use Rattle.turkish.specs.Simple.Marks.{marked, yUm, sUn, yUz, sUnUz, lAr, nUz, DUr, cAsInA, yDU, ysA, ymUs, yken}
+use Rattle.turkish.specs.Simple.Grammar.{Out, among, Joint, joining, markOf, Command, mark, _then_, _or_, nothing, unset, try, run}
+use Rattle.turkish.specs.Simple.Marks.{unjoined, byY, marked, yUm, sUn, yUz, sUnUz, lAr, nUz, DUr, cAsInA, yDU, ysA, ymUs, yken}
 use Rattle.turkish.specs.Simple.Stage.{person, branch1, branch2, branch3, branch4, branch5, branch6, branches, staged, stage}
 use Rattle.turkish.specs.Calls.{bytes}
-use Rattle.turkish.proofs.Laws.Outcome.{Post, unfit, fits, post-map, post-first, post-asking, post-cond, post-then}
-use Rattle.turkish.proofs.Laws.Tests.{every}
+use Rattle.turkish.proofs.Laws.Outcome.{Post, unfit, fits, post-map, post-first, post-asking, post-then, post-joining}
+use Rattle.turkish.proofs.Laws.Tests.{every, every-at}
 use Rattle.turkish.proofs.Laws.Members.{every-append, without, without-append}
+use Rattle.turkish.proofs.Laws.Vowels.{has-member}
 use Rattle.turkish.proofs.Laws.Words.{bytes-cons}
 
 -- ---- a command ----
@@ -34,9 +34,9 @@ starts-take (x ∷ k) [] e = absurd (false≢true e)
 starts-take (x ∷ k) (c ∷ cs) e =
     cons-eq-cons .1 (sym (eqb-true x c (and-left (eqb x c) (starts k cs) e)), starts-take k cs (and-right (eqb x c) (starts k cs) e))
 
--- the letters of every key that stands in a command pass a test
+-- the letters of every key and joint that stand in a command pass a test
 keysPass : (ℕ → Bool) → Command → Bool
-keysPass f (mark m) = every (every f) (m .keys)
+keysPass f (mark m) = every (every f) (m .keys) && every f (m .joint .letters)
 keysPass f (p then q) = keysPass f p && keysPass f q
 keysPass f (p or q) = keysPass f p && keysPass f q
 keysPass f nothing = true
@@ -60,43 +60,39 @@ module _ (f : ℕ → Bool) where
   passes-then : (k j : ℕ) (cs : List ℕ) → Passes cs k → Passes (drop k cs) j → Passes cs (k + j)
   passes-then k j cs p q = rw (take-add, every-append, p, q)
 
-  module _ (y : f 0x79 ≡ true) where
-    -- an optional y takes a y or nothing
-    optionalY-passes : (cs : List ℕ) → Post (Passes cs) (optionalY 0x79 cs)
-    unfolding optionalY every
-    optionalY-passes [] = unfit
-    optionalY-passes (c ∷ []) = unfit
-    optionalY-passes (c ∷ v ∷ cs) =
-        let passed : Passes (c ∷ v ∷ cs) (cond (eqb c 0x79) 1 0) = cond-test (Passes (c ∷ v ∷ cs)) (eqb c 0x79) (λ e. rw (eqb-true c 0x79 e, y)) refl in
-        post-cond (vowel v) (fits (cond (eqb c 0x79) 1 0) passed) unfit
+  -- a joint takes one of its letters or nothing
+  joining-passes : (j : Joint) (cs : List ℕ) → every f (j .letters) ≡ true → Post (Passes cs) (joining j cs)
+  unfolding every
+  joining-passes j cs h = post-joining j cs (λ a. refl) (λ c d ds a e. (refl, λ l. rw (e, every-at f h (has-member (j .letters) c l))))
 
-    -- a command whose keys' letters pass takes characters that pass
-    run-passes : (p : Command) (cs : List ℕ) → keysPass f p ≡ true → Post (Passes cs) (run p cs)
-    unfolding run markOf keysPass every
-    run-passes (mark m) cs h =
-        post-asking (not (m .harmonic) || harmony cs) λ t.
-        post-then (among-passes (m .keys) cs h) λ k g p.
-        post-map (λ j g q. passes-then k j cs p q) (post-cond (m .joins) (optionalY-passes (drop k cs)) (fits 0 refl))
-    run-passes (p then q) cs h =
-        post-then (run-passes p cs (and-left (keysPass f p) (keysPass f q) h)) λ k g a.
-        post-map (λ j g b. passes-then k j cs a b) (run-passes q (drop k cs) (and-right (keysPass f p) (keysPass f q) h))
-    run-passes (p or q) cs h =
-        post-first (run-passes p cs (and-left (keysPass f p) (keysPass f q) h)) (run-passes q cs (and-right (keysPass f p) (keysPass f q) h))
-    run-passes nothing cs h = fits 0 refl
-    run-passes unset cs h = fits 0 refl
+  -- a command whose keys' and joints' letters pass takes characters that pass
+  run-passes : (p : Command) (cs : List ℕ) → keysPass f p ≡ true → Post (Passes cs) (run p cs)
+  unfolding run markOf keysPass every
+  run-passes (mark m) cs h =
+      post-asking (not (m .harmonic) || harmony cs) λ t.
+      post-then (among-passes (m .keys) cs (and-left (every (every f) (m .keys)) (every f (m .joint .letters)) h)) λ k g p.
+      post-map (λ j g q. passes-then k j cs p q)
+      (joining-passes (m .joint) (drop k cs) (and-right (every (every f) (m .keys)) (every f (m .joint .letters)) h))
+  run-passes (p then q) cs h =
+      post-then (run-passes p cs (and-left (keysPass f p) (keysPass f q) h)) λ k g a.
+      post-map (λ j g b. passes-then k j cs a b) (run-passes q (drop k cs) (and-right (keysPass f p) (keysPass f q) h))
+  run-passes (p or q) cs h =
+      post-first (run-passes p cs (and-left (keysPass f p) (keysPass f q) h)) (run-passes q cs (and-right (keysPass f p) (keysPass f q) h))
+  run-passes nothing cs h = fits 0 refl
+  run-passes unset cs h = fits 0 refl
 
 -- ---- the stage ----
 
--- no key of the stage has an LF
+-- no key or joint of the stage has an LF
 branches-pass : keysPass (λ c. not (eqb c lf)) branches ≡ true
-unfolding keysPass every lf branches branch1 branch2 branch3 branch4 branch5 branch6 person try marked yUm sUn yUz sUnUz lAr nUz DUr cAsInA
+unfolding keysPass every lf branches branch1 branch2 branch3 branch4 branch5 branch6 person try unjoined byY marked yUm sUn yUz sUnUz lAr nUz DUr cAsInA
     yDU ysA ymUs yken fromEnd text
 branches-pass = refl
 
 -- so no character that the stage removes is an LF
 without-removed : (cs : List ℕ) → without lf (take (stage cs .removed) cs) ≡ true
 unfolding stage without
-without-removed cs = go (run-passes (λ c. not (eqb c lf)) (unfold lf in refl) branches cs branches-pass)
+without-removed cs = go (run-passes (λ c. not (eqb c lf)) branches cs branches-pass)
   where
     go : {o : Out} → Post (Passes (λ c. not (eqb c lf)) cs) o → Passes (λ c. not (eqb c lf)) cs (staged o .removed)
     go unfit = unfold staged every in refl

@@ -1,7 +1,7 @@
 -- How many characters a command leaves at least, one or none, computed from the command; so neither it nor the stage ever takes more
 -- than there are. Assumes nothing.
 use Prim.Native.Nat.{ℕ, _+_, _≤_, min}
-use mathlib.Core.Path.{_≡_, refl, sym}
+use mathlib.Core.Path.{_≡_, refl, sym, ap}
 use mathlib.Core.Bool.{Bool, true, false, cond, not, _&&_, _||_, or-true, false≢true}
 use mathlib.Core.List.{List, [], _∷_}
 use native.Mathlib.Omega.{arith}
@@ -11,12 +11,11 @@ use borrow.Author.Tests.{eqb-true, eq-eqb}
 use Rattle.utf8.specs.Steps.{same}
 use Rattle.encoding.proofs.Laws.Booleans.{and-left, and-right}
 use Rattle.turkish.specs.Letters.{starts}
-use Rattle.turkish.specs.Vowels.{vowel}
 use Rattle.turkish.specs.Simple.Harmony.{harmony}
-use Rattle.turkish.specs.Simple.Grammar.{Out, took, among, optionalY, Mark, markOf, Command, mark, _then_, _or_, nothing, unset, run}
+use Rattle.turkish.specs.Simple.Grammar.{Out, took, among, joining, Mark, markOf, Command, mark, _then_, _or_, nothing, unset, run}
 use Rattle.turkish.specs.Simple.Stage.{branches, staged, stage}
 use Rattle.turkish.specs.Fronts.{oneOf}
-use Rattle.turkish.proofs.Laws.Outcome.{Post, unfit, fits, post-map, post-first, post-cond, post-asking, post-then}
+use Rattle.turkish.proofs.Laws.Outcome.{Post, unfit, fits, post-map, post-first, post-asking, post-then, post-joining}
 use Rattle.turkish.proofs.Laws.Tests.{every}
 use Rattle.turkish.proofs.Laws.Same.{oneOf-every}
 
@@ -43,24 +42,19 @@ among-leaves (k ∷ ks) cs n b h = go (starts k cs) refl (among-leaves ks cs n b
     go true e r = fits (length k) (starts-leaves k cs n b (λ s. h (rw s)) e)
     go false e r = r
 
--- an optional y leaves the vowel before it
-optionalY-leaves : (y : ℕ) (cs : List ℕ) → Post (λ j. j + 1 ≤ length cs) (optionalY y cs)
-unfolding optionalY
-optionalY-leaves y [] = unfit
-optionalY-leaves y (c ∷ []) = unfit
-optionalY-leaves y (c ∷ v ∷ cs) =
-    post-cond (vowel v) (fits _ (elim (eqb c y) as (λ t. cond t 1 0 + 1 ≤ length (c ∷ v ∷ cs)) [ true ↦ omega arith | false ↦ omega arith ])) unfit
-
--- a mark leaves a character where it joins, and unless the text passes its test and is one of its keys
+-- a mark leaves a character where its joint asks for one, and unless the text passes its test and is one of its keys
 pub mark-leaves : (m : Mark) (cs : List ℕ) (n : ℕ) → n ≤ 1 → (not (m .harmonic) || harmony cs ≡ true → oneOf (m .keys) cs ≡ true → n ≡ 0)
-    → Post (λ k. k + cond (m .joins) 1 n ≤ length cs) (markOf m cs)
+    → Post (λ k. k + cond (m .joint .asked) 1 n ≤ length cs) (markOf m cs)
 unfolding markOf
 mark-leaves m cs n b h =
-    post-asking (not (m .harmonic) || harmony cs) (λ t. post-then (among-leaves (m .keys) cs n b (h t)) (go (m .joins)))
+    post-asking (not (m .harmonic) || harmony cs) (λ t. post-then (among-leaves (m .keys) cs n b (h t)) go)
   where
-    go : (t : Bool) (k : ℕ) (f : Bool) → k + n ≤ length cs → Post (λ j. k + j + cond t 1 n ≤ length cs) (cond t (optionalY 0x79 (drop k cs)) (took 0 true))
-    go true k f p = post-map (λ j f q. omega (arith, length-drop k cs)) (optionalY-leaves 0x79 (drop k cs))
-    go false k f p = fits 0 (omega arith)
+    go : (k : ℕ) (f : Bool) → k + n ≤ length cs → Post (λ i. k + i + cond (m .joint .asked) 1 n ≤ length cs) (joining (m .joint) (drop k cs))
+    go k f p =
+        post-joining (m .joint) (drop k cs) (λ a. rw a (omega arith)) λ c d ds a e.
+        let left = length-drop k cs in
+        let two = ap length e in
+        (rw a (omega arith), λ h. rw a (omega arith))
 
 -- ---- any command on any text ----
 
@@ -68,16 +62,16 @@ mark-leaves m cs n b h =
 unfoldable pub unharmonic : List ℕ → Bool
 unharmonic cs = not (harmony cs)
 
--- the characters that a mark leaves at least: one where it joins, or tests harmony and no key of it has that in itself
+-- the characters that a mark leaves at least: one where its joint asks for one, or it tests harmony and no key of it has that in itself
 unfoldable pub spares : Mark → ℕ
-spares m = cond (m .joins) 1 (cond (m .harmonic && every unharmonic (m .keys)) 1 0)
+spares m = cond (m .joint .asked) 1 (cond (m .harmonic && every unharmonic (m .keys)) 1 0)
 
 -- a mark leaves what it spares
 mark-spares : (m : Mark) (cs : List ℕ) → Post (λ k. k + spares m ≤ length cs) (markOf m cs)
 unfolding spares unharmonic
 mark-spares m cs = go (m .harmonic && every unharmonic (m .keys)) refl
   where
-    go : (t : Bool) → m .harmonic && every unharmonic (m .keys) ≡ t → Post (λ k. k + cond (m .joins) 1 (cond t 1 0) ≤ length cs) (markOf m cs)
+    go : (t : Bool) → m .harmonic && every unharmonic (m .keys) ≡ t → Post (λ k. k + cond (m .joint .asked) 1 (cond t 1 0) ≤ length cs) (markOf m cs)
     go true e =
         let h = and-left (m .harmonic) (every unharmonic (m .keys)) e in
         let u = oneOf-every unharmonic (m .keys) cs (and-right (m .harmonic) (every unharmonic (m .keys)) e) in

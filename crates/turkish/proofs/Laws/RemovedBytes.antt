@@ -2,23 +2,21 @@
 use Prim.Native.Nat.{ℕ, _+_, _≤_, max}
 use mathlib.Core.Path.{_≡_, refl, ap, _∙_, sym}
 use mathlib.Core.Bool.{Bool, true, false, cond, not, _||_}
-use mathlib.Core.List.{List, [], _∷_}
+use mathlib.Core.List.{List, [], _∷_, map, List·Memᴰ, List·Memᴰ·head, List·Memᴰ·tail, Memᴰ·map}
 use native.Mathlib.Omega.{arith}
 use lib.ListN.{length, take, drop, length-append, take-append-drop}
 use lib.Seq.{take-add, take-append-seam}
-use lib.Dec.{eqb}
-use borrow.Author.Tests.{eqb-true}
 use Rattle.encoding.specs.Encoding.{encode, encodeAll}
 use Rattle.encoding.proofs.Laws.Booleans.{cond-test}
 use Rattle.turkish.specs.Letters.{text, fromEnd, starts}
-use Rattle.turkish.specs.Vowels.{vowel}
 use Rattle.turkish.specs.Simple.Harmony.{harmony}
-use Rattle.turkish.specs.Simple.Grammar.{Out, took, among, optionalY, markOf, Command, mark, _then_, _or_, nothing, unset, try, run}
-use Rattle.turkish.specs.Simple.Marks.{marked, yUm, sUn, yUz, sUnUz, lAr, nUz, DUr, cAsInA, yDU, ysA, ymUs, yken}
+use Rattle.turkish.specs.Simple.Grammar.{Out, among, Joint, joining, markOf, Command, mark, _then_, _or_, nothing, unset, try, run}
+use Rattle.turkish.specs.Simple.Marks.{unjoined, byY, marked, yUm, sUn, yUz, sUnUz, lAr, nUz, DUr, cAsInA, yDU, ysA, ymUs, yken}
 use Rattle.turkish.specs.Simple.Stage.{person, branch1, branch2, branch3, branch4, branch5, branch6, branches, staged, stage, kept}
 use Rattle.turkish.specs.Calls.{chars, bytes, accepted, stageText}
 use Rattle.turkish.specs.PieceCalls.{mostBytes}
-use Rattle.turkish.proofs.Laws.Outcome.{Post, unfit, fits, post-map, post-first, post-asking, post-cond, post-then}
+use Rattle.turkish.proofs.Laws.Outcome.{Post, unfit, fits, post-map, post-first, post-asking, post-then, post-joining}
+use Rattle.turkish.proofs.Laws.Vowels.{has-member}
 use Rattle.turkish.proofs.Laws.Words.{bytes-append}
 use Rattle.turkish.proofs.Laws.Accepted.{bytes-chars}
 use Rattle.turkish.proofs.Laws.Syllables.{starts-split}
@@ -35,9 +33,14 @@ longestBytes : List (List ℕ) → ℕ
 longestBytes [] = 0
 longestBytes (k ∷ ks) = max (length (bytes k)) (longestBytes ks)
 
--- a command takes at most so many bytes: a y that joins has one
+-- of the longest of some letters
+letterBytes : List ℕ → ℕ
+letterBytes cs = longestBytes (map (λ c. c ∷ []) cs)
+
+-- a command takes at most so many bytes: a key and a letter that joins it
 mostTaken : Command → ℕ
-mostTaken (mark m) = longestBytes (m .keys) + cond (m .joins) 1 0
+unfolding letterBytes
+mostTaken (mark m) = longestBytes (m .keys) + cond (m .joint .asked) (letterBytes (m .joint .letters)) 0
 mostTaken (p then q) = mostTaken p + mostTaken q
 mostTaken (p or q) = max (mostTaken p) (mostTaken q)
 mostTaken nothing = 0
@@ -62,30 +65,23 @@ among-bytes (k ∷ ks) cs =
     (λ e. fits (length k) (rw (starts-take k cs e) (omega arith)))
     (post-map (λ j f h. omega arith) (among-bytes ks cs))
 
--- a y has one byte, and where none is taken there is none
-y-bytes : (c : ℕ) (cs : List ℕ) → sizeOf (cond (eqb c 0x79) 1 0) (c ∷ cs) ≤ 1
-unfolding bytes encodeAll encode
-y-bytes c cs = cond-test (λ k. sizeOf k (c ∷ cs) ≤ 1) (eqb c 0x79) (λ e. rw (eqb-true c 0x79 e) (omega arith)) (omega arith)
+-- a key of a table has no more bytes than the longest
+longestBytes-at : {k : List ℕ} {ks : List (List ℕ)} → List·Memᴰ k ks → length (bytes k) ≤ longestBytes ks
+unfolding longestBytes
+longestBytes-at (List·Memᴰ·head {x} {xs} p) = rw p (omega arith)
+longestBytes-at (List·Memᴰ·tail {x} {xs} m) = omega (arith, longestBytes-at m)
 
--- an optional y takes at most one byte
-optionalY-bytes : (cs : List ℕ) → Post (λ k. sizeOf k cs ≤ 1) (optionalY 0x79 cs)
-unfolding optionalY
-optionalY-bytes [] = unfit
-optionalY-bytes (c ∷ []) = unfit
-optionalY-bytes (c ∷ v ∷ cs) = post-cond (vowel v) (fits _ (y-bytes c (v ∷ cs))) unfit
-
--- and a mark that does not join takes none
-joins-bytes : (j : Bool) (cs : List ℕ) → Post (λ k. sizeOf k cs ≤ cond j 1 0) (cond j (optionalY 0x79 cs) (took 0 true))
-unfolding bytes encodeAll
-joins-bytes true cs = optionalY-bytes cs
-joins-bytes false cs = fits 0 (omega arith)
+-- a joint takes at most the bytes of its longest letter, and none where it asks for none
+joining-bytes : (j : Joint) (cs : List ℕ) → Post (λ k. sizeOf k cs ≤ cond (j .asked) (letterBytes (j .letters)) 0) (joining j cs)
+unfolding letterBytes bytes encodeAll
+joining-bytes j cs = post-joining j cs (λ a. omega arith) (λ c d ds a e. (omega arith, λ h. rw (a, e) (longestBytes-at (Memᴰ·map (λ c. c ∷ []) (has-member (j .letters) c h)))))
 
 -- a command takes at most the bytes computed for it
 run-bytes : (p : Command) (cs : List ℕ) → Post (λ k. sizeOf k cs ≤ mostTaken p) (run p cs)
 unfolding run markOf mostTaken bytes encodeAll
 run-bytes (mark m) cs =
     post-asking (not (m .harmonic) || harmony cs) λ t.
-    post-then (among-bytes (m .keys) cs) (λ k f h. post-map (λ j g i. omega (arith, size-add k j cs)) (joins-bytes (m .joins) (drop k cs)))
+    post-then (among-bytes (m .keys) cs) (λ k f h. post-map (λ j g i. omega (arith, size-add k j cs)) (joining-bytes (m .joint) (drop k cs)))
 run-bytes (p then q) cs = post-then (run-bytes p cs) (λ k f h. post-map (λ j g i. omega (arith, size-add k j cs)) (run-bytes q (drop k cs)))
 run-bytes (p or q) cs = post-first (post-map (λ k f h. omega arith) (run-bytes p cs)) (post-map (λ k f h. omega arith) (run-bytes q cs))
 run-bytes nothing cs = fits 0 (omega arith)
@@ -95,8 +91,8 @@ run-bytes unset cs = fits 0 (omega arith)
 
 -- the stage's command takes at most 20 bytes
 branches-bytes : mostTaken branches ≡ mostBytes
-unfolding mostBytes mostTaken longestBytes bytes encodeAll encode branches branch1 branch2 branch3 branch4 branch5 branch6 person try
-    marked yUm sUn yUz sUnUz lAr nUz DUr cAsInA yDU ysA ymUs yken fromEnd text
+unfolding mostBytes mostTaken letterBytes longestBytes bytes encodeAll encode branches branch1 branch2 branch3 branch4 branch5 branch6 person try
+    unjoined byY marked yUm sUn yUz sUnUz lAr nUz DUr cAsInA yDU ysA ymUs yken fromEnd text
 branches-bytes = refl
 
 -- so does the stage, which takes none where it says no

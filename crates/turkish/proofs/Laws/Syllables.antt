@@ -12,8 +12,8 @@ use Rattle.encoding.proofs.Laws.Booleans.{and-left, and-right, cond-test}
 use Rattle.turkish.specs.Letters.{text, fromEnd, any, has, starts}
 use Rattle.turkish.specs.Vowels.{vowels, vowel, lastVowel, beforeLastVowel}
 use Rattle.turkish.specs.Simple.Harmony.{partner, harmony, moreThanOneSyllable}
-use Rattle.turkish.specs.Simple.Grammar.{Out, fail, took, more, after, first, asking, among, optionalY, markOf, Command, mark, _then_, _or_, nothing, unset, try, run}
-use Rattle.turkish.specs.Simple.Marks.{marked, yUm, sUn, yUz, sUnUz, lAr, nUz, DUr, cAsInA, yDU, ysA, ymUs, yken}
+use Rattle.turkish.specs.Simple.Grammar.{Out, fail, more, after, first, asking, among, Joint, optional, joining, markOf, Command, mark, _then_, _or_, nothing, unset, try, run}
+use Rattle.turkish.specs.Simple.Marks.{unjoined, byY, marked, yUm, sUn, yUz, sUnUz, lAr, nUz, DUr, cAsInA, yDU, ysA, ymUs, yken}
 use Rattle.turkish.specs.Simple.Stage.{person, branch1, branch2, branch3, branch4, branch5, branch6, branches, staged, stage}
 use Rattle.turkish.proofs.Laws.Tests.{every}
 use Rattle.turkish.proofs.Laws.Vowels.{partner-vowel}
@@ -59,31 +59,40 @@ moreThanOneSyllable-append (c ∷ cs) ds =
     ≡ (any vowel (cond t cs (beforeLastVowel cs)) || cond (t || any vowel cs) (any vowel ds) (any vowel (beforeLastVowel ds))))
     [ true ↦ any-append vowel cs ds | false ↦ moreThanOneSyllable-append cs ds ]
 
--- without a vowel there is no optional y
-optionalY-no : (y : ℕ) (cs : List ℕ) → any vowel cs ≡ false → optionalY y cs ≡ fail
-unfolding optionalY any
-optionalY-no y [] e = refl
-optionalY-no y (c ∷ []) e = refl
-optionalY-no y (c ∷ v ∷ cs) e = rw (or-no (vowel v) (any vowel cs) .0 (or-no (vowel c) (vowel v || any vowel cs) .0 e .1) .0)
+-- a joint that asks for a vowel
+asksVowel : Joint → Bool
+asksVowel j = j .asked && j .vowelled
 
--- a key has two vowels, or one where an optional y asks for another
-keyTwo : Bool → List ℕ → Bool
-keyTwo joins k = moreThanOneSyllable k || joins && any vowel k
+-- fails where there is none
+joining-no : (j : Joint) (cs : List ℕ) → asksVowel j ≡ true → any vowel cs ≡ false → joining j cs ≡ fail
+unfolding asksVowel joining optional any
+joining-no j cs a e = rw (and-left (j .asked) (j .vowelled) a, and-right (j .asked) (j .vowelled) a) (go cs e)
+  where
+    go : (cs : List ℕ) → any vowel cs ≡ false → optional (j .letters) true cs ≡ fail
+    go [] e = refl
+    go (c ∷ []) e = refl
+    go (c ∷ d ∷ cs) e = rw (or-no (vowel d) (any vowel cs) .0 (or-no (vowel c) (vowel d || any vowel cs) .0 e .1) .0)
+
+-- a key has two vowels, or one where its joint asks for another
+keyTwo : Joint → List ℕ → Bool
+unfolding asksVowel
+keyTwo j k = moreThanOneSyllable k || asksVowel j && any vowel k
 
 -- after such a key the mark fails
-keyTwo-fails : (j : Bool) (k cs : List ℕ) → moreThanOneSyllable cs ≡ false → keyTwo j k ≡ true → starts k cs ≡ true
-    → cond j (optionalY 0x79 (drop (length k) cs)) (took 0 true) ≡ fail
+keyTwo-fails : (j : Joint) (k cs : List ℕ) → moreThanOneSyllable cs ≡ false → keyTwo j k ≡ true → starts k cs ≡ true
+    → joining j (drop (length k) cs) ≡ fail
 unfolding keyTwo
-keyTwo-fails j k cs s t e = go j (moreThanOneSyllable k) (any vowel k) t (sym (moreThanOneSyllable-append k rest) ∙ ap moreThanOneSyllable (starts-split k cs e) ∙ s)
+keyTwo-fails j k cs s t e = go (asksVowel j) refl (moreThanOneSyllable k) (any vowel k) t (sym (moreThanOneSyllable-append k rest) ∙ ap moreThanOneSyllable (starts-split k cs e) ∙ s)
   where
     rest : List ℕ
     rest = drop (length k) cs
 
-    go : (j a b : Bool) → (a || j && b) ≡ true → (a || cond b (any vowel rest) (moreThanOneSyllable rest)) ≡ false → cond j (optionalY 0x79 rest) (took 0 true) ≡ fail
-    go j true b t s = absurd (true≢false s)
-    go true false true t s = optionalY-no 0x79 rest s
-    go true false false t s = absurd (false≢true t)
-    go false false b t s = absurd (false≢true t)
+    go : (v : Bool) → asksVowel j ≡ v → (a b : Bool) → (a || v && b) ≡ true → (a || cond b (any vowel rest) (moreThanOneSyllable rest)) ≡ false
+        → joining j rest ≡ fail
+    go v p true b t s = absurd (true≢false s)
+    go true p false true t s = joining-no j rest p s
+    go true p false false t s = absurd (false≢true t)
+    go false p false b t s = absurd (false≢true t)
 
 -- what fails after every key of a table fails after the table
 after-among : (f : List ℕ → Bool) (ks : List (List ℕ)) (cs : List ℕ) (q : ℕ → Out) → every f ks ≡ true
@@ -100,23 +109,23 @@ after-among f (k ∷ ks) cs q e h =
 -- a command that takes nothing unless there are two vowels: it begins with a mark that tests harmony, or all of whose keys ask for two
 asksTwo : Command → Bool
 unfolding keyTwo
-asksTwo (mark m) = m .harmonic || every (keyTwo (m .joins)) (m .keys)
+asksTwo (mark m) = m .harmonic || every (keyTwo (m .joint)) (m .keys)
 asksTwo (p then q) = asksTwo p
 asksTwo (p or q) = asksTwo p && asksTwo q
 asksTwo nothing = false
 asksTwo unset = false
 
 -- such a mark fails where there are not two vowels
-mark-fails : (h j : Bool) (ks : List (List ℕ)) (cs : List ℕ) → moreThanOneSyllable cs ≡ false → (h || every (keyTwo j) ks) ≡ true
-    → asking (not h || harmony cs) (after (among ks cs) (λ k. cond j (optionalY 0x79 (drop k cs)) (took 0 true))) ≡ fail
+mark-fails : (h : Bool) (j : Joint) (ks : List (List ℕ)) (cs : List ℕ) → moreThanOneSyllable cs ≡ false → (h || every (keyTwo j) ks) ≡ true
+    → asking (not h || harmony cs) (after (among ks cs) (λ k. joining j (drop k cs))) ≡ fail
 unfolding asking
 mark-fails true j ks cs s t = rw (harmony-no cs s)
-mark-fails false j ks cs s t = after-among (keyTwo j) ks cs (λ k. cond j (optionalY 0x79 (drop k cs)) (took 0 true)) t (λ k. keyTwo-fails j k cs s)
+mark-fails false j ks cs s t = after-among (keyTwo j) ks cs (λ k. joining j (drop k cs)) t (λ k. keyTwo-fails j k cs s)
 
 -- and such a command does
 run-fails : (p : Command) (cs : List ℕ) → moreThanOneSyllable cs ≡ false → asksTwo p ≡ true → run p cs ≡ fail
 unfolding run markOf after first asksTwo
-run-fails (mark m) cs s t = mark-fails (m .harmonic) (m .joins) (m .keys) cs s t
+run-fails (mark m) cs s t = mark-fails (m .harmonic) (m .joint) (m .keys) cs s t
 run-fails (p then q) cs s t = rw (run-fails p cs s t)
 run-fails (p or q) cs s t = rw (run-fails p cs s (and-left (asksTwo p) (asksTwo q) t), run-fails q cs s (and-right (asksTwo p) (asksTwo q) t))
 run-fails nothing cs s t = absurd (false≢true t)
@@ -124,7 +133,8 @@ run-fails unset cs s t = absurd (false≢true t)
 
 -- the stage's command is one
 branches-asksTwo : asksTwo branches ≡ true
-unfolding asksTwo every keyTwo moreThanOneSyllable beforeLastVowel any vowel vowels has branches branch1 branch2 branch3 branch4 branch5 branch6 person try marked yUm sUn yUz sUnUz lAr nUz DUr cAsInA yDU ysA ymUs yken fromEnd text
+unfolding asksTwo every keyTwo asksVowel moreThanOneSyllable beforeLastVowel any vowel vowels has branches branch1 branch2 branch3 branch4 branch5 branch6 person
+    try unjoined byY marked yUm sUn yUz sUnUz lAr nUz DUr cAsInA yDU ysA ymUs yken fromEnd text
 branches-asksTwo = refl
 
 -- where the syllable check says no, the stage says no, removes nothing and leaves the flag true

@@ -28,7 +28,7 @@ member-any t (List·Memᴰ·head e) h = rw (← e, h)
 member-any t (List·Memᴰ·tail {x} m) h = rw (member-any t m h) (or-true (t x))
 
 -- what is one of the characters is a member of their list
-has-member : (cs : List ℕ) (c : ℕ) → has cs c ≡ true → List·Memᴰ c cs
+pub has-member : (cs : List ℕ) (c : ℕ) → has cs c ≡ true → List·Memᴰ c cs
 unfolding has
 has-member cs c h = let r = any-member (eqb c) cs h in Memᴰ·cast (eqb-true c (r .0) (r .2)) (r .1)
 

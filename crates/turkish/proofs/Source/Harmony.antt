@@ -1,8 +1,10 @@
--- check_vowel_harmony and mark_suffix_with_optional_y_consonant are the simple forms of Harmony and Grammar. Assumes nothing.
+-- check_vowel_harmony and mark_suffix_with_optional_y_consonant are the simple forms of Harmony and Grammar, and so is any routine that has
+-- the form of the latter. Assumes nothing.
 use Prim.Native.Nat.{ℕ}
 use Prim.Native.String.{String}
 use mathlib.Core.Path.{_≡_, refl, ap, _∙_}
-use mathlib.Core.Bool.{Bool, true, false, cond, _||_, false≢true}
+use mathlib.Core.Bool.{Bool, true, false, cond, _||_, and-true, or-false, false≢true}
+use mathlib.Core.Bool as Bool
 use mathlib.Core.List.{List, [], _∷_}
 use lib.ListN.{length, drop}
 use lib.Dec.{eqb}
@@ -10,8 +12,8 @@ use borrow.Author.Tests.{eqb-true}
 use Rattle.turkish.specs.Letters.{text, fromEnd, any, has, starts}
 use Rattle.turkish.specs.Vowels.{vowels, vowel, lastVowel, beforeLastVowel}
 use Rattle.turkish.specs.Simple.Harmony.{partnerTable, partnersIn, partner, harmony}
-use Rattle.turkish.specs.Simple.Grammar.{Out, fail, took, more, after, first, optionalY}
-use Rattle.turkish.specs.Snowball.{isIn, isLeft, backward, letters, _then_, _or_, test, not, goto, next, literal, grouping}
+use Rattle.turkish.specs.Simple.Grammar.{Out, fail, took, more, after, first, optional}
+use Rattle.turkish.specs.Snowball.{isIn, isLeft, backward, letters, Command, _then_, _or_, test, not, goto, next, literal, grouping}
 use Rattle.turkish.specs.Source.{vowel1, vowel2, vowel3, vowel4, vowel5, vowel6, check-vowel-harmony, mark-suffix-with-optional-y-consonant}
 use Rattle.turkish.specs.Source as Source
 use Rattle.turkish.proofs.Laws.Outcome.{first-fail}
@@ -103,38 +105,64 @@ harmony-means =
     (means-or (alternative "o" vowel5) (means-or (alternative "ö" vowel6) (means-or (alternative "u" vowel5) (alternative "ü" vowel6))))))) in
     means-define _ (means-as (means-test-goto-vowel lines) partners-last)
 
--- ---- the optional y ----
+-- ---- an optional letter ----
 
--- lines 154 and 156
-unfoldable pub joint : List ℕ → Out
-joint cs =
-    first (after (takeIf (starts (letters backward "y") cs) 1) (λ k. peeked (takeIf (isIn vowels (drop k cs)) 1)))
-    (after (denied (peeked (takeIf (starts (letters backward "y") cs) 1)))
-    (λ k. peeked (after (takeIf (isLeft (drop k cs)) 1) (λ j. takeIf (isIn vowels (drop j (drop k cs))) 1))))
+-- a vowel is ahead, or a character that is none
+unfoldable pub vowelOrNot : Bool → List ℕ → Bool
+vowelOrNot vowelled [] = false
+vowelOrNot vowelled (d ∷ ds) = cond vowelled (vowel d) (Bool.not (vowel d))
 
--- with a y and without one, a vowel must be the second character back
-joint-same : (cs : List ℕ) → joint cs ≡ optionalY 0x79 cs
-unfolding joint first after denied peeked takeIf starts letters fromEnd text isIn isLeft optionalY vowel more
-joint-same [] = refl
-joint-same (c ∷ []) = go (eqb 0x79 c) refl
+-- the form of lines 154 and 156: the letter and what must stand before it, or no letter and one character more
+unfoldable withOrWithout : (List ℕ → Bool) → (List ℕ → Bool) → List ℕ → Out
+withOrWithout letter before cs =
+    first (after (takeIf (letter cs) 1) (λ k. peeked (takeIf (before (drop k cs)) 1)))
+    (after (denied (peeked (takeIf (letter cs) 1)))
+    (λ k. peeked (after (takeIf (isLeft (drop k cs)) 1) (λ j. takeIf (before (drop j (drop k cs))) 1))))
+
+-- with a letter and without one, the second character back must be of the right kind
+withOrWithout-same : (ls : List ℕ) (v : Bool) (cs : List ℕ) → withOrWithout (isIn ls) (vowelOrNot v) cs ≡ optional ls v cs
+unfolding withOrWithout first after denied peeked takeIf isIn isLeft vowelOrNot optional more
+withOrWithout-same ls v [] = refl
+withOrWithout-same ls v (c ∷ []) = go (has ls c) refl
   where
-    go : (t : Bool) → eqb 0x79 c ≡ t → joint (c ∷ []) ≡ fail
+    go : (t : Bool) → has ls c ≡ t → withOrWithout (isIn ls) (vowelOrNot v) (c ∷ []) ≡ fail
     go true e = rw e
     go false e = rw e
-joint-same (c ∷ v ∷ cs) = go (eqb 0x79 c) (has vowels v) refl (eqb-comm c 0x79) refl
+withOrWithout-same ls v (c ∷ d ∷ cs) = go (has ls c) (vowelOrNot v (d ∷ cs)) refl refl
   where
-    go : (t u : Bool) → eqb 0x79 c ≡ t → eqb c 0x79 ≡ eqb 0x79 c → has vowels v ≡ u → joint (c ∷ v ∷ cs) ≡ optionalY 0x79 (c ∷ v ∷ cs)
-    go true true e s h = rw (s, e, h)
-    go true false e s h = rw (s, e, h)
-    go false true e s h = rw (s, e, h)
-    go false false e s h = rw (s, e, h)
+    go : (t u : Bool) → has ls c ≡ t → vowelOrNot v (d ∷ cs) ≡ u → withOrWithout (isIn ls) (vowelOrNot v) (c ∷ d ∷ cs) ≡ optional ls v (c ∷ d ∷ cs)
+    go true true e h = rw (e, h)
+    go true false e h = rw (e, h)
+    go false true e h = rw (e, h)
+    go false false e h = rw (e, h)
 
--- so the routine is the simple form's one clause
-pub optionalY-means : Means backward mark-suffix-with-optional-y-consonant (optionalY 0x79)
-unfolding mark-suffix-with-optional-y-consonant joint vowels letters fromEnd text
-optionalY-means =
-    means-define _
-    (means-as
-    (means-or (means-then (means-literal "y") (means-test (means-grouping Source.vowel)))
-    (means-then (means-not (means-test (means-literal "y"))) (means-test (means-then means-next (means-grouping Source.vowel)))))
-    joint-same)
+-- so a routine of that form is the simple form's one clause, whatever reads the letter and what must stand before it
+pub optional-means : {p q : Command} (ls : List ℕ) (v : Bool)
+    → Means backward p (λ cs. takeIf (isIn ls cs) 1) → Means backward q (λ cs. takeIf (vowelOrNot v cs) 1)
+    → Means backward ((p then (test q)) or ((not (test p)) then test (next then q))) (optional ls v)
+unfolding withOrWithout
+optional-means ls v x y =
+    means-as (means-or (means-then x (means-test y)) (means-then (means-not (means-test x)) (means-test (means-then means-next y)))) (withOrWithout-same ls v)
+
+-- a literal of one letter reads a letter
+pub letter-means : (l : String) (c : ℕ) → text l ≡ c ∷ [] → Means backward (literal l) (λ cs. takeIf (isIn (text l) cs) 1)
+unfolding letters fromEnd starts isIn has any
+letter-means l c e = means-as (means-literal l) (λ cs. rw e (go cs))
+  where
+    go : (cs : List ℕ) → takeIf (starts (c ∷ []) cs) 1 ≡ takeIf (isIn (c ∷ []) cs) 1
+    go [] = refl
+    go (x ∷ cs) = rw (eqb-comm c x, and-true (eqb x c), or-false (eqb x c))
+
+-- and the grouping of the vowels reads a vowel
+pub vowel-means : Means backward (grouping Source.vowel) (λ cs. takeIf (vowelOrNot true cs) 1)
+unfolding isIn vowelOrNot vowel vowels
+vowel-means = means-as (means-grouping Source.vowel) (λ cs. ap (λ (t : Bool). takeIf t 1) (go cs))
+  where
+    go : (cs : List ℕ) → isIn vowels cs ≡ vowelOrNot true cs
+    go [] = refl
+    go (c ∷ cs) = refl
+
+-- so is the optional y's routine
+pub optionalY-means : Means backward mark-suffix-with-optional-y-consonant (optional (text "y") true)
+unfolding mark-suffix-with-optional-y-consonant
+optionalY-means = means-define _ (optional-means (text "y") true (letter-means "y" 0x79 (unfold text in refl)) vowel-means)

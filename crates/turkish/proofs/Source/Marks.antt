@@ -13,8 +13,8 @@ use borrow.Author.Tests.{lt-ltb, le-ltb}
 use Rattle.encoding.proofs.Laws.Booleans.{and-left, and-right}
 use Rattle.turkish.specs.Letters.{fromEnd, starts}
 use Rattle.turkish.specs.Simple.Harmony.{harmony}
-use Rattle.turkish.specs.Simple.Grammar.{Out, fail, took, more, after, asking, among, optionalY, markOf}
-use Rattle.turkish.specs.Simple.Marks.{marked, yUm, sUn, yUz, sUnUz, lAr, nUz, DUr, cAsInA, yDU, ysA, ymUs, yken}
+use Rattle.turkish.specs.Simple.Grammar.{Out, fail, took, more, after, asking, among, Joint, joining, markOf}
+use Rattle.turkish.specs.Simple.Marks.{unjoined, byY, marked, yUm, sUn, yUz, sUnUz, lAr, nUz, DUr, cAsInA, yDU, ysA, ymUs, yken}
 use Rattle.turkish.specs.Snowball.{longer, longest, fits, backward, letters, Command, _then_}
 use Rattle.turkish.specs.Snowball as Snowball
 use Rattle.turkish.specs.Source.{A-12, A-13, A-14, A-15, A-16, A-17, A-18, A-19, A-20, A-21, A-22, check-vowel-harmony, mark-suffix-with-optional-y-consonant, mark-yUm, mark-sUn, mark-yUz, mark-sUnUz, mark-lAr, mark-nUz, mark-DUr, mark-cAsInA, mark-yDU, mark-ysA, mark-ymUs-, mark-yken}
@@ -77,74 +77,84 @@ after-none (k ∷ ks) cs = go (starts k cs) (after-none ks cs)
     go false r = r
 
 -- a mark with harmony, from the rest of it
-harmonic : {p : Command} (n : ℕ) (j : Bool) (ks : List String)
+pub means-harmonic : {p : Command} (n : ℕ) (j : Joint) (ks : List String)
     → Means backward p (markOf (marked n false ks j)) → Means backward (check-vowel-harmony then p) (markOf (marked n true ks j))
 unfolding markOf marked asking after takeIf
-harmonic n j ks x = means-as (means-then harmony-means x) (λ cs. go cs (harmony cs))
+means-harmonic n j ks x = means-as (means-then harmony-means x) (λ cs. go cs (harmony cs))
   where
     go : (cs : List ℕ) (b : Bool) → after (takeIf b 0) (λ k. markOf (marked n false ks j) (drop k cs))
-        ≡ asking b (after (among (map fromEnd ks) cs) (λ k. cond j (optionalY 0x79 (drop k cs)) (took 0 true)))
-    go cs true = more-none (after (among (map fromEnd ks) cs) (λ k. cond j (optionalY 0x79 (drop k cs)) (took 0 true)))
+        ≡ asking b (after (among (map fromEnd ks) cs) (λ k. joining j (drop k cs)))
+    go cs true = more-none (after (among (map fromEnd ks) cs) (λ k. joining j (drop k cs)))
     go cs false = refl
 
 -- a mark of a key alone
-bare : (n : ℕ) (ks : List String) → apart (map fromEnd ks) ≡ true → Means backward (Snowball.among ks) (markOf (marked n false ks false))
-unfolding markOf marked asking
-bare n ks a = means-as (among-means ks a) (after-none (map fromEnd ks))
+pub means-bare : (n : ℕ) (ks : List String) → apart (map fromEnd ks) ≡ true → Means backward (Snowball.among ks) (markOf (marked n false ks unjoined))
+unfolding markOf marked asking joining unjoined
+means-bare n ks a = means-as (among-means ks a) (after-none (map fromEnd ks))
 
--- and of a key with an optional y
-joining : (n : ℕ) (ks : List String) → apart (map fromEnd ks) ≡ true
-    → Means backward (Snowball.among ks then mark-suffix-with-optional-y-consonant) (markOf (marked n false ks true))
+-- and of a key with any joint, from what reads its keys and what reads the joint
+pub means-joined : {p q : Command} (n : ℕ) (j : Joint) (ks : List String) → Means backward p (among (map fromEnd ks)) → Means backward q (joining j)
+    → Means backward (p then q) (markOf (marked n false ks j))
 unfolding markOf marked asking
-joining n ks a = means-then (among-means ks a) optionalY-means
+means-joined n j ks x y = means-then x y
+
+-- the keys being a table's
+pub means-tabled : {q : Command} (n : ℕ) (j : Joint) (ks : List String) → apart (map fromEnd ks) ≡ true → Means backward q (joining j)
+    → Means backward (Snowball.among ks then q) (markOf (marked n false ks j))
+means-tabled n j ks a y = means-joined n j ks (among-means ks a) y
+
+-- the optional y's routine reads the y that joins
+pub byY-means : Means backward mark-suffix-with-optional-y-consonant (joining byY)
+unfolding joining byY
+byY-means = optionalY-means
 
 -- ---- the marks ----
 
 -- one a mark, in the order of the tables; that no key of it is the tail of another is known by its table's place in the list
 pub yUm-means : Means backward mark-yUm (markOf yUm)
 unfolding mark-yUm yUm marked tables
-yUm-means = means-define _ (harmonic 1 true A-12 (joining 1 A-12 (apart-at 0)))
+yUm-means = means-define _ (means-harmonic 1 byY A-12 (means-tabled 1 byY A-12 (apart-at 0) byY-means))
 
 pub sUn-means : Means backward mark-sUn (markOf sUn)
 unfolding mark-sUn sUn marked tables
-sUn-means = means-define _ (harmonic 2 false A-13 (bare 2 A-13 (apart-at 1)))
+sUn-means = means-define _ (means-harmonic 2 unjoined A-13 (means-bare 2 A-13 (apart-at 1)))
 
 pub yUz-means : Means backward mark-yUz (markOf yUz)
 unfolding mark-yUz yUz marked tables
-yUz-means = means-define _ (harmonic 3 true A-14 (joining 3 A-14 (apart-at 2)))
+yUz-means = means-define _ (means-harmonic 3 byY A-14 (means-tabled 3 byY A-14 (apart-at 2) byY-means))
 
 pub sUnUz-means : Means backward mark-sUnUz (markOf sUnUz)
 unfolding mark-sUnUz sUnUz marked tables
-sUnUz-means = means-define _ (bare 4 A-15 (apart-at 3))
+sUnUz-means = means-define _ (means-bare 4 A-15 (apart-at 3))
 
 pub lAr-means : Means backward mark-lAr (markOf lAr)
 unfolding mark-lAr lAr marked tables
-lAr-means = means-define _ (harmonic 5 false A-16 (bare 5 A-16 (apart-at 4)))
+lAr-means = means-define _ (means-harmonic 5 unjoined A-16 (means-bare 5 A-16 (apart-at 4)))
 
 pub nUz-means : Means backward mark-nUz (markOf nUz)
 unfolding mark-nUz nUz marked tables
-nUz-means = means-define _ (harmonic 6 false A-17 (bare 6 A-17 (apart-at 5)))
+nUz-means = means-define _ (means-harmonic 6 unjoined A-17 (means-bare 6 A-17 (apart-at 5)))
 
 pub DUr-means : Means backward mark-DUr (markOf DUr)
 unfolding mark-DUr DUr marked tables
-DUr-means = means-define _ (harmonic 7 false A-18 (bare 7 A-18 (apart-at 6)))
+DUr-means = means-define _ (means-harmonic 7 unjoined A-18 (means-bare 7 A-18 (apart-at 6)))
 
 pub cAsInA-means : Means backward mark-cAsInA (markOf cAsInA)
 unfolding mark-cAsInA cAsInA marked tables
-cAsInA-means = means-define _ (bare 8 A-19 (apart-at 7))
+cAsInA-means = means-define _ (means-bare 8 A-19 (apart-at 7))
 
 pub yDU-means : Means backward mark-yDU (markOf yDU)
 unfolding mark-yDU yDU marked tables
-yDU-means = means-define _ (harmonic 9 true A-20 (joining 9 A-20 (apart-at 8)))
+yDU-means = means-define _ (means-harmonic 9 byY A-20 (means-tabled 9 byY A-20 (apart-at 8) byY-means))
 
 pub ysA-means : Means backward mark-ysA (markOf ysA)
 unfolding mark-ysA ysA marked tables
-ysA-means = means-define _ (joining 10 A-21 (apart-at 9))
+ysA-means = means-define _ (means-tabled 10 byY A-21 (apart-at 9) byY-means)
 
 pub ymUs-means : Means backward mark-ymUs- (markOf ymUs)
 unfolding mark-ymUs- ymUs marked tables
-ymUs-means = means-define _ (harmonic 11 true A-22 (joining 11 A-22 (apart-at 10)))
+ymUs-means = means-define _ (means-harmonic 11 byY A-22 (means-tabled 11 byY A-22 (apart-at 10) byY-means))
 
 pub yken-means : Means backward mark-yken (markOf yken)
-unfolding mark-yken yken marked markOf asking among takeIf letters
-yken-means = means-define _ (means-then (means-literal "ken") optionalY-means)
+unfolding mark-yken yken among takeIf letters
+yken-means = means-define _ (means-joined 12 byY ("ken" ∷ []) (means-literal "ken") byY-means)

@@ -4,8 +4,7 @@ use Prim.Native.Nat.{ℕ, _+_}
 use mathlib.Core.Bool.{Bool, true, false, cond, not, _&&_, _||_}
 use mathlib.Core.List.{List, [], _∷_}
 use lib.ListN.{length, drop}
-use lib.Dec.{eqb}
-use Rattle.turkish.specs.Letters.{starts}
+use Rattle.turkish.specs.Letters.{has, starts}
 use Rattle.turkish.specs.Vowels.{vowel}
 use Rattle.turkish.specs.Simple.Harmony.{harmony}
 
@@ -38,26 +37,36 @@ unfoldable pub among : List (List ℕ) → List ℕ → Out
 among [] cs = fail
 among (k ∷ ks) cs = cond (starts k cs) (took (length k) true) (among ks cs)
 
--- an optional y: a y is taken if a vowel stands before it; without a y the second character back must be a vowel. Either way the
--- second character back is a vowel.
-unfoldable pub optionalY : ℕ → List ℕ → Out
-optionalY y [] = fail
-optionalY y (c ∷ []) = fail
-optionalY y (c ∷ v ∷ cs) = cond (vowel v) (took (cond (eqb c y) 1 0) true) fail
+-- what joins a key to the text before it, an optional letter: whether there is one, the letters of which it may be, and whether a vowel
+-- must stand before it or a character that is none
+pub record Joint : Type 0 where
+  pub asked : Bool
+  pub letters : List ℕ
+  pub vowelled : Bool
+
+-- an optional letter is taken if the right character stands before it; without the letter the second character back must be of that
+-- kind. Either way the second character back is.
+unfoldable pub optional : List ℕ → Bool → List ℕ → Out
+optional letters vowelled [] = fail
+optional letters vowelled (c ∷ []) = fail
+optional letters vowelled (c ∷ d ∷ cs) = cond (cond vowelled (vowel d) (not (vowel d))) (took (cond (has letters c) 1 0) true) fail
+
+unfoldable pub joining : Joint → List ℕ → Out
+joining j cs = cond (j .asked) (optional (j .letters) (j .vowelled) cs) (took 0 true)
 
 -- a mark: its number, 1 to 12 in the order of document 01's mark tables with yken last; whether it tests harmony, its keys from their
--- ends, and whether an optional y stands before the key
+-- ends, and what joins a key to the text before it
 pub record Mark : Type 0 where
   pub kind : ℕ
   pub harmonic : Bool
   pub keys : List (List ℕ)
-  pub joins : Bool
+  pub joint : Joint
 
--- the mark routines' common form: harmony is tested before the key, the optional y after it
+-- the mark routines' common form: harmony is tested before the key, the joint after it
 unfoldable pub markOf : Mark → List ℕ → Out
 markOf m cs =
     asking (not (m .harmonic) || harmony cs)
-    (after (among (m .keys) cs) (λ k. cond (m .joins) (optionalY 0x79 (drop k cs)) (took 0 true)))
+    (after (among (m .keys) cs) (λ k. joining (m .joint) (drop k cs)))
 
 -- a mark; one after the other; the first of two that fits; nothing; and `unset` of the flag. A deletion stands nowhere: nothing that
 -- follows one can fail, so all that a branch takes is deleted.

@@ -47,7 +47,7 @@ joinedBy joins k cs = cond joins (cond (eqb (getD cs (k - 1) 0) 0x79) withY afte
 
 unfoldable pub traceOut : Mark → List ℕ → Out → Trace
 traceOut m cs fail = none
-traceOut m cs (took k f) = keeps (record { kind = m .kind; size = k; joined = joinedBy (m .joins) k cs } ∷ []) f
+traceOut m cs (took k f) = keeps (record { kind = m .kind; size = k; joined = joinedBy (m .joint .asked) k cs } ∷ []) f
 
 unfoldable pub traceOf : Mark → List ℕ → Trace
 traceOf m cs = traceOut m cs (markOf m cs)

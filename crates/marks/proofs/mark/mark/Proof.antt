@@ -1,5 +1,5 @@
--- `marks::mark::mark` meets its contract: yken goes by its literal, every other mark by the key found in its table and the optional y
--- before it. Assumes nothing.
+-- `marks::mark::mark` meets its contract: yken goes by its literal, every other mark by the key found in its table and the joint before
+-- it. Assumes nothing.
 use Prim.Native.Nat.{ℕ}
 use mathlib.Core.Path.{sym, ap, _∙_}
 use denote.Ref.{now}
@@ -8,6 +8,7 @@ use Rattle.turkish.specs.Simple.Grammar.{markOf}
 use Rattle.turkish.specs.Simple.Marks.{marked, yken}
 use Rattle.letters.specs.Passed.{notPassed, passes}
 use Rattle.letters.specs.Numbered.{numbered, unharmonic, keyedBy}
+use Rattle.letters.proofs.Laws.Ends.{numbered-byY}
 use Rattle.marks.proofs.Laws.Marks.{tabled-found, keyed-nothing, keyed-open, keyed-joined, keyed-alone}
 use borrow.Author.Needs.{needs}
 use Rattle.marks.proofs.mark.mark.Statement.{statement}
@@ -29,7 +30,7 @@ returns-2 c =
     let m = numbered (s .args .kind) in
     let search = c .before .before in
     let is = tabled-found w r (search .before .if1 .left) (search .find-key .ensures) in
-    keyed-nothing (m .keys) (m .joins) w r is (c .enum-told .given .1)
+    keyed-nothing (m .keys) (m .joint) w r is (c .enum-told .given .1)
 
 mark-suffix-with-optional-y-consonant-requires :
     tie.Need-mark-suffix-with-optional-y-consonant-requires
@@ -40,7 +41,7 @@ mark-suffix-with-optional-y-consonant-requires c κs =
     let m = numbered (s .args .kind) in
     let search = c .before .before .before .before .before in
     let is = tabled-found w r (search .before .if1 .left) (search .find-key .ensures) in
-    keyed-open (m .keys) (m .joins) w r is (c .before .before .before .d .given .1) (s .pre .opens)
+    keyed-open (m .keys) (m .joint) w r is (c .before .before .before .d .given .1) (s .pre .opens)
 
 returns-3 : tie.Need-returns-3
 unfolding unharmonic keyedBy
@@ -51,8 +52,8 @@ returns-3 c =
     let m = numbered (s .args .kind) in
     let search = c .before .before .before .before .before .before in
     let is = tabled-found w r (search .before .if1 .left) (search .find-key .ensures) in
-    keyed-joined (m .keys) (m .joins) w r is (c .before .before .before .before .d .given .1)
-    (sym (c .before .before .is-joining .ensures) ∙ c .before .if2 .taken) (c .mark-suffix-with-optional-y-consonant .ensures)
+    let y = numbered-byY (s .args .kind) (sym (c .before .before .is-joining .ensures) ∙ c .before .if2 .taken) in
+    keyed-joined (m .keys) (m .joint) w r is (c .before .before .before .before .d .given .1) (rw y (c .mark-suffix-with-optional-y-consonant .ensures))
 
 returns-4 : tie.Need-returns-4
 unfolding unharmonic keyedBy
@@ -64,7 +65,7 @@ returns-4 c =
     let search = c .before .before .before .before .before .before in
     let is = tabled-found w r (search .before .if1 .left) (search .find-key .ensures) in
     c .to .ensures
-    ∙ keyed-alone (m .keys) (m .joins) w r is (c .before .before .before .before .d .given .1) (sym (c .before .before .is-joining .ensures) ∙ c .before .if2 .left)
+    ∙ keyed-alone (m .keys) (m .joint) w r is (c .before .before .before .before .d .given .1) (sym (c .before .before .is-joining .ensures) ∙ c .before .if2 .left)
 
 pub mark-spec : {M : Type 1} → statement M
 mark-spec =
