@@ -5,6 +5,7 @@ pub mod LastVowel
 pub mod Told
 pub mod Part
 pub mod Reads
+pub mod Optional
 pub mod Keys
 pub mod Search
 pub mod KeyBefore

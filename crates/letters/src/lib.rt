@@ -2,6 +2,7 @@
 pub mod among;
 pub mod ends;
 pub mod harmony;
+pub mod joint;
 pub mod passed;
 pub mod seen;
 pub mod vowel;

@@ -9,6 +9,7 @@ use letters::among::find_among_b;
 use letters::ends;
 use letters::harmony;
 use letters::harmony::Told;
+use letters::joint::mark_suffix_with_optional_consonant;
 use letters::passed::Passed;
 use letters::seen::Seen;
 use letters::vowel::is_vowel;
@@ -17,8 +18,8 @@ use utf8::cursor::Cursor;
 use utf8::step;
 ghost use mathlib.Core.Path.{_≡_};
 ghost use Rattle.utf8.specs.Behind.{behind, Open};
-ghost use Rattle.turkish.specs.Simple.Grammar.{joining, markOf};
-ghost use Rattle.turkish.specs.Simple.Marks.{byY, yDU, yken};
+ghost use Rattle.turkish.specs.Simple.Grammar.{markOf};
+ghost use Rattle.turkish.specs.Simple.Marks.{yDU, yken};
 ghost use Rattle.turkish.specs.Simple.Pieces.{traceOf};
 ghost use Rattle.letters.specs.Search.{found};
 ghost use Rattle.letters.specs.Seen.{Sees};
@@ -51,24 +52,6 @@ pub const YSA: u32 = 10;
 pub const YMUS: u32 = 11;
 
 pub const YKEN: u32 = 12;
-
-// An optional y before the cursor (turkish.rs, `r_mark_suffix_with_optional_y_consonant`).
-fn mark_suffix_with_optional_y_consonant(w: &[u8], c: Cursor) -> Passed
-    requires { ⌜ Open (now w) c ⌝ }
-    ensures { λ r. ⌜ r ≡ passes (now (w .entry)) c (joining byY (behind (now (w .entry)) c)) ⌝ }
-{
-    let low = c.limit_backward;
-    let part = &w[low..];
-    let a = characters::read_back(part, c.cursor - low);
-    let b = characters::read_back(part, a.at);
-    if !is_vowel(b.ch) {
-        return Passed::NOT;
-    }
-    if a.ch == 0x79 {
-        return Passed::to(low + a.at);
-    }
-    Passed::to(c.cursor)
-}
 
 // The literals that yken is made of.
 const KEN: [u8; 3] = *b"ken";
@@ -153,7 +136,7 @@ fn mark(w: &[u8], s: Seen, kind: u32) -> Passed
         return Passed::NOT;
     };
     if is_joining(kind) {
-        return mark_suffix_with_optional_y_consonant(w, d);
+        return mark_suffix_with_optional_consonant(w, d, 0x79);
     }
     Passed::to(d.cursor)
 }

@@ -10,6 +10,7 @@ use mathlib.Mathlib.Data.Bool.Basic.{or-eq-false-eq-eq-false-and-eq-false as or-
 use lib.ListN.{getD}
 use lib.Dec.{eqb}
 use borrow.Author.Tests.{eqb-true}
+use Rattle.utf8.specs.Behind.{behind}
 use Rattle.encoding.proofs.Laws.Booleans.{and-left, and-right, or-either, cond-cases, cond-test, cond-both}
 use Rattle.turkish.specs.Letters.{text, fromEnd, any, has, starts}
 use Rattle.turkish.specs.Simple.Harmony.{harmony}
@@ -20,6 +21,8 @@ use Rattle.turkish.specs.Simple.Stage.{branch1, branch2, branch3, branch4, bran
 use Rattle.turkish.proofs.Laws.Tests.{every}
 use Rattle.turkish.proofs.Laws.Outcome.{Gives, unfit, post-all}
 use Rattle.turkish.proofs.Laws.Traces.{traceOf-none}
+use Rattle.letters.specs.declared.seen.Seen.{Seen}
+use Rattle.letters.specs.Seen.{seenAt, Sees}
 use Rattle.letters.specs.Ends.{isU, isA, isD, isKMN, mayEnd, someEnd}
 use Rattle.letters.specs.Numbered.{numbered, never, unharmonic, firstOf}
 
@@ -34,7 +37,7 @@ starts-getD (k ∷ ks) (c ∷ cs) zero e = eqb-true k c (and-left (eqb k c) (sta
 starts-getD (k ∷ ks) (c ∷ cs) (suc i) e = starts-getD ks cs i (and-right (eqb k c) (starts ks cs) e)
 
 -- a test of three characters, asked of a key's last three; x, y, z stand where the key is shorter
-passing : (ℕ → ℕ → ℕ → Bool) → ℕ → ℕ → ℕ → List ℕ → Bool
+unfoldable pub passing : (ℕ → ℕ → ℕ → Bool) → ℕ → ℕ → ℕ → List ℕ → Bool
 passing p x y z key = p (getD key 0 x) (getD key 1 y) (getD key 2 z)
 
 -- where the text's last three characters fail a test that every key passes, no key ends the text
@@ -52,11 +55,34 @@ among-unfit p (key ∷ ks) cs e f =
     same : starts key cs ≡ true → passing p (getD cs 0 0) (getD cs 1 0) (getD cs 2 0) key ≡ p (getD cs 0 0) (getD cs 1 0) (getD cs 2 0)
     same s = rw (starts-getD key cs 0 s, starts-getD key cs 1 s, starts-getD key cs 2 s)
 
--- ---- marks by number ----
+-- ---- marks ----
 
 -- a test that every key of a mark passes, whatever stands before a key that is shorter
-record Tests (p : ℕ → ℕ → ℕ → Bool) (m : Mark) : Type 0 where
+pub record Tests (p : ℕ → ℕ → ℕ → Bool) (m : Mark) : Type 0 where
   pub each : (x y z : ℕ) → every (passing p x y z) (m .keys) ≡ true
+
+-- a test before a command that fails anyway
+pub asking-fail : (t : Bool) → asking t fail ≡ fail
+unfolding asking
+asking-fail true = refl
+asking-fail false = refl
+
+-- a mark none of whose keys ends the text fails there
+markOf-keyless : (m : Mark) (cs : List ℕ) → among (m .keys) cs ≡ fail → markOf m cs ≡ fail
+unfolding markOf after
+markOf-keyless m cs e = rw e (asking-fail (not (m .harmonic) || harmony cs))
+
+-- where the text's last three characters fail a test that every key of a mark passes, the mark fails
+pub markOf-unfit : {p : ℕ → ℕ → ℕ → Bool} {m : Mark} → Tests p m → (cs : List ℕ) → p (getD cs 0 0) (getD cs 1 0) (getD cs 2 0) ≡ false → markOf m cs ≡ fail
+markOf-unfit {p} {m} tests cs e = markOf-keyless m cs (among-unfit p (m .keys) cs (tests .each (getD cs 0 0) (getD cs 1 0) (getD cs 2 0)) e)
+
+-- a test of the three characters seen is one of the characters behind the record
+pub test-sees : (p : ℕ → ℕ → ℕ → Bool) (w : List ℕ) (s : Seen) → Sees w s
+    → p (s .last) (s .second) (s .third) ≡ p (getD (behind w (s .c)) 0 0) (getD (behind w (s .c)) 1 0) (getD (behind w (s .c)) 2 0)
+unfolding seenAt
+test-sees p w s sees = ap (λ (x : Seen). p (x .last) (x .second) (x .third)) (sees .is)
+
+-- ---- marks by number ----
 
 -- of two marks, each with its test, the mark that is chosen has the test that is chosen
 cond-tests : (t : Bool) {p q : ℕ → ℕ → ℕ → Bool} {m n : Mark} → Tests p m → Tests q n
@@ -81,24 +107,9 @@ numbered-tests k =
     (cond-tests (eqb k 11) (record { each = λ x y z. refl })
     (cond-tests (eqb k 12) (record { each = λ x y z. refl }) (record { each = λ x y z. refl }))))))))))))
 
--- where the text's last three characters may not end a key of a mark, none of its keys ends the text
-pub mayEnd-unfit : (k : ℕ) (cs : List ℕ) → mayEnd k (getD cs 0 0) (getD cs 1 0) (getD cs 2 0) ≡ false → among (numbered k .keys) cs ≡ fail
-mayEnd-unfit k cs = among-unfit (mayEnd k) (numbered k .keys) cs (numbered-tests k .each (getD cs 0 0) (getD cs 1 0) (getD cs 2 0))
-
--- a test before a command that fails anyway
-pub asking-fail : (t : Bool) → asking t fail ≡ fail
-unfolding asking
-asking-fail true = refl
-asking-fail false = refl
-
--- a mark none of whose keys ends the text fails there
-markOf-keyless : (m : Mark) (cs : List ℕ) → among (m .keys) cs ≡ fail → markOf m cs ≡ fail
-unfolding markOf after
-markOf-keyless m cs e = rw e (asking-fail (not (m .harmonic) || harmony cs))
-
--- so a mark whose last letters may not stand there keeps nothing
+-- a mark whose last letters may not stand there keeps nothing
 pub traceOf-unfit : (k : ℕ) (cs : List ℕ) → mayEnd k (getD cs 0 0) (getD cs 1 0) (getD cs 2 0) ≡ false → traceOf (numbered k) cs ≡ none
-traceOf-unfit k cs e = traceOf-none (numbered k) cs (markOf-keyless (numbered k) cs (mayEnd-unfit k cs e))
+traceOf-unfit k cs e = traceOf-none (numbered k) cs (markOf-unfit (numbered-tests k) cs e)
 
 -- a mark is its harmony test before the mark without one
 pub markOf-unharmonic : (m : Mark) (cs : List ℕ) → markOf m cs ≡ asking (not (m .harmonic) || harmony cs) (markOf (unharmonic m) cs)

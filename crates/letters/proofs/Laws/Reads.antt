@@ -31,7 +31,7 @@ module _ (w : List ℕ) (c : Cursor) where
     first-ch = ap (λ (x : Read). x .ch) a-is ∙ ap (λ (p : List ℕ). getD (before p at) 0 0) (partFrom-drop w low)
 
     -- its place in the part
-    first-at : a .at ≡ back (drop low w) at 1
+    pub first-at : a .at ≡ back (drop low w) at 1
     unfolding readBack
     first-at = ap (λ (x : Read). x .at) a-is ∙ ap (λ (p : List ℕ). back p at 1) (partFrom-drop w low)
 

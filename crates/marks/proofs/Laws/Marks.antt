@@ -28,9 +28,9 @@ use Rattle.letters.specs.Passed.{passedTo, notPassed, passes}
 use Rattle.marks.specs.Reach.{leading, reach}
 use Rattle.letters.specs.Numbered.{numbered, tabled, unharmonic, keyedBy, firstOf}
 use Rattle.letters.specs.Search.{foundFrom, found}
-use Rattle.letters.specs.Seen.{seenAt, Sees}
+use Rattle.letters.specs.Seen.{Sees}
 use Rattle.letters.specs.Ends.{mayEnd}
-use Rattle.letters.proofs.Laws.Ends.{asking-fail, markOf-unharmonic, numbered-kind}
+use Rattle.letters.proofs.Laws.Ends.{asking-fail, test-sees, markOf-unharmonic, numbered-kind}
 
 -- ---- a key found, as the grammar's ----
 
@@ -114,7 +114,7 @@ reach-passes w c m k {d = d} (fits n is) e moved to =
     cc
 
 -- one that did not move fails
-passes-not : (w : List ℕ) (c : Cursor) (o : Out) {p : Passed} → p ≡ passes w c o → p .moved ≡ false → o ≡ fail
+pub passes-not : (w : List ℕ) (c : Cursor) (o : Out) {p : Passed} → p ≡ passes w c o → p .moved ≡ false → o ≡ fail
 unfolding passes passedTo notPassed
 passes-not w c fail e m = refl
 passes-not w c (took k f) e m = absurd (false≢true (sym m ∙ ap (λ (x : Passed). x .moved) e))
@@ -173,8 +173,7 @@ firstOf-end w c group i h = rw (drop-of-length-le group {i = i} h)
 -- what the last letters seen rule out, the characters behind the record do
 pub mayEnd-sees : (w : List ℕ) (s : Seen) → Sees w s → (k : ℕ) {b : Bool} → b ≡ mayEnd k (s .last) (s .second) (s .third)
     → b ≡ mayEnd k (getD (behind w (s .c)) 0 0) (getD (behind w (s .c)) 1 0) (getD (behind w (s .c)) 2 0)
-unfolding seenAt
-mayEnd-sees w s sees k e = e ∙ ap (λ (x : Seen). mayEnd k (x .last) (x .second) (x .third)) (sees .is)
+mayEnd-sees w s sees k e = e ∙ test-sees (mayEnd k) w s sees
 
 -- a mark that tests no harmony agrees with any
 pub agrees-free : {h : Bool} (cs : List ℕ) → h ≡ false → not h || harmony cs ≡ true

@@ -28,7 +28,7 @@ use Rattle.turkish.specs.Simple.Grammar.{fail, took, more, after, asking, among
 use Rattle.turkish.specs.Simple.Marks.{byY, marked, yken}
 use Rattle.letters.specs.declared.passed.Passed.{Passed}
 use Rattle.letters.specs.Passed.{passedTo, notPassed, passes}
-use Rattle.marks.proofs.Laws.Optional.{optional-getD}
+use Rattle.letters.proofs.Laws.Optional.{optional-getD}
 use Rattle.marks.proofs.Laws.Literal.{ascii, ascii-reverseAux, lastWidth-char, literal-chars}
 
 -- ---- an ASCII literal behind an open record ----

@@ -4,8 +4,9 @@ use Prim.Native.Nat.{ℕ}
 use mathlib.Core.Path.{sym, ap, _∙_}
 use denote.Ref.{now}
 use Rattle.utf8.specs.Behind.{behind}
-use Rattle.turkish.specs.Simple.Grammar.{markOf}
-use Rattle.turkish.specs.Simple.Marks.{marked, yken}
+use Rattle.turkish.specs.Letters.{text}
+use Rattle.turkish.specs.Simple.Grammar.{joining, markOf}
+use Rattle.turkish.specs.Simple.Marks.{byY, marked, yken}
 use Rattle.letters.specs.Passed.{notPassed, passes}
 use Rattle.letters.specs.Numbered.{numbered, unharmonic, keyedBy}
 use Rattle.letters.proofs.Laws.Ends.{numbered-byY}
@@ -32,9 +33,9 @@ returns-2 c =
     let is = tabled-found w r (search .before .if1 .left) (search .find-key .ensures) in
     keyed-nothing (m .keys) (m .joint) w r is (c .enum-told .given .1)
 
-mark-suffix-with-optional-y-consonant-requires :
-    tie.Need-mark-suffix-with-optional-y-consonant-requires
-mark-suffix-with-optional-y-consonant-requires c κs =
+mark-suffix-with-optional-consonant-requires :
+    tie.Need-mark-suffix-with-optional-consonant-requires
+mark-suffix-with-optional-consonant-requires c κs =
     let s = c .before .before .before .before .before .before .before .before in
     let w = now (s .args .w) in
     let r = s .args .s .c in
@@ -44,7 +45,7 @@ mark-suffix-with-optional-y-consonant-requires c κs =
     keyed-open (m .keys) (m .joint) w r is (c .before .before .before .d .given .1) (s .pre .opens)
 
 returns-3 : tie.Need-returns-3
-unfolding unharmonic keyedBy
+unfolding joining byY text unharmonic keyedBy
 returns-3 c =
     let s = c .before .before .before .before .before .before .before .before .before in
     let w = now (s .args .w) in
@@ -53,7 +54,7 @@ returns-3 c =
     let search = c .before .before .before .before .before .before in
     let is = tabled-found w r (search .before .if1 .left) (search .find-key .ensures) in
     let y = numbered-byY (s .args .kind) (sym (c .before .before .is-joining .ensures) ∙ c .before .if2 .taken) in
-    keyed-joined (m .keys) (m .joint) w r is (c .before .before .before .before .d .given .1) (rw y (c .mark-suffix-with-optional-y-consonant .ensures))
+    keyed-joined (m .keys) (m .joint) w r is (c .before .before .before .before .d .given .1) (rw y (c .mark-suffix-with-optional-consonant .ensures))
 
 returns-4 : tie.Need-returns-4
 unfolding unharmonic keyedBy
@@ -71,4 +72,4 @@ pub mark-spec : {M : Type 1} → statement M
 mark-spec =
     tie.close
     (tie.spec (λ c κs. search needs) returns (λ c κs. search needs) (λ c. search needs) (λ c. search needs) returns-2 (λ c κs. search needs)
-    mark-suffix-with-optional-y-consonant-requires returns-3 (λ c κs. search needs) returns-4)
+    mark-suffix-with-optional-consonant-requires returns-3 (λ c κs. search needs) returns-4)
