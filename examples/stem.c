@@ -1,6 +1,6 @@
-/* Prints the stems of a few Turkish words, three of them in steps, the stems of headings, the pieces
-   of removed endings, and three refusals. Given words as arguments, it prints the pieces of these,
-   a line for each word, and nothing else.
+/* Prints the stems of a few Turkish words, three of them in steps, the stems of headings, what is left
+   of nouns, the stems of three words by the whole run, the pieces of removed endings, and four refusals. Given
+   words as arguments, it prints the pieces of these, a line for each word, and nothing else.
    Build: cc -std=c11 -I include examples/stem.c target/staticlib/libfannavy.a -o stem */
 #include "fannavy.h"
 
@@ -100,6 +100,29 @@ static void print_heading(const char *heading) {
     print_stem(small, FANNAVY_PASS_ROOM(FANNAVY_LIMIT));
 }
 
+/* What the noun stage leaves, in an output of `room` bytes. */
+static void print_noun(const char *word, size_t room) {
+    uint8_t out[FANNAVY_NOUN_ROOM(FANNAVY_LIMIT)];
+    FannavyNoun noun = fannavy_noun(bytes(word), strlen(word), out, room);
+
+    if (refused(noun.refusal)) {
+        return;
+    }
+    printf("'%s' as a noun leaves '%.*s'", word, (int)noun.length, (const char *)out);
+    printf(" (ending removed %s)\n", yes_or_no(noun.yes));
+}
+
+/* The stem by the whole run. */
+static void print_whole(const char *word) {
+    uint8_t out[FANNAVY_PASS_ROOM(FANNAVY_LIMIT)];
+    FannavyWhole whole = fannavy_whole(bytes(word), strlen(word), out, sizeof out);
+
+    if (refused(whole.refusal)) {
+        return;
+    }
+    printf("'%s' by the whole run gives '%.*s'\n", word, (int)whole.length, (const char *)out);
+}
+
 /* The kinds' names by their numbers. */
 static const char *const kinds[] = {
     [FANNAVY_YUM] = "yUm",     [FANNAVY_SUN] = "sUn",       [FANNAVY_YUZ] = "yUz",
@@ -173,11 +196,19 @@ static void print_samples(void) {
     print_heading("GÖZLÜKÇÜLER");
     print_heading("IŞIKLAR");
     print_heading("İZLERDİR");
+    print_noun("evlerle", FANNAVY_NOUN_ROOM(strlen("evlerle")));
+    print_noun("evdekilerdekilerdeki", FANNAVY_NOUN_ROOM(strlen("evdekilerdekilerdeki")));
+    print_noun("adakina", FANNAVY_NOUN_ROOM(strlen("adakina")));
+    print_noun("saatler", FANNAVY_NOUN_ROOM(strlen("saatler")));
+    print_whole("kitabımızdan");
+    print_whole("kitablar");
+    print_whole("evlerimizdekilerdir");
     print_pieces("evmişlerdir");
     print_pieces("aymışsınızcasına");
     print_pieces("saatler");
     print_lines("arabayken", FANNAVY_PIECES_TEXT_ROOM);
     print_stem("evler", FANNAVY_PASS_ROOM(strlen("evler")) - 1);
+    print_noun("evlerle", FANNAVY_NOUN_ROOM(strlen("evlerle")) - 1);
     print_stem("ev\xFF", FANNAVY_PASS_ROOM(strlen("ev\xFF")));
     print_lines("arabayken", FANNAVY_PIECES_TEXT_ROOM - 1);
 }

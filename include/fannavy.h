@@ -32,8 +32,11 @@ extern "C" {
 /* The longest word, in bytes: one byte more is refused. */
 #define FANNAVY_LIMIT 1024
 
-/* The least output for a word of n bytes, of fannavy_postlude and fannavy_pass. */
+/* The least output for a word of n bytes, of fannavy_postlude, fannavy_pass and fannavy_whole. */
 #define FANNAVY_PASS_ROOM(n) ((size_t)(n) + 2)
+
+/* The least output for a word of n bytes, of fannavy_noun. */
+#define FANNAVY_NOUN_ROOM(n) ((size_t)(n))
 
 /*
  * An output that always suffices for the fold of a word of n bytes. fannavy_fold itself asks only for
@@ -81,7 +84,7 @@ typedef struct {
  * whole characters, possibly none; there is no output.
  *
  *   yes   an ending was removed; where none was, length is n
- *   flag  stemming may go on (noun endings, the postlude). False only where the plural (-lar, -ler)
+ *   flag  stemming may go on (fannavy_noun, fannavy_postlude). False only where the plural (-lar, -ler)
  *         was removed from the word's very end, after which no more is to be removed or mended.
  *         True where no ending was found; in a refused call false, so look at `refusal` first
  *
@@ -137,9 +140,10 @@ typedef struct {
 } FannavyPass;
 
 /*
- * The stem of a word, written to out[0] .. out[length - 1], possibly nothing. A word of one syllable
- * or none (fannavy_syllable) is copied. Of any other the endings are removed (fannavy_stage), and
- * what is kept is mended (fannavy_postlude) where the flag is true, copied where it is false.
+ * The word pass: a stem with the endings of a noun left on, written to out[0] .. out[length - 1],
+ * possibly nothing. A word of one syllable or none (fannavy_syllable) is copied. Of any other the
+ * endings of a nominal verb are removed (fannavy_stage), and what is kept is mended (fannavy_postlude)
+ * where the flag is true, copied where it is false.
  *
  *   syllable  the answer of fannavy_syllable
  *   yes       an ending was removed; false where `syllable` is
@@ -149,6 +153,43 @@ typedef struct {
  * numbers 1, 2 and 3.
  */
 FannavyPass fannavy_pass(const uint8_t *w, size_t n, uint8_t *out, size_t room);
+
+typedef struct {
+    uint32_t refusal;
+    size_t length;
+    bool yes;
+} FannavyNoun;
+
+/*
+ * Removes the endings of a noun from the word's end: the plural, possessives, cases, and -ki with the
+ * case before it, however often it comes. What is left is written to out[0] .. out[length - 1], whole
+ * characters, possibly none. Mostly it is a front part of the word; but where na, ne, nda or nde
+ * follows such a -ki, these letters may stay and the part before them is cut out (evinkinde: evnde).
+ * Takes a word of any number of syllables, unlike fannavy_whole.
+ *
+ *   yes   an ending was removed; where none was, the word is copied
+ *
+ * `room` is the output's size, FANNAVY_NOUN_ROOM(n) or more whatever the word: 0 for the empty word,
+ * whose output's pointer still is not null. Refuses by the numbers 1, 2 and 3.
+ */
+FannavyNoun fannavy_noun(const uint8_t *w, size_t n, uint8_t *out, size_t room);
+
+typedef struct {
+    uint32_t refusal;
+    size_t length;
+} FannavyWhole;
+
+/*
+ * The stem that rust-stemmers 1.2.0 and Snowball give: the whole Turkish run of a word, written to out[0] .. out[length - 1], possibly
+ * nothing. A word of one syllable or none (fannavy_syllable) is copied. Of any other the endings of a
+ * nominal verb are removed (fannavy_stage); that is all where the flag is false. Where it is true, the
+ * endings of a noun are removed too, from what that kept (fannavy_noun), and what is left is mended
+ * (fannavy_postlude).
+ *
+ * `room` is the output's size, FANNAVY_PASS_ROOM(n) or more whatever the word. Refuses by the
+ * numbers 1, 2 and 3.
+ */
+FannavyWhole fannavy_whole(const uint8_t *w, size_t n, uint8_t *out, size_t room);
 
 /*
  * The kinds of pieces: the marks of turkish.sbl. In their names U stands for ı, i, u or ü, A for a or

@@ -17,18 +17,31 @@ pub fn enter_more_than_one_syllable_word(env: &mut SnowballEnv) -> bool {
     r_more_than_one_syllable_word(env, &mut no_context())
 }
 
+/// The noun stage's yes or no.
+pub fn enter_stem_noun_suffixes(env: &mut SnowballEnv) -> bool {
+    r_stem_noun_suffixes(env, &mut no_context())
+}
+
 /// The postlude's yes or no.
 pub fn enter_postlude(env: &mut SnowballEnv) -> bool {
     r_postlude(env, &mut no_context())
 }
 
-/// The keys of the tables that the three stages search, table by table.
+/// The keys of the tables that suffix stage and postlude search, table by table.
 pub fn keys() -> Vec<Vec<&'static str>> {
     let tables = MARKS.iter().filter_map(|mark| match mark.key {
         Key::Among(table) => Some(table),
         Key::Literal(_) => None,
     });
     tables.chain(Some(&A_23[..])).map(texts).collect()
+}
+
+/// The keys of the tables that the noun stage searches, table by table; it searches that of lAr too.
+pub fn noun_keys() -> Vec<Vec<&'static str>> {
+    let tables: [&'static [Among<Context>]; 12] = [
+        A_0, A_1, A_2, A_3, A_4, A_5, A_6, A_7, A_8, A_9, A_10, A_11,
+    ];
+    tables.iter().map(|table| texts(table)).collect()
 }
 
 fn texts(table: &[Among<Context>]) -> Vec<&'static str> {

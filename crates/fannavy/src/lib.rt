@@ -1,24 +1,28 @@
 // What a host program links: thin calls under C's convention, each with its contract by the library's own definitions. None asks
 // anything of its caller beyond what the signature says.
 use folding::fold;
+use outputs::noun;
 use outputs::pass;
 use outputs::postlude;
+use outputs::whole;
 use pieces::buffer;
 use pieces::text;
 use turkish::answer::FoldAnswer;
+use turkish::answer::NounAnswer;
 use turkish::answer::PassAnswer;
 use turkish::answer::PiecesAnswer;
 use turkish::answer::PiecesTextAnswer;
 use turkish::answer::PostludeAnswer;
 use turkish::answer::StageAnswer;
 use turkish::answer::SyllableAnswer;
+use turkish::answer::WholeAnswer;
 use words::check;
 use words::stage;
 use words::syllable;
 ghost use mathlib.Core.Path.{_≡_};
 ghost use lib.ListN.{length};
 ghost use Rattle.encoding.specs.Validity.{isText};
-ghost use Rattle.turkish.specs.Calls.{syllableCall, stageCall, postludeCall, postludeOut, foldCall, foldOut, passCall, passOut};
+ghost use Rattle.turkish.specs.Calls.{syllableCall, stageCall, postludeCall, postludeOut, foldCall, foldOut, passCall, passOut, nounCall, nounOut, wholeCall, wholeOut};
 ghost use Rattle.turkish.specs.PieceCalls.{piecesCall, PiecesOut, piecesTextCall, PiecesTextOut};
 
 // Whether the bytes are UTF-8. Takes any slice.
@@ -70,6 +74,24 @@ pub extern "C" fn fannavy_pass(w: &[u8], out: &mut [u8]) -> PassAnswer
     ensures { λ _. ⌜ now (out .exit) ≡ passOut (now (w .entry)) (now (out .entry)) ⌝ }
 {
     pass::pass_word(w, out)
+}
+
+// The noun stage of the word, to an output of n bytes or more.
+#[no_mangle]
+pub extern "C" fn fannavy_noun(w: &[u8], out: &mut [u8]) -> NounAnswer
+    ensures { λ r. ⌜ r ≡ nounCall (now (w .entry)) (length (now (out .entry))) ⌝ }
+    ensures { λ _. ⌜ now (out .exit) ≡ nounOut (now (w .entry)) (now (out .entry)) ⌝ }
+{
+    noun::noun_word(w, out)
+}
+
+// The crate's whole Turkish run on the word, to an output of n + 2 bytes or more.
+#[no_mangle]
+pub extern "C" fn fannavy_whole(w: &[u8], out: &mut [u8]) -> WholeAnswer
+    ensures { λ r. ⌜ r ≡ wholeCall (now (w .entry)) (length (now (out .entry))) ⌝ }
+    ensures { λ _. ⌜ now (out .exit) ≡ wholeOut (now (w .entry)) (now (out .entry)) ⌝ }
+{
+    whole::whole_word(w, out)
 }
 
 // The pieces of the ending that the suffix stage removes, to a buffer of 9 bytes or more, in any order.

@@ -10,3 +10,4 @@ pub mod Keys
 pub mod Search
 pub mod KeyBefore
 pub mod Ends
+pub mod Sees

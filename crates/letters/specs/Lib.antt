@@ -8,3 +8,4 @@ pub mod Search
 pub mod Numbered
 pub mod Ends
 pub mod Told
+pub mod Joints

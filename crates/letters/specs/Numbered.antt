@@ -1,6 +1,6 @@
 -- The twelve marks by number, 1 to 12 in the order of document 01's mark tables with yken last, and a group of them. Assumes nothing.
 use Prim.Native.Nat.{ℕ}
-use mathlib.Core.Bool.{Bool, true, false, cond}
+use mathlib.Core.Bool.{true, false, cond}
 use mathlib.Core.List.{List, [], _∷_}
 use lib.Dec.{eqb}
 use Rattle.turkish.specs.Simple.Grammar.{Joint, Mark}

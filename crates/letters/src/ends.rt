@@ -4,19 +4,19 @@ ghost use mathlib.Core.List.{[], _∷_};
 ghost use Rattle.letters.specs.Ends.{isU, isA, isD, isKMN, mayEnd, someEnd};
 
 // The letters that the marks' names write U, A and D, and those that may follow in yDU and ysA.
-fn is_U(c: u32) -> bool
+pub fn is_U(c: u32) -> bool
     ensures { λ r. ⌜ r ≡ isU c ⌝ }
 {
     ((c == 0x69) | (c == 0x75)) | ((c == 0x131) | (c == 0xFC))
 }
 
-fn is_A(c: u32) -> bool
+pub fn is_A(c: u32) -> bool
     ensures { λ r. ⌜ r ≡ isA c ⌝ }
 {
     (c == 0x61) | (c == 0x65)
 }
 
-fn is_D(c: u32) -> bool
+pub fn is_D(c: u32) -> bool
     ensures { λ r. ⌜ r ≡ isD c ⌝ }
 {
     (c == 0x64) | (c == 0x74)

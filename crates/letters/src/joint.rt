@@ -1,16 +1,30 @@
-// What joins a mark's key to the text before it (turkish.rs, `r_mark_suffix_with_optional_y_consonant`): an optional letter after a vowel.
+// What joins a mark's key to the text before it (turkish.rs, `r_mark_suffix_with_optional_n_consonant`, `.._s_consonant`, `.._y_consonant` and
+// `.._U_vowel`): an optional letter after a vowel or, where the letter is a U, after a character that is none.
+use crate::ends;
 use crate::passed::Passed;
 use crate::vowel::is_vowel;
 use utf8::characters;
 use utf8::cursor::Cursor;
 ghost use mathlib.Core.Path.{_≡_};
-ghost use mathlib.Core.Bool.{true};
+ghost use mathlib.Core.Bool.{true, false};
 ghost use mathlib.Core.List.{[], _∷_};
 ghost use Rattle.utf8.specs.Behind.{behind, Open};
-ghost use Rattle.turkish.specs.Simple.Grammar.{optional};
+ghost use Rattle.turkish.specs.Letters.{text};
+ghost use Rattle.turkish.specs.Source.{U};
+ghost use Rattle.turkish.specs.Simple.Grammar.{optional, joining};
 ghost use Rattle.letters.specs.Passed.{passes};
+ghost use Rattle.letters.specs.Joints.{jointOf};
 
-// An optional consonant before the cursor.
+// Nothing, or the optional letter.
+pub enum Joint {
+    Unjoined,
+    Y,
+    N,
+    S,
+    U,
+}
+
+// An optional consonant before the cursor: y, n or s.
 pub fn mark_suffix_with_optional_consonant(w: &[u8], c: Cursor, letter: u32) -> Passed
     requires { ⌜ Open (now w) c ⌝ }
     ensures { λ r. ⌜ r ≡ passes (now (w .entry)) c (optional (letter ∷ []) true (behind (now (w .entry)) c)) ⌝ }
@@ -26,4 +40,39 @@ pub fn mark_suffix_with_optional_consonant(w: &[u8], c: Cursor, letter: u32) -> 
         return Passed::to(low + a.at);
     }
     Passed::to(c.cursor)
+}
+
+// An optional U before the cursor.
+fn mark_suffix_with_optional_U_vowel(w: &[u8], c: Cursor) -> Passed
+    requires { ⌜ Open (now w) c ⌝ }
+    ensures { λ r. ⌜ r ≡ passes (now (w .entry)) c (optional (text U) false (behind (now (w .entry)) c)) ⌝ }
+{
+    let low = c.limit_backward;
+    let part = &w[low..];
+    let a = characters::read_back(part, c.cursor - low);
+    if a.at == 0 {
+        return Passed::NOT;
+    }
+    let b = characters::read_back(part, a.at);
+    if is_vowel(b.ch) {
+        return Passed::NOT;
+    }
+    if ends::is_U(a.ch) {
+        return Passed::to(low + a.at);
+    }
+    Passed::to(c.cursor)
+}
+
+// Back over what joins a key, the cursor standing before the key.
+pub fn join(w: &[u8], c: Cursor, joint: Joint) -> Passed
+    requires { ⌜ Open (now w) c ⌝ }
+    ensures { λ r. ⌜ r ≡ passes (now (w .entry)) c (joining (jointOf joint) (behind (now (w .entry)) c)) ⌝ }
+{
+    match joint {
+        Joint::Unjoined => Passed::to(c.cursor),
+        Joint::Y => mark_suffix_with_optional_consonant(w, c, 0x79),
+        Joint::N => mark_suffix_with_optional_consonant(w, c, 0x6E),
+        Joint::S => mark_suffix_with_optional_consonant(w, c, 0x73),
+        Joint::U => mark_suffix_with_optional_U_vowel(w, c),
+    }
 }

@@ -1,4 +1,4 @@
-// What the stages read of a word: vowels and harmony, the last letters before a cursor, the keys that end there.
+// What the stages read of a word: vowels and harmony, the last letters before a cursor, the keys that end there and what joins them.
 pub mod among;
 pub mod ends;
 pub mod harmony;

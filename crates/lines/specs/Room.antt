@@ -2,6 +2,6 @@
 use Prim.Native.Nat.{ℕ, _+_, _*_}
 use Rattle.turkish.specs.Calls.{limit}
 
--- room for any line, in bytes: three times the limit and twelve; the longest has one fewer
+-- room for any line, in bytes: four times the limit and fifteen; the longest has one fewer
 unfoldable pub lineRoom : ℕ
-lineRoom = 3 * limit + 12
+lineRoom = 4 * limit + 15

@@ -1,4 +1,6 @@
-// The output line of one word (document 01, "stemlist"). Each stage runs once.
+// The output line of one word (document 01, "stemlist"). Each stage runs once, but for the postlude, which pass and whole run have of two texts.
+use outputs::run;
+use outputs::run::Run;
 use stages::postlude;
 use stages::postlude::Repair;
 use stages::stage;
@@ -8,13 +10,14 @@ use words::refusal;
 use writing::put;
 ghost use mathlib.Core.Path.{_≡_};
 ghost use mathlib.Core.Bool.{true, cond};
-ghost use Prim.Native.Nat.{_+_, _≤_, _<_};
+ghost use Prim.Native.Nat.{_+_, _-_, _≤_, _<_};
 ghost use lib.ListN.{length};
 ghost use Rattle.turkish.specs.Letters.{tab, has};
 ghost use Rattle.turkish.specs.Simple.Harmony.{moreThanOneSyllable};
-ghost use Rattle.turkish.specs.Calls.{chars, accepted, passText};
+ghost use Rattle.turkish.specs.Calls.{chars, accepted, passText, wholeText};
 ghost use Rattle.stages.specs.Outcome.{outcomeOf};
 ghost use Rattle.stages.specs.Repairs.{repairText};
+ghost use Rattle.outputs.specs.Runs.{runText};
 ghost use Rattle.writing.specs.Put.{put};
 ghost use Rattle.lines.specs.Line.{lineRefusal, answers, fields, refusedLine, listLine};
 ghost use Rattle.lines.specs.Room.{lineRoom};
@@ -119,6 +122,37 @@ fn put_pass(out: &mut [u8], at: usize, w: &[u8], syllable: bool, s: Outcome) -> 
     put_repair(out, at, w, postlude::postlude(w, kept))
 }
 
+// Writes the text of a run over w.
+fn put_run(out: &mut [u8], at: usize, w: &[u8], r: Run) -> usize
+    requires { ⌜ r .repair .keep ≤ length (now w) ⌝ }
+    requires { ⌜ r .repair .more ≤ 2 ⌝ }
+    requires { ⌜ r .from ≤ r .upto ⌝ }
+    requires { ⌜ r .upto ≤ length (now w) ⌝ }
+    requires { ⌜ at + (r .repair .keep + r .repair .more + (r .upto - r .from)) ≤ length (now out) ⌝ }
+    ensures { λ n. ⌜ n ≡ at + length (runText (now (w .entry)) r) ⌝ }
+    ensures { λ n. ⌜ now (out .exit) ≡ put at (runText (now (w .entry)) r) (now (out .entry)) ⌝ }
+{
+    let from = r.from;
+    let upto = r.upto;
+    let a = put_repair(out, at, w, r.repair);
+    put::put_bytes(out, a, &w[from..upto], upto - from)
+}
+
+// Writes the whole run's text of an accepted word, whose syllable answer and stage are known.
+fn put_whole(out: &mut [u8], at: usize, w: &[u8], syllable: bool, s: Outcome) -> usize
+    requires { ⌜ accepted (now w) ≡ true ⌝ }
+    requires { ⌜ syllable ≡ moreThanOneSyllable (chars (now w)) ⌝ }
+    requires { ⌜ s ≡ outcomeOf (now w) ⌝ }
+    requires { ⌜ at + (length (now w) + 2) ≤ length (now out) ⌝ }
+    ensures { λ n. ⌜ n ≡ at + length (wholeText (now (w .entry))) ⌝ }
+    ensures { λ n. ⌜ now (out .exit) ≡ put at (wholeText (now (w .entry))) (now (out .entry)) ⌝ }
+{
+    if !syllable {
+        return put::put_bytes(out, at, w, w.len());
+    }
+    put_run(out, at, w, run::whole_of(w, s))
+}
+
 // Writes the line of an accepted word.
 fn put_fields(out: &mut [u8], at: usize, w: &[u8]) -> usize
     requires { ⌜ accepted (now w) ≡ true ⌝ }
@@ -133,7 +167,9 @@ fn put_fields(out: &mut [u8], at: usize, w: &[u8]) -> usize
     let c = put::put_bytes(out, b, w, s.kept);
     let d = put::put_byte(out, c, put::TAB);
     let e = put_pass(out, d, w, syllable, s);
-    put::put_byte(out, e, put::LF)
+    let f = put::put_byte(out, e, put::TAB);
+    let g = put_whole(out, f, w, syllable, s);
+    put::put_byte(out, g, put::LF)
 }
 
 // Writes a refused line: `!`, one tab and the number, and nothing of the word.

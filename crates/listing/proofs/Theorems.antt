@@ -48,8 +48,8 @@ pub refused-lines : (w : List ℕ)
     × (accepted w ≡ true → has w tab ≡ true → listLine w ≡ text "!\t4\n")
 refused-lines w = (Lines.listLine-over w, Lines.listLine-not-text w, Lines.listLine-tab w)
 
--- the input lines `evler` and `siniz` give document 01's two lines
-pub evler-siniz : listing (text "evler\nsiniz\n") ≡ text "evler\tY\tY\t0\tev\tev\nsiniz\tY\tY\t1\t\t\n"
+-- the input lines `evler` and `siniz` give document 01's two lines, each with the whole run's text for its last field
+pub evler-siniz : listing (text "evler\nsiniz\n") ≡ text "evler\tY\tY\t0\tev\tev\tev\nsiniz\tY\tY\t1\t\t\t\n"
 evler-siniz = example-lines
 
 -- any line fits the room for one

@@ -13,8 +13,8 @@ ghost use Rattle.listing.specs.Fed.{standing, heldNext, feedByte, feedin
 // The bytes held of a line that is not ended: one more than the limit, since a longer line is refused whatever follows.
 pub const HELD: usize = refusal::LIMIT + 1;
 
-// Room for any output line: three times the limit, and twelve bytes.
-const LINE: usize = 3 * refusal::LIMIT + 12;
+// Room for any output line: four times the limit, and fifteen bytes.
+const LINE: usize = 4 * refusal::LIMIT + 15;
 
 // How much of the block was taken, how many bytes of the line are held, and how many bytes of the output are written.
 pub struct Progress {

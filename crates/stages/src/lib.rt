@@ -1,4 +1,4 @@
-// The port of the three stages under the Rust's names. Nothing here refuses: the calls with their refusals stand above, in words and outputs.
+// The port of suffix stage, syllable check and postlude under the Rust's names. Nothing here refuses: the calls with their refusals stand above, in words and outputs.
 pub mod postlude;
 pub mod stage;
 pub mod syllable;

@@ -29,7 +29,7 @@ pub struct Repair {
 
 impl Repair {
     // The first n bytes as they are.
-    fn unchanged(n: usize, yes: bool) -> Repair
+    pub fn unchanged(n: usize, yes: bool) -> Repair
         ensures { λ r. ⌜ r ≡ unchanged n yes ⌝ }
     {
         Repair {

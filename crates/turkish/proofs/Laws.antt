@@ -22,3 +22,6 @@ pub mod Words
 pub mod Folding
 pub mod Same
 pub mod Leaves
+pub mod DeadMarks
+pub mod NounText
+pub mod Chain

@@ -4,6 +4,8 @@ pub mod Near
 pub mod Fronts
 pub mod Nothing
 pub mod Starred
+pub mod NounParts
+pub mod NounWords
 pub mod PieceWords
 pub mod PieceTheorems
 pub mod Shapes

@@ -1,12 +1,12 @@
--- How many bytes the postlude and the pass give: never more than their outputs must hold. And the part that the stage hands back: a
--- front of the word, the bytes of the characters kept. Assumes nothing.
+-- How many bytes the postlude, the pass, the noun stage and the whole run give: never more than their outputs must hold. And the part that
+-- the stage hands back: a front of the word, the bytes of the characters kept. Assumes nothing.
 use Prim.Native.Nat.{ℕ, zero, suc, _+_, _≤_}
 use mathlib.Core.Path.{_≡_, refl, sym, ap, _∙_}
 use mathlib.Core.Bool.{Bool, true}
-use mathlib.Core.List.{List, [], _∷_}
+use mathlib.Core.List.{List, [], _∷_, _++_}
 use native.Mathlib.Omega.{arith}
-use lib.ListN.{length, take, drop}
-use lib.Seq.{length-take-le}
+use lib.ListN.{length, take, drop, take-append-drop, length-append}
+use lib.Seq.{length-take-le, drop-drop}
 use lib.Dec.{leb}
 use borrow.Author.Tests.{leb-true}
 use Rattle.encoding.specs.Encoding.{encode}
@@ -18,12 +18,15 @@ use Rattle.turkish.specs.Vowels.{lastVowel}
 use Rattle.turkish.specs.Simple.Harmony.{moreThanOneSyllable}
 use Rattle.turkish.specs.Simple.Stage.{stage, kept, keptLength}
 use Rattle.turkish.specs.Simple.Postlude.{reserved, gained, appends, appendU, Hardening, hardenings, hardIn, hard, harden, postlude}
+use Rattle.turkish.specs.Simple.Nouns as nouns
+use Rattle.turkish.specs.Simple.Nouns.{Rest, whole, cut, parted, nounRest, restText}
+use Rattle.turkish.specs.Simple.WholeRun as runs
 use Rattle.turkish.specs.WordPass.{Passed, pass}
-use Rattle.turkish.specs.Calls.{chars, bytes, accepted, stageText, stagePart, postludeText, passText}
+use Rattle.turkish.specs.Calls.{chars, bytes, accepted, stageText, stagePart, postludeText, passText, nounText, wholeText}
 use Rattle.turkish.proofs.Laws.Tests.{every}
 use Rattle.turkish.proofs.Laws.Accepted.{accepted-text, bytes-chars}
-use Rattle.turkish.proofs.Laws.Words.{length-bytes-cons}
-use Rattle.turkish.proofs.Source.Calls.{suffixStage-text, postludeOf-text, simplePass, pass-simple}
+use Rattle.turkish.proofs.Laws.Words.{bytes-append, length-bytes-cons}
+use Rattle.turkish.proofs.Source.Calls.{suffixStage-text, postludeOf-text, simplePass, pass-simple, nounText-simple, wholeText-simple}
 use Rattle.turkish.proofs.PostludeRules.{gained-elim, postlude-one}
 
 -- ---- characters ----
@@ -83,7 +86,35 @@ postlude-size cs =
     rw (postlude-one cs)
     (cond-test (TwoMore cs) (reserved cs) (λ e. omega arith) (cond-test (TwoMore cs) (appends cs) (λ e. appendU-size cs) (harden-size cs)))
 
--- so does the pass
+-- two parts of a text take the bytes of both
+pub bytes-parts : (ds es : List ℕ) → length (bytes (ds ++ es)) ≡ length (bytes ds) + length (bytes es)
+bytes-parts ds es =
+    let l : length (bytes (ds ++ es)) ≡ length (bytes es) + length (bytes ds) = rw (bytes-append, length-append) in
+    omega arith
+
+-- the noun stage adds none
+noun-size : (cs : List ℕ) → length (bytes (nouns.nounLeaves cs)) ≤ length (bytes cs)
+unfolding nouns.nounLeaves restText
+noun-size cs = go (nounRest cs)
+  where
+    go : (r : Rest) → length (bytes (restText r cs)) ≤ length (bytes cs)
+    go whole = omega arith
+    go (cut k) = bytes-drop k cs
+    go (parted j k) =
+        let parts = ap (λ (ds : List ℕ). length (bytes ds)) (take-append-drop j cs) in
+        let rest = ap (λ (ds : List ℕ). length (bytes ds)) (drop-drop k j cs) in
+        omega (arith, bytes-parts (take j cs) (drop j cs), bytes-parts (take j cs) (drop (j + k) cs), bytes-drop k (drop j cs))
+
+-- so the whole run adds two at most
+whole-size : (cs : List ℕ) → length (bytes (runs.wholeLeaves cs)) ≤ length (bytes cs) + 2
+unfolding runs.wholeLeaves kept
+whole-size cs =
+    let d : length (bytes (kept cs)) ≤ length (bytes cs) = bytes-drop (stage cs .removed) cs in
+    cond-test (TwoMore cs) (moreThanOneSyllable cs)
+    (λ e. cond-test (TwoMore cs) (stage cs .flag) (λ f. omega (arith, postlude-size (nouns.nounLeaves (kept cs)), noun-size (kept cs))) (omega arith))
+    (omega arith)
+
+-- and so does the pass
 pass-size : (cs : List ℕ) → TwoMore cs (pass cs .text)
 unfolding simplePass kept
 pass-size cs =
@@ -104,6 +135,14 @@ postludeText-size w e = rw (postludeOf-text (chars w)) (rw (bytes-chars w e) at 
 pub passText-size : (w : List ℕ) → accepted w ≡ true → length (passText w) ≤ length w + 2
 unfolding passText
 passText-size w e = rw (bytes-chars w e) at (pass-size (chars w))
+
+-- the noun stage's of n
+pub nounText-size : (w : List ℕ) → accepted w ≡ true → length (nounText w) ≤ length w
+nounText-size w e = rw (nounText-simple w) (rw (bytes-chars w e) at (noun-size (chars w)))
+
+-- and the whole run's of n + 2
+pub wholeText-size : (w : List ℕ) → accepted w ≡ true → length (wholeText w) ≤ length w + 2
+wholeText-size w e = rw (wholeText-simple w) (rw (bytes-chars w e) at (whole-size (chars w)))
 
 -- the bytes of the characters kept are a front of the word
 pub kept-bytes : (w : List ℕ) → accepted w ≡ true → take (keptLength w) w ≡ bytes (kept (chars w))

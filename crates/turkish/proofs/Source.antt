@@ -1,9 +1,11 @@
 -- The source, turkish.sbl's routines, equals the simple forms on which the code's contracts rest.
 pub mod Means
 pub mod Settled
+pub mod Cutting
 pub mod LastVowel
 pub mod Harmony
 pub mod Marks
+pub mod NounMarks
 pub mod Stage
 pub mod Keeps
 pub mod KeptMarks
@@ -12,5 +14,9 @@ pub mod Syllables
 pub mod Reserved
 pub mod LastConsonant
 pub mod Postlude
+pub mod WholeRun
 pub mod Calls
 pub mod Recursion
+pub mod SliceCalls
+pub mod NounChain
+pub mod NounStage

@@ -13,6 +13,7 @@ use Rattle.encoding.specs.Encoding.{encode, encodeAll, continuation}
 use Rattle.encoding.proofs.Laws.Booleans.{and-left, and-right, and-each}
 use Rattle.turkish.specs.Letters.{text, fromEnd, starts}
 use Rattle.turkish.specs.Simple.Marks.{marked, yUm, sUn, yUz, sUnUz, lAr, nUz, DUr, cAsInA, yDU, ysA, ymUs, yken}
+use Rattle.turkish.specs.Simple.NounMarks.{lettersU, possessives, sU, lArI, nU, nUn, yA, nA, DA, ndA, DAn, ndAn, ylA, ki, ncA}
 use Rattle.turkish.specs.Simple.Postlude.{hardenings, hardKeys}
 use Rattle.turkish.specs.Simple.Tables.{Table, tables, nonzero, whole}
 use Rattle.turkish.specs.Calls.{bytes}
@@ -44,7 +45,8 @@ passes t = whole (t .width) (t .keys) && every begins (t .keys) && apart (t .key
 
 -- every table passes
 tables-pass : every passes tables ≡ true
-unfolding every passes whole nonzero apart neither starts begins begin continuation bytes encodeAll encode tables hardKeys hardenings marked yUm sUn yUz sUnUz lAr nUz DUr cAsInA yDU ysA ymUs yken fromEnd text
+unfolding every passes whole nonzero apart neither starts begins begin continuation bytes encodeAll encode tables hardKeys hardenings marked yUm sUn yUz sUnUz lAr nUz DUr cAsInA yDU ysA ymUs yken
+    lettersU possessives sU lArI nU nUn yA nA DA ndA DAn ndAn ylA ki ncA fromEnd text
 tables-pass = refl
 
 -- so each does

@@ -1,7 +1,8 @@
 -- The file to open first: what the definitions of turkish promise, in the words of the user's demands. Each theorem is proved in
 -- a line or two from the files named for what they prove. That the code gives these definitions' answers is the contracts' part.
 -- What the calls give is what turkish.sbl's commands answer (specs: Snowball, Source, Answers, Pieces, Calls, PieceCalls); the code's own
--- contracts rest on simpler forms (Simple: Harmony, Grammar, Marks, Stage, Pieces, Postlude), and that these are the same is proved here.
+-- contracts rest on simpler forms (Simple: Harmony, Grammar, Marks, Stage, Pieces, Postlude, NounMarks, Nouns, WholeRun), and that these are
+-- the same is proved here.
 -- Assumes nothing.
 use Prim.Native.Nat.{ℕ, _+_, _*_, _≤_, _<_}
 use Prim.Native.Char.{code}
@@ -16,26 +17,37 @@ use lib.Dec.{eqb}
 use Rattle.encoding.specs.Validity.{isText}
 use Rattle.encoding.specs.Encoding.{continuation}
 use Rattle.turkish.specs.Letters.{text, has, starts}
-use Rattle.turkish.specs.Snowball.{State, ahead, Result, done, failed, Direction, forward, backward, letters, deep, Command, _then_, try, literal, routine, itself, run}
+use Rattle.turkish.specs.Snowball.{State, ahead, Result, done, failed, Direction, forward, backward, letters, deep, Command, define, _then_, try, literal, routine, itself, run}
 use Rattle.turkish.specs.Source as source
-use Rattle.turkish.specs.Answers.{called, syllableCheck, stemmed, suffixStage, repaired, postludeOf}
+use Rattle.turkish.specs.Answers.{called, succeeded, left, syllableCheck, stemmed, suffixStage, repaired, postludeOf, uninflected, nounStage, wholeRun}
 use Rattle.turkish.specs.Pieces.{alone, withY, afterVowel, reading}
 use Rattle.turkish.specs.Simple.Harmony.{harmony, moreThanOneSyllable}
-use Rattle.turkish.specs.Simple.Grammar.{optional, markOf}
-use Rattle.turkish.specs.Simple.Marks.{yUm, sUn, yUz, sUnUz, lAr, nUz, DUr, cAsInA, yDU, ysA, ymUs, yken}
+use Rattle.turkish.specs.Simple.Grammar.{joining, markOf}
+use Rattle.turkish.specs.Simple.Marks.{byY, yUm, sUn, yUz, sUnUz, lAr, nUz, DUr, cAsInA, yDU, ysA, ymUs, yken}
+use Rattle.turkish.specs.Simple.NounMarks.{byN, byS, byU, possessives, sU, lArI, yU, nU, nUn, yA, nA, DA, ndA, DAn, ndAn, ylA, ki, ncA}
 use Rattle.turkish.specs.Simple.Stage.{stage, kept}
+use Rattle.turkish.specs.Simple.Nouns as nouns
+use Rattle.turkish.specs.Simple.WholeRun as whole
 use Rattle.turkish.specs.Simple.Pieces.{stageMarks, located}
 use Rattle.turkish.specs.Simple.Postlude.{reserved, appends, appendU, harden, postlude, postludeYes}
 use Rattle.turkish.specs.Simple.Tables.{Table, tables, nonzero}
 use Rattle.turkish.specs.Fold.{capitals01, foldBy}
 use Rattle.turkish.specs.Calls.{chars, bytes, limit, accepted, stageText, stagePart, stageCall, postludeText, postludeRefusal, postludeOut}
 use Rattle.turkish.specs.Calls.{foldText, foldRefusal, foldCall, foldOut, passText, passRefusal, passOut}
+use Rattle.turkish.specs.Calls.{nounText, nounRefusal, nounOut, wholeText, wholeRefusal, wholeOut}
+use Rattle.turkish.specs.NounParts.{NounPart}
 use Rattle.turkish.specs.PieceCalls.{Span, spansOf, given, mostPieces, piecesRoom, buffer, bufferOf, piecesRefusal, PiecesOut, textRoom, pieceLine, textOf}
 use Rattle.turkish.specs.PieceCalls.{piecesTextRefusal, piecesTextCall, PiecesTextOut, EndToEnd, between, covering, spelled, mostBytes}
 use Rattle.turkish.specs.Fronts.{mostRemoved, front, Pair, reachesReserved, passGives, SameAnswers, leftEmpty, oneOf}
 use Rattle.turkish.proofs.Source.Means.{settled, Means, takeIf}
-use Rattle.turkish.proofs.Source.Harmony.{harmony-means, optionalY-means}
-use Rattle.turkish.proofs.Source.Marks.{yUm-means, sUn-means, yUz-means, sUnUz-means, lAr-means, nUz-means, DUr-means, cAsInA-means, yDU-means, ysA-means, ymUs-means, yken-means}
+use Rattle.turkish.proofs.Source.Harmony.{harmony-means}
+use Rattle.turkish.proofs.Source.Marks.{byY-means, yUm-means, sUn-means, yUz-means, sUnUz-means, lAr-means, nUz-means, DUr-means, cAsInA-means, yDU-means, ysA-means, ymUs-means, yken-means}
+use Rattle.turkish.proofs.Source.NounMarks.{possessives-means, sU-means, lArI-means, yU-means, nU-means, nUn-means, yA-means, nA-means, DA-means, ndA-means, DAn-means}
+use Rattle.turkish.proofs.Source.NounMarks.{ndAn-means, ylA-means, ki-means, ncA-means}
+use Rattle.turkish.proofs.Source.NounMarks.{byN-means, byS-means, byU-means, ndA-dead, lArI-dead}
+use Rattle.turkish.proofs.Source.NounChain.{chainBody, chain-any-depth, chain-is-text}
+use Rattle.turkish.proofs.Source.NounStage.{noun-answers, nounStage-simple}
+use Rattle.turkish.proofs.Source.WholeRun.{whole-answers, wholeRun-simple}
 use Rattle.turkish.proofs.Source.Stage.{stage-answers, suffixStage-simple}
 use Rattle.turkish.proofs.Source.KeptStage.{keeps-of-source}
 use Rattle.turkish.proofs.Source.Syllables.{syllables-run, syllableCheck-simple}
@@ -52,7 +64,8 @@ use Rattle.turkish.proofs.Laws.Accepted.{accepted-iff}
 use Rattle.turkish.proofs.Fronts.{pair-fares-alike}
 use Rattle.turkish.proofs.Nothing.{left-empty}
 use Rattle.turkish.proofs.Laws.Syllables.{moreThanOneSyllable-no}
-use Rattle.turkish.proofs.Sizes.{postludeText-size, passText-size, stageText-length, stagePart-front}
+use Rattle.turkish.proofs.Sizes.{postludeText-size, passText-size, nounText-size, wholeText-size, stageText-length, stagePart-front}
+use Rattle.turkish.proofs.NounParts.{nounText-part, nounText-changes}
 use Rattle.turkish.proofs.Folds.{foldText-doubled, foldText-before, foldText-text, foldText-foldText, foldCall-fits, foldCall-short}
 use Rattle.turkish.proofs.Folds.{letters-I-text, letters-I-length, letters-I-folded, letters-ı-length}
 use Rattle.turkish.proofs.FoldWords as FoldWords
@@ -62,6 +75,7 @@ use Rattle.turkish.proofs.PieceTheorems.{at-most-three-pieces, kinds-1-
 use Rattle.turkish.proofs.ReadBack.{lines-tell-word, texts-tell-word, calls-tell-word}
 use Rattle.turkish.proofs.PieceWords as PieceWords
 use Rattle.turkish.proofs.Starred as Starred
+use Rattle.turkish.proofs.NounWords as NounWords
 
 -- ---- demand 1: who is refused, and that a refused output stays ----
 
@@ -74,13 +88,18 @@ pub refused-stays : (w out : List ℕ)
     → (eqb (postludeRefusal w (length out)) 0 ≡ false → postludeOut w out ≡ out)
     × (eqb (foldRefusal w (length out)) 0 ≡ false → foldOut w out ≡ out)
     × (eqb (passRefusal w (length out)) 0 ≡ false → passOut w out ≡ out)
-unfolding postludeOut foldOut passOut
-refused-stays w out = (λ e. rw e, λ e. rw e, λ e. rw e)
+    × (eqb (nounRefusal w (length out)) 0 ≡ false → nounOut w out ≡ out)
+    × (eqb (wholeRefusal w (length out)) 0 ≡ false → wholeOut w out ≡ out)
+unfolding postludeOut foldOut passOut nounOut wholeOut
+refused-stays w out = (λ e. rw e, λ e. rw e, λ e. rw e, λ e. rw e, λ e. rw e)
 
--- the outputs asked for suffice: n + 2 bytes for postlude and pass, and 2n for the fold; what the fold asks for is `fold-refuses-short`
+-- the outputs asked for suffice: n + 2 bytes for postlude, pass and whole run, n for the noun stage, and 2n for the fold; what the fold asks
+-- for is `fold-refuses-short`
 pub outputs-suffice : (w : List ℕ) → accepted w ≡ true
     → (length (postludeText w) ≤ length w + 2) × (length (passText w) ≤ length w + 2) × (length (foldText w) ≤ 2 * length w)
-outputs-suffice w a = (postludeText-size w a, passText-size w a, foldText-doubled w (accepted-iff w .0 a .1) .0)
+    × (length (nounText w) ≤ length w) × (length (wholeText w) ≤ length w + 2)
+outputs-suffice w a =
+    (postludeText-size w a, passText-size w a, foldText-doubled w (accepted-iff w .0 a .1) .0, nounText-size w a, wholeText-size w a)
 
 -- ---- demand 2: turkish.sbl, and the simple forms that the code's contracts rest on ----
 
@@ -109,11 +128,14 @@ postlude-of-source = postlude-answers
 pub harmony-of-source : Means backward source.check-vowel-harmony (λ cs. takeIf (harmony cs) 0)
 harmony-of-source = harmony-means
 
--- the optional y
-pub optional-y-of-source : Means backward source.mark-suffix-with-optional-y-consonant (optional (text "y") true)
-optional-y-of-source = optionalY-means
+-- the optional letters: y, n and s after a vowel, U after a character that is none
+pub optional-letters-of-source : Means backward source.mark-suffix-with-optional-y-consonant (joining byY)
+    × Means backward source.mark-suffix-with-optional-n-consonant (joining byN)
+    × Means backward source.mark-suffix-with-optional-s-consonant (joining byS)
+    × Means backward source.mark-suffix-with-optional-U-vowel (joining byU)
+optional-letters-of-source = (byY-means, byN-means, byS-means, byU-means)
 
--- the twelve marks
+-- the suffix stage's twelve marks
 pub marks-of-source : Means backward source.mark-yUm (markOf yUm) × Means backward source.mark-sUn (markOf sUn)
     × Means backward source.mark-yUz (markOf yUz) × Means backward source.mark-sUnUz (markOf sUnUz)
     × Means backward source.mark-lAr (markOf lAr) × Means backward source.mark-nUz (markOf nUz)
@@ -304,6 +326,75 @@ letters-I-double n h =
       rw l at (foldCall-fits w (2 * n) a (omega arith)),
       λ room k. foldCall-short w room a (omega arith),
     )
+
+-- ---- the noun stage and the whole run (document 02, request 4) ----
+
+-- words of the noun stage with their outcome, computed from turkish.sbl's own commands
+pub noun-words : NounWords.Met NounWords.nouns
+noun-words = NounWords.outcomes .0
+
+-- and words of the whole run
+pub whole-words : NounWords.Met NounWords.wholes
+whole-words = NounWords.outcomes .1
+
+-- in whatever state it is entered at the text's end, the noun stage leaves the simple form's text and answer
+pub noun-of-source : (s : State) → s .cursor ≡ 0
+    → uninflected (called backward source.stem-noun-suffixes s) ≡ record { yes = nouns.nounYes (s .text); text = nouns.nounLeaves (s .text) }
+noun-of-source = noun-answers
+
+-- its fifteen marks; lAr is the suffix stage's
+pub noun-marks-of-source : Means backward source.mark-possessives (markOf possessives) × Means backward source.mark-sU (markOf sU)
+    × Means backward source.mark-lArI (markOf lArI) × Means backward source.mark-yU (markOf yU)
+    × Means backward source.mark-nU (markOf nU) × Means backward source.mark-nUn (markOf nUn)
+    × Means backward source.mark-yA (markOf yA) × Means backward source.mark-nA (markOf nA)
+    × Means backward source.mark-DA (markOf DA) × Means backward source.mark-ndA (markOf ndA)
+    × Means backward source.mark-DAn (markOf DAn) × Means backward source.mark-ndAn (markOf ndAn)
+    × Means backward source.mark-ylA (markOf ylA) × Means backward source.mark-ki (markOf ki)
+    × Means backward source.mark-ncA (markOf ncA)
+noun-marks-of-source =
+    (possessives-means, sU-means, lArI-means, yU-means, nU-means, nUn-means, yA-means, nA-means, DA-means, ndA-means, DAn-means, ndAn-means, ylA-means, ki-means, ncA-means)
+
+-- in whatever state it is entered at the text's start, the whole run leaves the simple form's text
+pub whole-of-source : (s : State) → s .cursor ≡ 0 → reverse (left (called forward source.stem s) .text) ≡ whole.wholeLeaves (reverse (s .text))
+whole-of-source = whole-answers
+
+-- so it is the stages one after the other: a word of one syllable stays; else the suffix stage, and unless its flag is down the noun stage
+-- of what that leaves and the postlude of what this does
+pub whole-is-the-stages : (cs : List ℕ) → wholeRun cs ≡ cond (syllableCheck cs)
+    (cond (suffixStage cs .flag) (postludeOf (nounStage (suffixStage cs .text) .text) .text) (suffixStage cs .text)) cs
+unfolding whole.wholeLeaves
+whole-is-the-stages cs =
+    rw (wholeRun-simple cs, syllableCheck-simple cs, suffixStage-simple cs, nounStage-simple (kept cs), postludeOf-text (nouns.nounLeaves (kept cs)))
+
+-- the chain before `ki` calls itself, each time behind a `ki`: how many calls deep its definition goes does not matter
+pub chain-depth-is-free : (m n : ℕ) (s : State) → length (ahead s) < m → length (ahead s) < n
+    → deep (λ again. run backward again chainBody) m s ≡ deep (λ again. run backward again chainBody) n s
+chain-depth-is-free = chain-any-depth
+
+-- these are its commands, and it is they with itself called in them
+pub chain-calls-itself : (source.stem-suffix-chain-before-ki ≡ define "stem_suffix_chain_before_ki" (routine chainBody))
+    × ((self : State → Result) (s : State)
+    → run backward self source.stem-suffix-chain-before-ki s ≡ run backward (run backward self source.stem-suffix-chain-before-ki) chainBody s)
+unfolding source.stem-suffix-chain-before-ki
+chain-calls-itself = (refl, chain-is-text)
+
+-- ndA fails wherever DA does, and lArI wherever sU does: the chain's third alternative (line 351) and line 384's lArI are dead
+pub dead-alternatives : (s : State)
+    → (succeeded (called backward source.mark-DA s) ≡ false → succeeded (called backward source.mark-ndA s) ≡ false)
+    × (succeeded (called backward source.mark-sU s) ≡ false → succeeded (called backward source.mark-lArI s) ≡ false)
+dead-alternatives s = (ndA-dead s, lArI-dead s)
+
+-- of an accepted word the noun stage leaves a front part, or one with the word's own last na, ne, nda or nde behind it
+pub noun-parts : (w : List ℕ) → accepted w ≡ true → NounPart w (nounText w)
+noun-parts = nounText-part
+
+-- it says yes exactly where the text is another one
+pub noun-yes-changes : (w : List ℕ) → accepted w ≡ true → (nounStage (chars w) .yes ≡ true) ↔ (nounText w ≡ w → ⊥)
+noun-yes-changes = nounText-changes
+
+-- and never makes a word longer
+pub noun-never-longer : (w : List ℕ) → accepted w ≡ true → length (nounText w) ≤ length w
+noun-never-longer = nounText-size
 
 -- ---- the key tables and the postlude's rules ----
 

@@ -1,5 +1,5 @@
 -- What each call gives for a word of bytes, refused calls included, and what its lent output holds after it (document 01, "Whose
--- fault a refusal is" and "Syllable check, postlude, folding, word pass"; document 02, request 2). The contracts cite these.
+-- fault a refusal is" and "Syllable check, postlude, folding, word pass"; document 02, requests 2 and 4). The contracts cite these.
 -- Assumes nothing.
 use Prim.Native.Nat.{ℕ, _+_}
 use mathlib.Core.Bool.{Bool, false, cond}
@@ -14,7 +14,9 @@ use Rattle.turkish.specs.declared.answer.StageAnswer.{StageAnswer}
 use Rattle.turkish.specs.declared.answer.PostludeAnswer.{PostludeAnswer}
 use Rattle.turkish.specs.declared.answer.FoldAnswer.{FoldAnswer}
 use Rattle.turkish.specs.declared.answer.PassAnswer.{PassAnswer}
-use Rattle.turkish.specs.Answers.{syllableCheck, suffixStage, postludeOf}
+use Rattle.turkish.specs.declared.answer.NounAnswer.{NounAnswer}
+use Rattle.turkish.specs.declared.answer.WholeAnswer.{WholeAnswer}
+use Rattle.turkish.specs.Answers.{syllableCheck, suffixStage, postludeOf, nounStage, wholeRun}
 use Rattle.turkish.specs.Fold.{fold}
 use Rattle.turkish.specs.WordPass.{pass}
 
@@ -124,3 +126,37 @@ passCall w room =
 
 unfoldable pub passOut : List ℕ → List ℕ → List ℕ
 passOut w out = cond (eqb (passRefusal w (length out)) 0) (written (passText w) out) out
+
+-- ---- noun stage: an output of n bytes ----
+
+unfoldable pub nounText : List ℕ → List ℕ
+nounText w = bytes (nounStage (chars w) .text)
+
+unfoldable pub nounRefusal : List ℕ → ℕ → ℕ
+nounRefusal w room = refusalInto w (length w) room
+
+unfoldable pub nounCall : List ℕ → ℕ → NounAnswer
+nounCall w room =
+    cond (eqb (nounRefusal w room) 0)
+    (record { refusal = 0; length = length (nounText w); yes = nounStage (chars w) .yes })
+    (record { refusal = nounRefusal w room; length = 0; yes = false })
+
+unfoldable pub nounOut : List ℕ → List ℕ → List ℕ
+nounOut w out = cond (eqb (nounRefusal w (length out)) 0) (written (nounText w) out) out
+
+-- ---- whole run: an output of n + 2 bytes ----
+
+unfoldable pub wholeText : List ℕ → List ℕ
+wholeText w = bytes (wholeRun (chars w))
+
+unfoldable pub wholeRefusal : List ℕ → ℕ → ℕ
+wholeRefusal w room = refusalInto w (length w + 2) room
+
+unfoldable pub wholeCall : List ℕ → ℕ → WholeAnswer
+wholeCall w room =
+    cond (eqb (wholeRefusal w room) 0)
+    (record { refusal = 0; length = length (wholeText w) })
+    (record { refusal = wholeRefusal w room; length = 0 })
+
+unfoldable pub wholeOut : List ℕ → List ℕ → List ℕ
+wholeOut w out = cond (eqb (wholeRefusal w (length out)) 0) (written (wholeText w) out) out

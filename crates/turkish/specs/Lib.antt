@@ -12,5 +12,6 @@ pub mod Calls
 pub mod PieceCalls
 pub mod Vowels
 pub mod Fronts
+pub mod NounParts
 -- what need not be believed
 pub mod Simple

@@ -7,7 +7,9 @@ use mathlib.Core.List.{List, [], _∷_, _++_, map}
 use lib.Dec.{eqb, ltb}
 use Rattle.utf8.specs.Steps.{same}
 use Rattle.turkish.specs.Letters.{text}
-use Rattle.turkish.specs.Snowball.{State, place, moveTo, Result, done, failed, Direction, backward, Command, define, _then_, _or_, test, not, try, «do», goto, gopast, atleast, backwards, succeed, next, literal, grouping, among, substring, case, ⟦, ⟧, delete, <-_, <+_, set, unset, strlen=, strlen==limit, routine, itself, run}
+use Rattle.turkish.specs.Snowball.{State, place, moveTo, Result, done, failed, Direction, backward, Command, define, _then_, _or_, test, not, try, «do», goto, gopast, atleast}
+use Rattle.turkish.specs.Snowball.{backwards, succeed, next, literal, grouping, outside, among, substring, case, ⟦, ⟧, delete, <-_, <+_, set, unset, isSet, strlen=}
+use Rattle.turkish.specs.Snowball.{strlen==limit, routine, itself, run}
 use Rattle.turkish.specs.Source.{stem-nominal-verb-suffixes}
 use Rattle.turkish.specs.Answers.{entered}
 
@@ -105,7 +107,7 @@ reading d self (define n p) s = readIn n s (run d self p s) (reading d self p s)
 reading d self (p then q) s = readAfter (run d self p s) (reading d self p s) (reading d self q)
 reading d self (p or q) s = readOr (s .cursor) (run d self p s) (reading d self p s) (reading d self q)
 reading d self (try p) s = readOr (s .cursor) (run d self p s) (reading d self p s) (λ t. blank)
--- in none of the others does a mark of the suffix stage stand
+-- the suffix stage has no mark inside any of the others
 reading d self (test p) s = blank
 reading d self (not p) s = blank
 reading d self («do» p) s = blank
@@ -117,6 +119,7 @@ reading d self succeed s = blank
 reading d self next s = blank
 reading d self (literal l) s = blank
 reading d self (grouping g) s = blank
+reading d self (outside g) s = blank
 reading d self (among ks) s = blank
 reading d self (substring ks) s = blank
 reading d self (case n p) s = blank
@@ -127,6 +130,7 @@ reading d self (<- l) s = blank
 reading d self (<+ l) s = blank
 reading d self set s = blank
 reading d self unset s = blank
+reading d self isSet s = blank
 reading d self (strlen= n) s = blank
 reading d self strlen==limit s = blank
 reading d self (routine p) s = blank

@@ -4,6 +4,9 @@ pub mod Harmony
 pub mod Grammar
 pub mod Marks
 pub mod Stage
+pub mod NounMarks
+pub mod Nouns
 pub mod Pieces
 pub mod Postlude
+pub mod WholeRun
 pub mod Tables

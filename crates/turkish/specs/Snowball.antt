@@ -106,6 +106,11 @@ unfoldable pub isIn : List ℕ → List ℕ → Bool
 isIn g [] = false
 isIn g (c ∷ cs) = has g c
 
+-- a character is left, and it is not in the grouping
+unfoldable pub isOutside : List ℕ → List ℕ → Bool
+isOutside g [] = false
+isOutside g (c ∷ cs) = Bool.not (has g c)
+
 pub data Direction : Type 0 where
   forward : Direction
   backward : Direction
@@ -220,6 +225,7 @@ pub data Command : Type 0 where
   next : Command
   literal : String → Command
   grouping : String → Command  -- a character of the grouping
+  outside : String → Command  -- one that is not of it: turkish.sbl's `non-` before the grouping's name
   among : List String → Command  -- the longest key
   substring : List String → Command  -- the same, and its place in the table is kept
   case : ℕ → Command → Command  -- where that is its place
@@ -230,6 +236,7 @@ pub data Command : Type 0 where
   <+_ : String → Command
   set : Command  -- of continue_stemming_noun_suffixes
   unset : Command
+  isSet : Command  -- whether it is set
   strlen= : ℕ → Command  -- `$strlen = n`
   strlen==limit : Command
   routine : Command → Command  -- a routine that calls itself
@@ -256,6 +263,7 @@ run d self succeed s = done s
 run d self next s = readIf (isLeft (ahead s)) 1 s
 run d self (literal l) s = readIf (starts (letters d l) (ahead s)) (length (letters d l)) s
 run d self (grouping g) s = readIf (isIn (text g) (ahead s)) 1 s
+run d self (outside g) s = readIf (isOutside (text g) (ahead s)) 1 s
 run d self (among ks) s = let k = keyAhead d ks s in readIf (fits k) (k .size) s
 run d self (substring ks) s = let k = keyAhead d ks s in readIf (fits k) (k .size) (withFound s (k .number))
 run d self (case n p) s = cond (eqb (s .found) n) (run d self p s) (done s)
@@ -266,6 +274,7 @@ run d self (<- l) s = done (sliceFrom (letters d l) s)
 run d self (<+ l) s = done (inserted (letters d l) s)
 run d self set s = done (withFlag s true)
 run d self unset s = done (withFlag s false)
+run d self isSet s = cond (s .flag) (done s) (failed s)
 run d self (strlen= n) s = done (withStrlen s n)
 run d self strlen==limit s = cond (eqb (s .strlen) (limit s)) (done s) (failed s)
 run d self (routine p) s = deep (λ again. run d again p) (enough s) s

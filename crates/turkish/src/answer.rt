@@ -7,7 +7,8 @@ pub struct SyllableAnswer {
     pub yes: bool,
 }
 
-// The suffix stage: the kept text's length in bytes, whether an ending was removed, and whether the postlude is due.
+// The suffix stage: the kept text's length in bytes, whether an ending was removed, and whether noun stage and
+// postlude are due.
 #[repr(C)]
 pub struct StageAnswer {
     pub refusal: u32,
@@ -39,6 +40,21 @@ pub struct PassAnswer {
     pub syllable: bool,
     pub yes: bool,
     pub flag: bool,
+}
+
+// The noun stage: its text's length, and whether it is another text.
+#[repr(C)]
+pub struct NounAnswer {
+    pub refusal: u32,
+    pub length: usize,
+    pub yes: bool,
+}
+
+// The whole run: its text's length.
+#[repr(C)]
+pub struct WholeAnswer {
+    pub refusal: u32,
+    pub length: usize,
 }
 
 // The pieces of the removed ending: the kept text's length, and how many pieces the buffer holds.

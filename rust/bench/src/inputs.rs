@@ -1,5 +1,5 @@
-//! The words that are timed: the vocabulary, and words of 24 and of 1,000 bytes of several make-ups; and
-//! headings for the fold.
+//! The words that are timed: the vocabulary, and words of 24 and of 1,000 bytes of several make-ups;
+//! headings for the fold; and chains before ki for the noun stage and the whole run.
 
 use compare::words::filled::filled;
 use compare::words::headings::capitals;
@@ -7,6 +7,7 @@ use compare::words::read_vocabulary;
 use std::path::Path;
 
 const SHORT: usize = 24;
+const CHAIN: usize = 96;
 const LONG: usize = 1000;
 const COPIES: usize = 256;
 // One Turkish letter in 24 bytes, and one in 50.
@@ -94,6 +95,27 @@ pub fn headings(vocabulary: &Path) -> Result<Vec<Input>, String> {
     ])
 }
 
+/// Words that are one link over and over: with `deki` the chain ends at the last, with `lerdeki` it goes
+/// back to the first.
+pub fn chains() -> Vec<Input> {
+    vec![
+        stacked("96 bytes, deki over and over", CHAIN, "deki"),
+        stacked("1,000 bytes, deki over and over", LONG, "deki"),
+        stacked("96 bytes, lerdeki over and over", CHAIN, "lerdeki"),
+        stacked("1,000 bytes, lerdeki over and over", LONG, "lerdeki"),
+    ]
+}
+
+// Copies of one word of exactly `length` bytes that ends with a link as often as it fits behind `ev`.
+fn stacked(name: &'static str, length: usize, link: &str) -> Input {
+    let chain = link.repeat((length - "ev".len()) / link.len());
+    let front = "b".repeat(length - "ev".len() - chain.len());
+    Input {
+        name,
+        words: vec![format!("{front}ev{chain}"); COPIES],
+    }
+}
+
 // Copies of one word of exactly `length` bytes: a front, a filler over and over, letters where no
 // whole character fits, and a tail.
 fn copies(name: &'static str, length: usize, [front, filler, tail]: [&str; 3]) -> Input {
@@ -118,5 +140,18 @@ mod tests {
                 assert_eq!(input.bytes(), length * COPIES);
             }
         }
+        for (input, length) in chains().iter().zip([CHAIN, LONG, CHAIN, LONG]) {
+            assert!(input.words.iter().all(|word| word.len() == length));
+            assert!(input.words[0].ends_with("deki"));
+        }
+    }
+
+    #[cfg(feature = "oracle")]
+    #[test]
+    fn one_chain_is_taken_at_its_end_and_one_whole() {
+        let left = |input: &Input| oracle::stem_noun_suffixes(&input.words[0]).text.len();
+        let left: Vec<usize> = chains().iter().map(left).collect();
+        assert_eq!(left[..2], [CHAIN - 4, LONG - 4]);
+        assert!(left[2..].iter().all(|&left| left < 10), "{left:?}");
     }
 }

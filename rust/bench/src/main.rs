@@ -6,9 +6,9 @@ mod pairs;
 #[cfg(feature = "oracle")]
 mod program;
 
-use inputs::{headings, inputs, Input};
+use inputs::{chains, headings, inputs, Input};
 use measure::{measure, Times};
-use pairs::{Pair, FOLD, PAIRS};
+use pairs::{Pair, FOLD, NOUNS, PAIRS};
 use shared::command::command;
 use shared::places;
 use std::path::PathBuf;
@@ -18,8 +18,8 @@ const USAGE: &str = "\
 usage: bench [--vocabulary PATH] [--rounds N] [--program PATH]
        bench --list
 
-Times each call on both sides, in turn, and prints the median of N rounds (default 31); and the
-program stemlist, where it is there, beside an equal one in Rust.
+Times each call on both sides, in turn, and prints the median of N rounds (default 31); the whole run
+beside Snowball's own C; and the program stemlist, where it is there, beside an equal one in Rust.
   --vocabulary PATH  one word to a line (default: the variable FANNAVY_VOCABULARY, or
                      /usr/share/snowball/data/turkish/voc.txt of Debian's snowball-data)
   --program PATH     the program stemlist (default: the variable FANNAVY_STEMLIST, or
@@ -68,6 +68,7 @@ fn run(settings: &Settings) -> Result<(), String> {
         return list();
     }
     calls(settings)?;
+    snowball(settings)?;
     programs(settings)
 }
 
@@ -98,15 +99,40 @@ fn programs(_: &Settings) -> Result<(), String> {
 fn calls(settings: &Settings) -> Result<(), String> {
     let inputs = inputs(&settings.vocabulary)?;
     let headings = headings(&settings.vocabulary)?;
+    let chains = chains();
     let rounds = settings.rounds;
     println!("Nanoseconds a word, median of {rounds} rounds. Fannavy takes bytes and checks them; the Rust takes text, or, from bytes,");
     println!("after `str::from_utf8`. Ratio: Fannavy's time over the Rust's; below 1, Fannavy is faster.\n");
     println!("| call | words | bytes a word | Fannavy | Rust | ratio | Rust from bytes | ratio |");
     println!("|---|---|--:|--:|--:|--:|--:|--:|");
-    let both = PAIRS
-        .iter()
-        .flat_map(|pair| inputs.iter().map(move |input| (pair, input)));
-    for (pair, input) in both.chain(headings.iter().map(|input| (&FOLD, input))) {
+    for pair in PAIRS {
+        rows(pair, &inputs, rounds)?;
+    }
+    for pair in NOUNS {
+        rows(pair, &inputs, rounds)?;
+        rows(pair, &chains, rounds)?;
+    }
+    rows(&FOLD, &headings, rounds)
+}
+
+#[cfg(feature = "libstemmer")]
+fn snowball(settings: &Settings) -> Result<(), String> {
+    println!("\nThe same beside Snowball's own C, libstemmer.\n");
+    println!("| call | words | bytes a word | Fannavy | C | ratio | C from bytes | ratio |");
+    println!("|---|---|--:|--:|--:|--:|--:|--:|");
+    let inputs = inputs(&settings.vocabulary)?;
+    rows(&pairs::SNOWBALL, &inputs, settings.rounds)?;
+    rows(&pairs::SNOWBALL, &chains(), settings.rounds)
+}
+
+#[cfg(not(feature = "libstemmer"))]
+fn snowball(_: &Settings) -> Result<(), String> {
+    Ok(())
+}
+
+// Times and prints a call on each of these.
+fn rows(pair: &Pair, inputs: &[Input], rounds: usize) -> Result<(), String> {
+    for input in inputs {
         let times = measure(pair, input, rounds)?;
         println!("{}", row(pair, input, &times));
     }

@@ -2,6 +2,10 @@
 
 use compare::folded::folded;
 use fannavy::{fold_room, LIMIT};
+#[cfg(feature = "libstemmer")]
+use libstemmer::Stemmer;
+#[cfg(feature = "libstemmer")]
+use std::cell::RefCell;
 
 /// An output long enough for every call.
 pub type Output = [u8; fold_room(LIMIT)];
@@ -73,6 +77,49 @@ pub const PAIRS: &[Pair] = &[
         },
     },
 ];
+
+/// The noun stage and the whole run, which chains before ki are timed for too.
+pub const NOUNS: &[Pair] = &[
+    #[cfg(feature = "oracle")]
+    Pair {
+        name: "noun stage",
+        takes_text: true,
+        proved: |word, output| match fannavy::noun(word.as_bytes(), output) {
+            Ok(noun) => sum(noun.text.len(), [noun.yes]),
+            Err(_) => REFUSED,
+        },
+        rust: |word, _| {
+            let noun = oracle::stem_noun_suffixes(word);
+            sum(noun.text.len(), [noun.yes])
+        },
+    },
+    #[cfg(feature = "oracle")]
+    Pair {
+        name: "whole run",
+        takes_text: true,
+        proved: whole,
+        rust: |word, _| oracle::stem(word).len(),
+    },
+];
+
+/// The whole run beside Snowball's own C, which takes text too.
+#[cfg(feature = "libstemmer")]
+pub const SNOWBALL: Pair = Pair {
+    name: "whole run",
+    takes_text: true,
+    proved: whole,
+    rust: |word, _| STEMMER.with_borrow_mut(|stemmer| stemmer.stem(word).len()),
+};
+
+#[cfg(feature = "libstemmer")]
+thread_local! {
+    static STEMMER: RefCell<Stemmer> = RefCell::new(Stemmer::turkish());
+}
+
+#[cfg(any(feature = "oracle", feature = "libstemmer"))]
+fn whole(word: &str, output: &mut Output) -> usize {
+    fannavy::whole(word.as_bytes(), output).map_or(REFUSED, <[u8]>::len)
+}
 
 /// The fold, of headings. The crate has none: its counterpart is the rule, character by character.
 pub const FOLD: Pair = Pair {

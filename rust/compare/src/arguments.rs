@@ -14,13 +14,16 @@ differ, with both answers.
   --seed N           where the random words start (default 1)
   --letters N        every word of up to N characters over the stages' letters (default 4)
   --piles N          N piles of three endings, besides every pile of one and of two; for the stages
-                     also N piles of four, and N of 15 to 18 characters (default 300000)
+                     also N piles of four, and N of 15 to 18 characters; of noun endings N piles of
+                     three or four, N chains before ki, and N piles below the endings of a nominal
+                     verb (default 300000)
   --random N         N random words of each kind: text, headings, bytes, damaged words (default
                      300000)
   --long             these sizes for a run of over 100 million words for each of the stages; name the
                      parts from syllable on, since the others take much longer
   --vocabulary PATH  one word to a line (default: the variable FANNAVY_VOCABULARY, or
-                     /usr/share/snowball/data/turkish/voc.txt of Debian's snowball-data)
+                     /usr/share/snowball/data/turkish/voc.txt of Debian's snowball-data); output.txt
+                     beside it, where it is there, has Snowball's stems of these words
   --no-vocabulary    leave the vocabulary out
   --program PATH     the program stemlist (default: the variable FANNAVY_STEMLIST, or
                      target/bin/stemlist of the repository)

@@ -1,8 +1,8 @@
 //! The proved calls on words, each known by the type of its answer.
 
 use crate::ffi::{
-    self, FannavyFold, FannavyPass, FannavyPieces, FannavyPiecesText, FannavyPostlude,
-    FannavyStage, FannavySyllable, StagePart,
+    self, FannavyFold, FannavyNoun, FannavyPass, FannavyPieces, FannavyPiecesText, FannavyPostlude,
+    FannavyStage, FannavySyllable, FannavyWhole, StagePart,
 };
 use crate::lent::Lent;
 use crate::list::List;
@@ -196,6 +196,52 @@ impl Call for FannavyPass {
             yes: false,
             flag: false,
         }
+    }
+
+    fn refusal(&self) -> u32 {
+        self.refusal
+    }
+
+    fn written(&self) -> usize {
+        self.length
+    }
+}
+
+impl Call for FannavyNoun {
+    const NAME: &'static str = "noun";
+    const NEED: Need = Need::MoreThanWord(0);
+
+    fn call(lent: &mut Lent, output: &mut Output) -> Self {
+        into_output(ffi::fannavy_noun, lent, output)
+    }
+
+    fn refused(refusal: u32) -> Self {
+        FannavyNoun {
+            refusal,
+            length: 0,
+            yes: false,
+        }
+    }
+
+    fn refusal(&self) -> u32 {
+        self.refusal
+    }
+
+    fn written(&self) -> usize {
+        self.length
+    }
+}
+
+impl Call for FannavyWhole {
+    const NAME: &'static str = "whole";
+    const NEED: Need = Need::MoreThanWord(2);
+
+    fn call(lent: &mut Lent, output: &mut Output) -> Self {
+        into_output(ffi::fannavy_whole, lent, output)
+    }
+
+    fn refused(refusal: u32) -> Self {
+        FannavyWhole { refusal, length: 0 }
     }
 
     fn refusal(&self) -> u32 {

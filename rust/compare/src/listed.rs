@@ -13,7 +13,7 @@ pub struct List {
 
 impl List {
     pub fn new(input: Vec<u8>) -> List {
-        let mut listing = Vec::with_capacity(3 * input.len());
+        let mut listing = Vec::with_capacity(4 * input.len());
         listing::list(input.as_slice(), &mut listing).expect("memory can be written");
         List { input, listing }
     }
@@ -132,7 +132,7 @@ fn nth(lines: &[u8], number: usize) -> &[u8] {
 mod tests {
     use super::*;
 
-    const GOOD: &str = "ev\tN\tN\t1\tev\tev\nevler\tY\tY\t0\tev\tev\n";
+    const GOOD: &str = "ev\tN\tN\t1\tev\tev\tev\nevler\tY\tY\t0\tev\tev\tev\n";
 
     // The report of an output that comes in blocks of each size.
     fn report(times: usize, output: &str) -> Option<String> {
@@ -163,14 +163,16 @@ mod tests {
         let wrong = GOOD.replace("\tev\n", "\teb\n");
         reported(1, &wrong, "test, line 1\n");
         reported(1, &wrong, "bytes    65 76 (2)");
-        reported(1, &wrong, r#"Fannavy  "ev\tN\tN\t1\tev\teb""#);
-        reported(1, &wrong, r#"Rust     "ev\tN\tN\t1\tev\tev""#);
+        reported(1, &wrong, r#"Fannavy  "ev\tN\tN\t1\tev\tev\teb""#);
+        reported(1, &wrong, r#"Rust     "ev\tN\tN\t1\tev\tev\tev""#);
         reported(3, &[GOOD, &wrong].concat(), "test, line 3\n");
         let wrong = GOOD.replace("Y\t0", "Y\t1");
         reported(2, &[GOOD, &wrong].concat(), "test, line 4\n");
-        reported(1, &wrong, r#""evler\tY\tY\t1\tev\tev""#);
-        let shorter = GOOD.replace("0\tev\tev", "0\tev\te");
-        reported(1, &shorter, r#""evler\tY\tY\t0\tev\te""#);
+        reported(1, &wrong, r#""evler\tY\tY\t1\tev\tev\tev""#);
+        let shorter = GOOD.replace("0\tev\tev\tev", "0\tev\tev\te");
+        reported(1, &shorter, r#""evler\tY\tY\t0\tev\tev\te""#);
+        let fewer = GOOD.replace("0\tev\tev\tev", "0\tev\tev");
+        reported(1, &fewer, r#""evler\tY\tY\t0\tev\tev""#);
     }
 
     #[test]

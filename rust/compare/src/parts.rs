@@ -8,12 +8,16 @@ mod limits;
 #[cfg(feature = "oracle")]
 mod literals;
 #[cfg(feature = "oracle")]
+mod nouns;
+#[cfg(feature = "oracle")]
 mod pieces;
 #[cfg(feature = "oracle")]
 mod program;
 mod refused;
 mod runs;
 mod sequences;
+#[cfg(feature = "libstemmer")]
+mod snowball;
 #[cfg(feature = "oracle")]
 mod stages;
 
@@ -96,6 +100,24 @@ pub const PARTS: &[Part] = &[
         name: "pass",
         what: "the word pass, with the crate's stages one after the other",
         run: Run::Words(stages::pass),
+    },
+    #[cfg(feature = "oracle")]
+    Part {
+        name: "noun",
+        what: "the noun stage's text and yes or no, with the crate's own",
+        run: Run::Words(nouns::noun),
+    },
+    #[cfg(feature = "oracle")]
+    Part {
+        name: "whole",
+        what: "the whole run's text, with the crate's own",
+        run: Run::Words(nouns::whole),
+    },
+    #[cfg(feature = "libstemmer")]
+    Part {
+        name: "snowball",
+        what: "the binding's stem, with Snowball's own C, and of the vocabulary with its published stems",
+        run: Run::Words(snowball::run),
     },
     #[cfg(feature = "oracle")]
     Part {

@@ -7,8 +7,10 @@ pub mod endings;
 pub mod filled;
 pub mod headings;
 pub mod letters;
+pub mod links;
 pub mod long;
 pub mod named;
+pub mod nouns;
 pub mod odometer;
 pub mod piles;
 pub mod random;
@@ -55,17 +57,27 @@ impl Sizes {
 
 pub struct Words {
     vocabulary: Vec<String>,
+    // Snowball's stems of these words, or none.
+    published: Vec<String>,
     sizes: Sizes,
 }
 
 impl Words {
-    /// The error is a message about the vocabulary's file.
+    /// The error is a message about the vocabulary's file, or that of its stems.
     pub fn new(vocabulary: Option<&Path>, sizes: Sizes) -> Result<Words, String> {
-        let vocabulary = match vocabulary {
-            Some(path) => read_vocabulary(path)?,
-            None => Vec::new(),
+        let (vocabulary, published) = match vocabulary {
+            Some(path) => {
+                let vocabulary = read_vocabulary(path)?;
+                let published = read_published(path, vocabulary.len())?;
+                (vocabulary, published)
+            }
+            None => (Vec::new(), Vec::new()),
         };
-        Ok(Words { vocabulary, sizes })
+        Ok(Words {
+            vocabulary,
+            published,
+            sizes,
+        })
     }
 
     /// Every word that is text, source by source.
@@ -86,6 +98,32 @@ impl Words {
         chains::each(visit)?;
         piles::each_of_four(self.sizes.piles, self.random(5), visit)?;
         sixteen::each(self.sizes.piles, self.random(6), visit)
+    }
+
+    /// Words for the noun stage: noun endings by themselves, in piles and in chains before ki.
+    pub fn nouns<E>(&self, visit: Visit<E>) -> Result<(), E> {
+        named::each_noun(visit)?;
+        nouns::each(visit)?;
+        nouns::each_pile(visit)?;
+        nouns::each_random_pile(self.sizes.piles, self.random(9), visit)?;
+        links::each(visit)?;
+        links::each_random(self.sizes.piles, self.random(10), visit)?;
+        long::each_chain(visit)
+    }
+
+    /// The words for the noun stage: every word that is text, and nouns.
+    pub fn for_nouns<E>(&self, visit: Visit<E>) -> Result<(), E> {
+        self.texts(visit)?;
+        self.nouns(visit)
+    }
+
+    /// The words for the whole run: those for the stages, nouns, and nouns below the endings of a
+    /// nominal verb.
+    pub fn for_whole<E>(&self, visit: Visit<E>) -> Result<(), E> {
+        self.for_stages(visit)?;
+        self.nouns(visit)?;
+        nouns::each_below_verb(visit)?;
+        nouns::each_random_below_verb(self.sizes.piles, self.random(11), visit)
     }
 
     /// The words for the fold: those for the stages, random headings, and one letter over and over.
@@ -117,6 +155,9 @@ impl Words {
         let visit = &mut |word: &str| visit(word.as_bytes());
         piles::each_of_four(count, self.random(7), visit)?;
         sixteen::each(count, self.random(7), visit)?;
+        nouns::each_random_pile(count, self.random(7), visit)?;
+        nouns::each_random_below_verb(count, self.random(7), visit)?;
+        links::each_random(count, self.random(7), visit)?;
         random::each(count, self.random(7), visit)?;
         long::each(visit)
     }
@@ -125,9 +166,31 @@ impl Words {
         &self.vocabulary
     }
 
+    /// The vocabulary's words with the stems that Snowball published; none where these are not there.
+    pub fn published(&self) -> impl Iterator<Item = (&str, &str)> {
+        let stems = self.published.iter().map(String::as_str);
+        self.vocabulary.iter().map(String::as_str).zip(stems)
+    }
+
     /// A generator for each source, so that the size of one does not change the words of another.
     pub fn random(&self, source: u64) -> Random {
         Random::new(self.sizes.seed, source)
+    }
+}
+
+// The stems beside the vocabulary, in output.txt as Snowball has them, where that is there.
+fn read_published(vocabulary: &Path, count: usize) -> Result<Vec<String>, String> {
+    let path = vocabulary.with_file_name("output.txt");
+    if !path.is_file() {
+        return Ok(Vec::new());
+    }
+    let stems = read_vocabulary(&path)?;
+    match stems.len() {
+        length if length == count => Ok(stems),
+        length => Err(format!(
+            "{}: {length} stems of {count} words",
+            path.display()
+        )),
     }
 }
 

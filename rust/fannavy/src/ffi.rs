@@ -45,6 +45,21 @@ pub struct FannavyPass {
 
 #[repr(C)]
 #[derive(Clone, Copy, Debug, PartialEq, Eq)]
+pub struct FannavyNoun {
+    pub refusal: u32,
+    pub length: usize,
+    pub yes: bool,
+}
+
+#[repr(C)]
+#[derive(Clone, Copy, Debug, PartialEq, Eq)]
+pub struct FannavyWhole {
+    pub refusal: u32,
+    pub length: usize,
+}
+
+#[repr(C)]
+#[derive(Clone, Copy, Debug, PartialEq, Eq)]
 pub struct FannavyPieces {
     pub refusal: u32,
     pub length: usize,
@@ -65,6 +80,8 @@ extern "C" {
     pub fn fannavy_postlude(w: *const u8, n: usize, out: *mut u8, room: usize) -> FannavyPostlude;
     pub fn fannavy_fold(w: *const u8, n: usize, out: *mut u8, room: usize) -> FannavyFold;
     pub fn fannavy_pass(w: *const u8, n: usize, out: *mut u8, room: usize) -> FannavyPass;
+    pub fn fannavy_noun(w: *const u8, n: usize, out: *mut u8, room: usize) -> FannavyNoun;
+    pub fn fannavy_whole(w: *const u8, n: usize, out: *mut u8, room: usize) -> FannavyWhole;
     pub fn fannavy_pieces(w: *const u8, n: usize, out: *mut u8, room: usize) -> FannavyPieces;
     pub fn fannavy_pieces_text(
         w: *const u8,
@@ -99,6 +116,14 @@ pub(crate) fn fold(w: &[u8], out: &mut [u8]) -> FannavyFold {
 
 pub(crate) fn pass(w: &[u8], out: &mut [u8]) -> FannavyPass {
     unsafe { fannavy_pass(w.as_ptr(), w.len(), out.as_mut_ptr(), out.len()) }
+}
+
+pub(crate) fn noun(w: &[u8], out: &mut [u8]) -> FannavyNoun {
+    unsafe { fannavy_noun(w.as_ptr(), w.len(), out.as_mut_ptr(), out.len()) }
+}
+
+pub(crate) fn whole(w: &[u8], out: &mut [u8]) -> FannavyWhole {
+    unsafe { fannavy_whole(w.as_ptr(), w.len(), out.as_mut_ptr(), out.len()) }
 }
 
 pub(crate) fn pieces(w: &[u8], out: &mut [u8]) -> FannavyPieces {

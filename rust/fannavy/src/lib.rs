@@ -2,9 +2,11 @@
 //!
 //! A word is one Turkish word in UTF-8, in small letters; [`fold`] a heading first. A call that is
 //! lent an output writes its text at the output's start and leaves the bytes past it as they were.
-//! Nothing is allocated.
+//! Nothing is allocated, but by [`stem`], which takes text and gives a `String`.
 //!
 //! ```
+//! assert_eq!(fannavy::stem("kitabımızdan")?, "kitap");
+//!
 //! let word = "kanaddır".as_bytes();
 //! let mut out = [0; fannavy::pass_room(fannavy::LIMIT)];
 //! let pass = fannavy::pass(word, &mut out)?;
@@ -31,9 +33,14 @@ pub use refusal::Refusal;
 /// The longest word, in bytes: one byte more is refused.
 pub const LIMIT: usize = 1024;
 
-/// The least output of [`postlude`] and [`pass`] for a word of `n` bytes.
+/// The least output of [`postlude`], [`pass`] and [`whole`] for a word of `n` bytes.
 pub const fn pass_room(n: usize) -> usize {
     n + 2
+}
+
+/// The least output of [`noun`] for a word of `n` bytes.
+pub const fn noun_room(n: usize) -> usize {
+    n
 }
 
 /// An output that always suffices for the [`fold`] of a word of `n` bytes.
@@ -78,6 +85,15 @@ pub struct Pass<'a> {
     pub yes: bool,
     /// As [`Stage::flag`]; true where `syllable` is false.
     pub flag: bool,
+}
+
+/// What the noun stage answers.
+#[derive(Clone, Copy, Debug, PartialEq, Eq)]
+pub struct Noun<'a> {
+    /// The text written, at the output's start; possibly empty.
+    pub text: &'a [u8],
+    /// Whether an ending was removed.
+    pub yes: bool,
 }
 
 /// Whether the bytes are UTF-8. Takes any bytes, of any length, and never refuses.
@@ -195,6 +211,65 @@ pub fn pass<'a>(word: &[u8], out: &'a mut [u8]) -> Result<Pass<'a>, Refusal> {
     })
 }
 
+/// The noun stage: removes the endings of a noun from the word's end, the plural, possessives, cases and
+/// -ki with the case before it, however often it comes. Mostly a front part of the word is left; but
+/// where na, ne, nda or nde follows such a -ki, these letters may stay and the part before them is cut
+/// out. Takes a word of any number of syllables. The output has [`noun_room`] bytes or more.
+///
+/// ```
+/// let mut out = [0; 20];
+/// assert_eq!(fannavy::noun(b"evlerle", &mut out)?.text, b"ev");
+/// assert_eq!(fannavy::noun(b"evdekilerdekilerdeki", &mut out)?.text, b"ev");
+/// assert_eq!(fannavy::noun(b"evinkinde", &mut out)?.text, b"evnde");
+/// assert!(!fannavy::noun(b"saatler", &mut out)?.yes);
+///
+/// let refusal = fannavy::noun(b"evlerle", &mut out[..6]);
+/// assert_eq!(refusal, Err(fannavy::Refusal::OutputTooShort));
+/// # Ok::<(), fannavy::Refusal>(())
+/// ```
+pub fn noun<'a>(word: &[u8], out: &'a mut [u8]) -> Result<Noun<'a>, Refusal> {
+    let answer = ffi::noun(word, out);
+    refused(answer.refusal)?;
+    Ok(Noun {
+        text: &out[..answer.length],
+        yes: answer.yes,
+    })
+}
+
+/// The whole run, which gives the stem that rust-stemmers 1.2.0 and Snowball give: the suffix stage of a word that has two vowels or more and, unless the flag is false,
+/// the noun stage of what it keeps and the postlude of what that leaves; any other word is copied. The
+/// output has [`pass_room`] bytes or more.
+///
+/// ```
+/// let mut out = [0; 32];
+/// assert_eq!(fannavy::whole("kitabımızdan".as_bytes(), &mut out)?, b"kitap");
+/// assert_eq!(fannavy::whole(b"kitablar", &mut out)?, b"kitab");
+/// assert_eq!(fannavy::whole(b"siniz", &mut out)?, b"");
+/// assert_eq!(fannavy::whole(b"lar", &mut out)?, b"lar");
+/// # Ok::<(), fannavy::Refusal>(())
+/// ```
+pub fn whole<'a>(word: &[u8], out: &'a mut [u8]) -> Result<&'a [u8], Refusal> {
+    let answer = ffi::whole(word, out);
+    refused(answer.refusal)?;
+    Ok(&out[..answer.length])
+}
+
+/// The stem of a text by the whole run, [`whole`], for a host that has no bytes to lend. It is refused
+/// only where it is over [`LIMIT`] bytes.
+///
+/// ```
+/// assert_eq!(fannavy::stem("kitabımızdan").as_deref(), Ok("kitap"));
+///
+/// let long = "a".repeat(fannavy::LIMIT + 1);
+/// assert_eq!(fannavy::stem(&long), Err(fannavy::Refusal::OverLimit));
+/// ```
+pub fn stem(word: &str) -> Result<String, Refusal> {
+    let mut out = [0; pass_room(LIMIT)];
+    let text = whole(word.as_bytes(), &mut out)?;
+    let text = str::from_utf8(text).expect("what is left of a text is text");
+    Ok(text.to_string())
+}
+
 /// What the suffix stage removed, in pieces: one for each mark that it kept.
 ///
 /// ```
@@ -258,9 +333,11 @@ mod tests {
 
     #[test]
     fn the_header_has_the_same_rooms() {
-        assert_eq!((pass_room(5), fold_room(5)), (5 + 2, 2 * 5));
+        let rooms = (pass_room(5), noun_room(5), fold_room(5));
+        assert_eq!(rooms, (5 + 2, 5, 2 * 5));
         for line in [
             "#define FANNAVY_PASS_ROOM(n) ((size_t)(n) + 2)",
+            "#define FANNAVY_NOUN_ROOM(n) ((size_t)(n))",
             "#define FANNAVY_FOLD_ROOM(n) (2 * (size_t)(n))",
         ] {
             assert!(HEADER.lines().any(|other| other == line), "no {line}");
@@ -289,6 +366,26 @@ mod tests {
         let mut out = [0; fold_room(LIMIT)];
         assert_eq!(fold(&capitals, &mut out).map(<[u8]>::len), Ok(2 * LIMIT));
         assert_eq!(fold(&capitals, &mut out[1..]), Err(Refusal::OutputTooShort));
+    }
+
+    #[test]
+    fn a_noun_and_a_whole_run_fit_the_least_output() {
+        for word in ["", "ad", "evlerle", "kanadındaymış", "adakina"] {
+            let n = word.len();
+            let mut out = vec![0; pass_room(n)];
+            let text = whole(word.as_bytes(), &mut out).expect("a word");
+            assert_eq!(stem(word).expect("a word").as_bytes(), text);
+            let noun = noun(word.as_bytes(), &mut out[..noun_room(n)]).expect("a word");
+            assert_eq!(noun.yes, noun.text != word.as_bytes());
+        }
+        let mut out = [0; pass_room(2)];
+        assert_eq!(whole(b"ev", &mut out[1..]), Err(Refusal::OutputTooShort));
+        assert_eq!(noun(b"ev", &mut out[..1]), Err(Refusal::OutputTooShort));
+        assert_eq!(whole(b"\xFF", &mut []), Err(Refusal::NotUtf8));
+        assert_eq!(noun(b"\xFF", &mut []), Err(Refusal::NotUtf8));
+        let long = [0xFF; LIMIT + 1];
+        assert_eq!(whole(&long, &mut []), Err(Refusal::OverLimit));
+        assert_eq!(noun(&long, &mut []), Err(Refusal::OverLimit));
     }
 
     #[test]

@@ -1,5 +1,5 @@
-//! The listing of words by the oracle, in the form that document 01 gives the program stemlist, and
-//! the repository's own list of words.
+//! The listing of words by the oracle, in the form that the documents give the program stemlist, and the
+//! repository's own list of words.
 
 mod line;
 pub mod sample;
@@ -32,8 +32,8 @@ mod tests {
     #[test]
     fn a_last_line_counts_if_it_is_not_empty() {
         assert_eq!(listed(""), "");
-        assert_eq!(listed("\n"), "\tN\tN\t1\t\t\n");
-        assert_eq!(listed("evler"), "evler\tY\tY\t0\tev\tev\n");
+        assert_eq!(listed("\n"), "\tN\tN\t1\t\t\t\n");
+        assert_eq!(listed("evler"), "evler\tY\tY\t0\tev\tev\tev\n");
         assert_eq!(listed("evler\n"), listed("evler"));
         assert_eq!(listed("a\tb\nevler"), format!("!\t4\n{}", listed("evler")));
     }

@@ -1,10 +1,11 @@
-//! One line of the listing, in the form that document 01 gives the program stemlist.
+//! One line of the listing, in the form that document 01 and document 02's request 4 give the program
+//! stemlist.
 
 use fannavy::LIMIT;
 use std::str::from_utf8;
 
-/// Appends the line of a word, closed by LF: word, syllable check, stage, flag, kept text and the
-/// pass's text, parted by tabs; or the number that refuses it.
+/// Appends the line of a word, closed by LF: word, syllable check, stage, flag, kept text, the pass's
+/// text and the whole run's, parted by tabs; or the number that refuses it.
 pub fn append(word: &[u8], listing: &mut Vec<u8>) {
     match text(word) {
         Ok(word) => append_fields(word, listing),
@@ -25,7 +26,7 @@ fn text(word: &[u8]) -> Result<&str, u8> {
     Ok(text)
 }
 
-// Each stage is run once.
+// Each stage is run once, and for the last field the crate's own whole run.
 fn append_fields(word: &str, listing: &mut Vec<u8>) {
     let syllable = oracle::more_than_one_syllable_word(word);
     let stage = oracle::stem_nominal_verb_suffixes(word);
@@ -40,6 +41,8 @@ fn append_fields(word: &str, listing: &mut Vec<u8>) {
     } else {
         listing.extend_from_slice(word.as_bytes());
     }
+    listing.push(b'\t');
+    listing.extend_from_slice(oracle::stem(word).as_bytes());
 }
 
 #[cfg(test)]
@@ -55,16 +58,29 @@ mod tests {
 
     #[test]
     fn the_scope_s_two_lines() {
-        assert_eq!(listed(b"evler"), "evler\tY\tY\t0\tev\tev");
-        assert_eq!(listed(b"siniz"), "siniz\tY\tY\t1\t\t");
+        assert_eq!(listed(b"evler"), "evler\tY\tY\t0\tev\tev\tev");
+        assert_eq!(listed(b"siniz"), "siniz\tY\tY\t1\t\t\t");
     }
 
     #[test]
     fn kept_text_and_pass_may_differ() {
-        let word = "kanaddır";
-        assert_eq!(listed(word.as_bytes()), "kanaddır\tY\tY\t1\tkanad\tkanadı");
-        assert_eq!(listed(b"ad"), "ad\tN\tN\t1\tad\tad");
-        assert_eq!(listed(b""), "\tN\tN\t1\t\t");
+        let listed = |word: &str| listed(word.as_bytes());
+        assert_eq!(
+            listed("kanaddır"),
+            "kanaddır\tY\tY\t1\tkanad\tkanadı\tkanadı"
+        );
+        assert_eq!(listed("ad"), "ad\tN\tN\t1\tad\tad\tad");
+        assert_eq!(listed(""), "\tN\tN\t1\t\t\t");
+    }
+
+    #[test]
+    fn pass_and_whole_run_may_differ() {
+        let listed = |word: &str| listed(word.as_bytes());
+        assert_eq!(
+            listed("evlerimizdeydi"),
+            "evlerimizdeydi\tY\tY\t1\tevlerimizde\tevlerimizde\tev"
+        );
+        assert_eq!(listed("adakina"), "adakina\tY\tN\t1\tadakina\tadakina\tana");
     }
 
     #[test]

@@ -1,7 +1,7 @@
 //! The words of the list, the same ones in the same order for the same vocabulary.
 
 use fannavy::LIMIT;
-use shared::named::NAMED;
+use shared::named::{NAMED, NOUNS};
 
 // Words beside those of document 01 that tell plausible wrong programs apart.
 const TELLING: [&str; 12] = [
@@ -21,6 +21,11 @@ const TELLING: [&str; 12] = [
 const VOWELS: &str = "aeıioöuü";
 // Every ending harmonises with one of them and not with another; four end in a vowel.
 const FRONTS: [&str; 8] = ["kal", "kel", "kol", "kül", "kala", "kele", "kolu", "külü"];
+// What may join an ending of a noun.
+const JOINTS: [&str; 4] = ["", "n", "s", "y"];
+// What the noun stage takes before a ki, and what may stand behind one.
+const LINKS: [&str; 5] = ["lerde", "lerimde", "ün", "larının", "ında"];
+const TAILS: [&str; 6] = ["", "ler", "na", "nden", "lerin", "ydi"];
 // Piles of each kind.
 const PILES: usize = 100;
 // One word of the vocabulary in so many.
@@ -54,10 +59,13 @@ pub fn words(vocabulary: &[&str]) -> Vec<Vec<u8>> {
     let mut texts: Vec<String> = NAMED
         .iter()
         .chain(&TELLING)
+        .chain(&NOUNS)
         .chain(some)
         .map(|word| word.to_string())
         .collect();
-    texts.extend(keys_on_fronts(&keys));
+    texts.extend(keys_on_fronts(&keys, &["", "y"]));
+    texts.extend(keys_on_fronts(&oracle::noun_keys().concat(), &JOINTS));
+    texts.extend(chains_before_ki());
     texts.extend(vowel_pairs());
     texts.extend(last_letters());
     texts.extend(piles(&keys));
@@ -76,12 +84,25 @@ fn keys() -> Vec<&'static str> {
     keys.concat()
 }
 
-fn keys_on_fronts(keys: &[&str]) -> Vec<String> {
+// Each key on each front, after each of these letters or none.
+fn keys_on_fronts(keys: &[&str], joints: &[&str]) -> Vec<String> {
     let mut words = Vec::new();
     for key in keys {
         for front in FRONTS {
-            words.push(format!("{front}{key}"));
-            words.push(format!("{front}y{key}"));
+            words.extend(joints.iter().map(|joint| format!("{front}{joint}{key}")));
+        }
+    }
+    words
+}
+
+// Up to five links one after the other, each with a ki, before every tail; the first stands by itself.
+fn chains_before_ki() -> Vec<String> {
+    let mut words = Vec::new();
+    for (number, front) in FRONTS.into_iter().enumerate() {
+        let mut chain = format!("{front}daki");
+        for step in 0..LINKS.len() {
+            words.extend(TAILS.iter().map(|tail| format!("{chain}{tail}")));
+            chain = format!("{chain}{}ki", LINKS[(number + step) % LINKS.len()]);
         }
     }
     words
@@ -217,6 +238,16 @@ mod tests {
         let lengths: Vec<usize> = around_the_limit().iter().map(Vec::len).collect();
         assert_eq!(lengths.len(), 40);
         assert!(lengths.chunks(2).all(|pair| pair == [LIMIT, LIMIT + 1]));
+    }
+
+    #[test]
+    fn chains_have_up_to_five_links() {
+        let chains = chains_before_ki();
+        for links in 1..=5 {
+            let long = |chain: &&String| chain.matches("ki").count() == links;
+            let count = chains.iter().filter(long).count();
+            assert_eq!(count, FRONTS.len() * TAILS.len());
+        }
     }
 
     #[test]

@@ -1,6 +1,6 @@
-//! The Turkish module of rust-stemmers 1.2.0 as an oracle: three of its stages by themselves, the word
-//! pass composed of them, and the pieces that the suffix stage removes, by its marks one by one. The
-//! crate's files are read at build time and are not part of this repository.
+//! The Turkish module of rust-stemmers 1.2.0 as an oracle: four of its stages by themselves, its whole
+//! run, the word pass composed of three stages, and the pieces that the suffix stage removes, by its
+//! marks one by one. The crate's files are read at build time and are not part of this repository.
 
 include!(concat!(env!("OUT_DIR"), "/snowball.rs"));
 
@@ -10,7 +10,7 @@ use snowball::algorithms::turkish;
 use std::borrow::Cow;
 
 pub use pieces::{pieces, Joined, Piece, Pieces};
-pub use snowball::algorithms::turkish::keys;
+pub use snowball::algorithms::turkish::{keys, noun_keys};
 pub use snowball::SnowballEnv;
 
 /// What the suffix stage leaves: the text, whether an ending was removed, and whether noun
@@ -20,6 +20,13 @@ pub struct Stage<'a> {
     pub text: Cow<'a, str>,
     pub yes: bool,
     pub flag: bool,
+}
+
+/// What the noun stage leaves: the text, and whether one of its branches was taken.
+#[derive(Clone, Debug, PartialEq)]
+pub struct Noun<'a> {
+    pub text: Cow<'a, str>,
+    pub yes: bool,
 }
 
 /// What the postlude leaves: the text, and no for a reserved word only.
@@ -47,6 +54,23 @@ pub fn stem_nominal_verb_suffixes(word: &str) -> Stage<'_> {
         yes,
         flag,
     }
+}
+
+/// The noun stage, entered as the suffix stage is.
+pub fn stem_noun_suffixes(word: &str) -> Noun<'_> {
+    let mut env = at_end(word);
+    let yes = turkish::enter_stem_noun_suffixes(&mut env);
+    Noun {
+        text: env.get_current(),
+        yes,
+    }
+}
+
+/// The whole run: the text that it leaves, whatever it answers.
+pub fn stem(word: &str) -> Cow<'_, str> {
+    let mut env = SnowballEnv::create(word);
+    turkish::stem(&mut env);
+    env.get_current()
 }
 
 // A word as the suffix stage is entered: what `backwards` does at the word's start.
@@ -141,6 +165,45 @@ mod tests {
     }
 
     #[test]
+    fn noun_stage_gives_text_and_yes() {
+        for &(word, text, yes) in &[
+            ("", "", false),
+            ("ev", "ev", false),
+            ("evler", "ev", true),
+            ("evlerle", "ev", true),
+            ("evimlerle", "ev", true),
+            ("evlerinde", "ev", true),
+            ("evdekilerdekilerdeki", "ev", true),
+            // Cut before a mark that stays, line 380.
+            ("adakina", "ana", true),
+            ("adakinda", "anda", true),
+            ("saatler", "saatler", false),
+        ] {
+            let noun = stem_noun_suffixes(word);
+            assert_eq!((&*noun.text, noun.yes), (text, yes), "{}", word);
+        }
+    }
+
+    #[test]
+    fn whole_run_ends_early_or_goes_on_to_the_postlude() {
+        for &(word, text) in &[
+            ("", ""),
+            // One syllable; no more than the plural; a reserved word.
+            ("lar", "lar"),
+            ("kitablar", "kitab"),
+            ("ad\u{131}md\u{131}", "ad"),
+            ("siniz", ""),
+            ("evler", "ev"),
+            ("kitab\u{131}m\u{131}zdan", "kitap"),
+            ("kanad\u{131}ndaym\u{131}\u{15f}", "kanad\u{131}"),
+            ("evdekilerdekilerdeki", "ev"),
+            ("adakina", "ana"),
+        ] {
+            assert_eq!(stem(word), text, "{}", word);
+        }
+    }
+
+    #[test]
     fn syllable_check_asks_for_two_vowels() {
         assert!(!more_than_one_syllable_word(""));
         assert!(!more_than_one_syllable_word("lar"));
@@ -197,9 +260,10 @@ mod tests {
     }
 
     #[test]
-    fn twelve_tables_have_eighty_keys() {
-        let keys = keys();
-        assert_eq!(keys.len(), 12);
-        assert_eq!(keys.iter().map(|table| table.len()).sum::<usize>(), 80);
+    fn twelve_tables_have_eighty_keys_and_twelve_have_forty() {
+        for &(ref tables, count) in &[(keys(), 80), (noun_keys(), 40)] {
+            assert_eq!(tables.len(), 12);
+            assert_eq!(tables.concat().len(), count);
+        }
     }
 }

@@ -23,3 +23,32 @@ pub const NAMED: [&str; 21] = [
     "kanaddır",
     "evcesine",
 ];
+
+/// Words that tell wrong noun stages and wrong whole runs apart: cuts before an ending that stays, chains
+/// of ki, every branch, early ends.
+pub const NOUNS: [&str; 24] = [
+    "evlerle",
+    "evimlerle",
+    "adakina",
+    "adakinda",
+    "evdekilerdekilerdeki",
+    "evlerimizdekilerdir",
+    "evlerindekiler",
+    "arabanınki",
+    "arabasındaki",
+    "arabalarımdakinden",
+    "evince",
+    "evlerimce",
+    "evlerince",
+    "arabasına",
+    "arabalarına",
+    "arabasından",
+    "arabasını",
+    "arabalarımdan",
+    "kitabımızdan",
+    "kitapların",
+    "leri",
+    "arabayı",
+    "adımdı",
+    "soyadımla",
+];

@@ -24,6 +24,8 @@ pub enum Command {
     Case(usize, Box<Node>),
     Literal(String),
     Grouping(String),
+    /// A character that is not of the grouping.
+    Outside(String),
     Among(String),
     Substring(String),
     Replace(String),
@@ -35,8 +37,10 @@ pub enum Command {
     Delete,
     Set,
     Unset,
+    IsSet,
     Succeed,
     Next,
+    /// By the routine's name, where it calls itself too.
     Call(String),
 }
 
@@ -61,24 +65,53 @@ impl Node {
     }
 
     fn is_text(&self) -> bool {
-        matches!(self.command, Command::Literal(_) | Command::Grouping(_))
+        use Command::*;
+        matches!(self.command, Literal(_) | Grouping(_) | Outside(_))
+    }
+
+    fn calls(&self, name: &str) -> bool {
+        let called = matches!(&self.command, Command::Call(called) if called == name);
+        called || self.inside().iter().any(|node| node.calls(name))
     }
 }
 
-/// Reads all of the tokens as what `define` has after the name: a parenthesis, or a word without an
-/// argument. The error is a message.
-pub fn read(tokens: &[Token]) -> Result<Node, String> {
-    let mut reader = Reader { tokens };
+/// Reads all of the tokens as what `define` has after a routine's name: a parenthesis, or a word without
+/// an argument; that of a routine which calls itself stands in `(routine ..)`. The error is a message.
+pub fn read(name: &str, tokens: &[Token]) -> Result<Node, String> {
+    let inside = inside_routine(tokens);
+    let mut reader = Reader {
+        name,
+        tokens: inside.unwrap_or(tokens),
+    };
     let token = reader.take()?;
     let node = reader.atom(token)?;
-    match reader.tokens.first() {
-        Some(token) => Err(token.wrong("a routine that goes on after its commands")),
-        None => Ok(node),
+    if let Some(token) = reader.tokens.first() {
+        return Err(token.wrong("a routine that goes on after its commands"));
+    }
+    match (inside.is_some(), node.calls(name)) {
+        (true, false) => Err(token.wrong("a `routine` without `itself`")),
+        (false, true) => Err(token.wrong("`itself` without a `routine`")),
+        _ => Ok(node),
     }
 }
 
-// What is not yet read.
+// What stands in `(routine ..)`.
+fn inside_routine(tokens: &[Token]) -> Option<&[Token]> {
+    match tokens {
+        [open, word, inside @ .., close]
+            if open.symbol == Symbol::Open
+                && word.word() == Some("routine")
+                && close.symbol == Symbol::Close =>
+        {
+            Some(inside)
+        }
+        _ => None,
+    }
+}
+
+// The routine's name, and what is not yet read of it.
 struct Reader<'a> {
+    name: &'a str,
     tokens: &'a [Token],
 }
 
@@ -128,6 +161,7 @@ impl<'a> Reader<'a> {
             "case" => Command::Case(self.number()?, self.argument()?),
             "literal" => Command::Literal(self.text()?),
             "grouping" => Command::Grouping(self.name()?),
+            "outside" => Command::Outside(self.name()?),
             "among" => Command::Among(self.name()?),
             "substring" => Command::Substring(self.name()?),
             "<-" => Command::Replace(self.text()?),
@@ -162,10 +196,14 @@ impl<'a> Reader<'a> {
                 "delete" => Command::Delete,
                 "set" => Command::Set,
                 "unset" => Command::Unset,
+                "isSet" => Command::IsSet,
                 "succeed" => Command::Succeed,
                 "next" => Command::Next,
                 "strlen==limit" => Command::StrlenIsLimit,
+                "itself" => Command::Call(self.name.to_string()),
                 "define" => return Err(token.wrong("a `define` inside a routine")),
+                "routine" => return Err(token.wrong("a `routine` inside another")),
+                name if name == self.name => return Err(token.wrong("not `itself`, but the name")),
                 name => Command::Call(name.to_string()),
             },
         };

@@ -147,7 +147,7 @@ impl Equation<'_> {
             [define, named, body @ ..]
                 if define.word() == Some("define") && named.symbol == Symbol::Text(name) =>
             {
-                command::read(body)?
+                command::read(self.name, body)?
             }
             _ => return Err(self.tokens[0].wrong(&message)),
         };

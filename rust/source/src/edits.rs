@@ -7,7 +7,7 @@ use shared::places;
 use std::fs;
 
 // Words of one form: where one stands, another may.
-const FORMS: [&[&str]; 6] = [
+const FORMS: [&[&str]; 7] = [
     &["then", "or"],
     &["test", "not", "try", "«do»", "goto", "gopast", "backwards"],
     &[
@@ -16,14 +16,21 @@ const FORMS: [&[&str]; 6] = [
         "delete",
         "set",
         "unset",
+        "isSet",
         "succeed",
         "next",
+        "itself",
         "strlen==limit",
     ],
+    &["grouping", "outside"],
     &["among", "substring"],
     &["<-", "<+"],
     &["1", "2", "3", "4", "5"],
 ];
+
+// As many others are tried for a word, those that follow it in its list: with every other one, for the
+// whole of turkish.sbl, the tests would take minutes.
+const OTHERS: usize = 9;
 
 struct Sides {
     source: String,
@@ -66,12 +73,14 @@ impl Sides {
         self.noticed(edits.map(|lines| lines.join("\n")).collect());
     }
 
-    // The same for putting one of these words in the place of another.
+    // The same for putting some of these words in the place of another.
     fn words_noticed(&self, words: &[&str]) {
         let mut edited = Vec::new();
-        for word in words {
+        for (number, word) in words.iter().enumerate() {
+            let others = words.iter().cycle().skip(number + 1);
+            let others = others.take(OTHERS.min(words.len() - 1));
             for at in self.standing(word) {
-                let others = words.iter().filter(|other| other != &word);
+                let others = others.clone();
                 edited.extend(others.map(|other| self.with(at, word.len(), other)));
             }
         }
@@ -237,7 +246,7 @@ fn a_parenthesis_dropped() {
         let end = start + length.expect("the other one");
         let inside = &sides.source[start + 1..end];
         // A literal or a grouping needs them here.
-        if let ["literal" | "grouping", _] = inside.split(' ').collect::<Vec<_>>()[..] {
+        if let ["literal" | "grouping" | "outside", _] = inside.split(' ').collect::<Vec<_>>()[..] {
             continue;
         }
         let (before, after) = (&sides.source[..start], &sides.source[end + 1..]);
@@ -300,15 +309,17 @@ fn a_define_left_out() {
     sides.noticed(edited.collect());
 }
 
-// Before any parenthesis, that of the whole routine too.
+// Before any parenthesis, that of the whole routine too: its own `define`, and the first one.
 #[test]
 fn a_define_inside() {
     let sides = Sides::new();
+    let defines = sides.defines();
     let mut edited = Vec::new();
     for (at, _) in sides.source.match_indices('(') {
         if sides.is_code(at) {
-            let defines = sides.defines().into_iter();
-            edited.extend(defines.map(|(_, define)| sides.with(at, 0, &format!("{define} "))));
+            let own = defines.iter().rfind(|(define, _)| *define < at);
+            let two = own.into_iter().chain(defines.first());
+            edited.extend(two.map(|(_, define)| sides.with(at, 0, &format!("{define} "))));
         }
     }
     sides.noticed(edited);
@@ -324,6 +335,12 @@ fn an_edit_that_leaves_the_comments() {
         ("or mark-ysA or mark-ymUs-)", "or mark-ysA then mark-ymUs-)"),
         ("or mark-yUz or succeed)", "or mark-yUz)"),
         ("try (⟦ then mark-ymUs-)", "try (⟦) then mark-ymUs-"),
+        (
+            "(grouping U then (test (outside vowel)))",
+            "(outside U then (test (grouping vowel)))",
+        ),
+        ("try (⟦ then mark-lAr))", "try (⟦) then mark-lAr)"),
+        ("or mark-yU or mark-yA then", "or mark-yU then mark-yA then"),
     ];
     for (from, to) in edited {
         let edited = sides.source.replacen(from, to, 1);

@@ -73,11 +73,22 @@ stem-nominal-verb-suffixes = define "stem_nominal_verb_suffixes" ( -- 3
     literal "ş" then test      -- 4
     (among A-7))               -- 5
 
+unfoldable pub stem-suffix-chain-before-ki : Command
+stem-suffix-chain-before-ki = define "stem_suffix_chain_before_ki" (routine ( -- 7
+    next then try (itself)))   -- 8
+
+unfoldable pub stem-noun-suffixes : Command
+stem-noun-suffixes = define "stem_noun_suffixes" ( -- 10
+    test (outside ad) then stem-suffix-chain-before-ki) -- 11
+
 unfoldable pub more-than-one-syllable-word : Command
-more-than-one-syllable-word = define "more_than_one_syllable_word" (gopast (grouping ad)) -- 7
+more-than-one-syllable-word = define "more_than_one_syllable_word" (gopast (grouping ad)) -- 13
 
 unfoldable pub postlude : Command
-postlude = define "postlude" (literal "a") -- 9
+postlude = define "postlude" (literal "a") -- 15
+
+unfoldable pub stem : Command
+stem = define "stem" (isSet then postlude) -- 17
 "#;
 
     const RUST: &str = r#"static A_7: &'static [Among<Context>; 2] = &[
@@ -104,9 +115,45 @@ fn r_stem_nominal_verb_suffixes(env: &mut SnowballEnv, context: &mut Context) ->
     return true;
 }
 
-fn r_more_than_one_syllable_word(env: &mut SnowballEnv, context: &mut Context) -> bool {
+fn r_stem_suffix_chain_before_ki(env: &mut SnowballEnv, context: &mut Context) -> bool {
     // (, line 7
-    // gopast, line 7
+    // next, line 8
+    if env.cursor <= env.limit_backward {
+        return false;
+    }
+    env.previous_char();
+    // try, line 8
+    let v_1 = env.limit - env.cursor;
+    'lab0: loop {
+        // (, line 8
+        // call stem_suffix_chain_before_ki, line 8
+        if !r_stem_suffix_chain_before_ki(env, context) {
+            env.cursor = env.limit - v_1;
+            break 'lab0;
+        }
+        break 'lab0;
+    }
+    return true;
+}
+
+fn r_stem_noun_suffixes(env: &mut SnowballEnv, context: &mut Context) -> bool {
+    // (, line 10
+    // test, line 11
+    let v_1 = env.limit - env.cursor;
+    if !env.out_grouping_b(G_ad, 97, 100) {
+        return false;
+    }
+    env.cursor = env.limit - v_1;
+    // call stem_suffix_chain_before_ki, line 11
+    if !r_stem_suffix_chain_before_ki(env, context) {
+        return false;
+    }
+    return true;
+}
+
+fn r_more_than_one_syllable_word(env: &mut SnowballEnv, context: &mut Context) -> bool {
+    // (, line 13
+    // gopast, line 13
     'golab0: loop {
         'lab1: loop {
             if !env.in_grouping(G_ad, 97, 100) {
@@ -123,9 +170,26 @@ fn r_more_than_one_syllable_word(env: &mut SnowballEnv, context: &mut Context) -
 }
 
 fn r_postlude(env: &mut SnowballEnv, context: &mut Context) -> bool {
-    // (, line 9
-    // literal, line 9
+    // (, line 15
+    // literal, line 15
     if !env.eq_s(&"a") {
+        return false;
+    }
+    return true;
+}
+
+pub fn stem(env: &mut SnowballEnv) -> bool {
+    let mut context = &mut Context {
+        b_continue_stemming_noun_suffixes: false,
+        i_strlen: 0,
+    };
+    // (, line 17
+    // Boolean test continue_stemming_noun_suffixes, line 17
+    if !context.b_continue_stemming_noun_suffixes {
+        return false;
+    }
+    // call postlude, line 17
+    if !r_postlude(env, context) {
         return false;
     }
     return true;
@@ -147,7 +211,7 @@ fn r_postlude(env: &mut SnowballEnv, context: &mut Context) -> bool {
         let counts = [
             "1 groupings, 2 letters",
             "1 tables, 2 keys",
-            "3 routines, 9 commands",
+            "6 routines, 20 commands",
         ];
         assert_eq!(said(SOURCE, RUST), counts);
     }
@@ -173,9 +237,9 @@ fn r_postlude(env: &mut SnowballEnv, context: &mut Context) -> bool {
 
     #[test]
     fn a_routine_is_one_define() {
-        let without = ", line 19: a routine that does not begin with `define \"postlude\"`";
-        let inside = ", line 19: a `define` inside a routine";
-        let longer = ", line 19: a routine that goes on after its commands";
+        let without = ", line 27: a routine that does not begin with `define \"postlude\"`";
+        let inside = ", line 27: a `define` inside a routine";
+        let longer = ", line 27: a routine that goes on after its commands";
         let define = r#"define "postlude" (literal "a")"#;
         for (edited, message) in [
             (r#"(literal "a")"#, without),
@@ -191,14 +255,41 @@ fn r_postlude(env: &mut SnowballEnv, context: &mut Context) -> bool {
     }
 
     #[test]
+    fn a_routine_that_calls_itself_says_so() {
+        let chain = "(routine ( -- 7\n    next then try (itself)))";
+        let without = ", line 16: `itself` without a `routine`";
+        let inside = ", line 16: a `routine` inside another";
+        let longer = ", line 17: a routine that goes on after its commands";
+        for (edited, message) in [
+            ("( -- 7\n    next then try (itself))", without),
+            (
+                "(test (routine ( -- 7\n    next then try (itself))))",
+                inside,
+            ),
+            ("(routine ( -- 7\n    next) then try (itself))", longer),
+            (
+                "(routine ( -- 7\n    next then next))",
+                ", line 16: a `routine` without `itself`",
+            ),
+            (
+                "(routine ( -- 7\n    next then try (stem-suffix-chain-before-ki)))",
+                ", line 17: not `itself`, but the name",
+            ),
+        ] {
+            unread(&SOURCE.replace(chain, edited), message);
+        }
+    }
+
+    #[test]
     fn all_is_reached_and_in_order() {
         unread(&SOURCE.replace("A-7)", "A-8)"), " declares no A-8");
+        let next = SOURCE.replace("gopast (grouping ad)", "next");
         unread(
-            &SOURCE.replace("gopast (grouping ad)", "next"),
+            &next.replace("test (outside ad)", "next"),
             ", line 5: no stage comes to this",
         );
-        let itself = SOURCE.replace("(literal \"a\")", "(backwards postlude)");
-        unread(&itself, ", line 19: a routine that is read both ways");
+        let turned = SOURCE.replace("isSet then postlude", "backwards postlude");
+        unread(&turned, ", line 27: a routine that is read both ways");
         let (before, last) = RUST.split_at(RUST.find("fn r_postlude").expect("a routine"));
         let swapped = format!("{last}\n{before}");
         let order = "  turkish.rs does not have postlude after more-than-one-syllable-word";

@@ -1,4 +1,5 @@
-//! What the three stages reach from where they are entered, and which way each routine reads.
+//! What the stages and the whole run reach from where they are entered, and which way each routine
+//! reads.
 
 use crate::command::{Command, Node};
 use crate::definition::{Declared, Definition};
@@ -18,11 +19,16 @@ pub enum Results {
     Numbers,
 }
 
-// The stages as Answers.antt enters them.
-const STAGES: [(&str, Direction); 3] = [
+/// The routine that turkish.sbl offers to others: the whole run.
+pub const EXTERNAL: &str = "stem";
+
+// The stages and the whole run as Answers.antt enters them.
+const STAGES: [(&str, Direction); 5] = [
     ("stem-nominal-verb-suffixes", Direction::Backward),
+    ("stem-noun-suffixes", Direction::Backward),
     ("more-than-one-syllable-word", Direction::Forward),
     ("postlude", Direction::Forward),
+    (EXTERNAL, Direction::Forward),
 ];
 
 pub struct Reached<'a> {
@@ -72,7 +78,7 @@ impl<'a> Reached<'a> {
         match &node.command {
             Command::Backwards(_) => inside = Direction::Backward,
             Command::Call(name) => self.call(name, direction)?,
-            Command::Grouping(name) => {
+            Command::Grouping(name) | Command::Outside(name) => {
                 let grouping = find(&definition.groupings, name)?;
                 self.groupings.insert(&grouping.name);
             }

@@ -2,7 +2,7 @@
 
 use crate::command::{Command, Node};
 use crate::definition::{Declared, Grouping, Routine};
-use crate::reached::{find, Direction};
+use crate::reached::{find, Direction, EXTERNAL};
 use crate::tokens::wrong;
 use crate::writer::Writer;
 use crate::written::{quoted, rust_name, Line, Piece};
@@ -18,9 +18,19 @@ pub fn routine(
 ) -> Result<Piece, String> {
     let Routine { body, places } = &declared.value;
     let mut writer = Writer::new(groupings, body.place, direction);
-    let head = format!("fn r_{}(", rust_name(&declared.name));
-    let signature = format!("{head}env: &mut SnowballEnv, context: &mut Context) -> bool {{");
+    let external = declared.name == EXTERNAL;
+    let (head, context) = match external {
+        true => (format!("pub fn {EXTERNAL}("), ""),
+        false => {
+            let name = rust_name(&declared.name);
+            (format!("fn r_{name}("), ", context: &mut Context")
+        }
+    };
+    let signature = format!("{head}env: &mut SnowballEnv{context}) -> bool {{");
     writer.block(&signature, |writer| {
+        if external {
+            writer.context();
+        }
         if has_substring(body) {
             writer.line("let mut among_var;");
         }
@@ -69,11 +79,13 @@ fn name(command: &Command) -> Option<String> {
         Command::Delete => "delete",
         Command::Set => "set continue_stemming_noun_suffixes",
         Command::Unset => "unset continue_stemming_noun_suffixes",
+        Command::IsSet => "Boolean test continue_stemming_noun_suffixes",
         Command::Next => "next",
         Command::Call(name) => return Some(format!("call {}", rust_name(name))),
         Command::Then(_)
         | Command::Case(..)
         | Command::Grouping(_)
+        | Command::Outside(_)
         | Command::Strlen(_)
         | Command::StrlenIsLimit
         | Command::Succeed => return None,
@@ -139,6 +151,10 @@ impl Writer<'_> {
                 let call = self.call("in_grouping", &self.grouping(name));
                 self.fail_if(&format!("if !{call} {{"));
             }
+            Command::Outside(name) => {
+                let call = self.call("out_grouping", &self.grouping(name));
+                self.fail_if(&format!("if !{call} {{"));
+            }
             Command::Among(table) => {
                 let call = self.call("find_among", &format!("{}, context", rust_name(table)));
                 self.fail_if(&format!("if {call} == 0 {{"));
@@ -160,6 +176,7 @@ impl Writer<'_> {
             Command::SliceEnd => self.line("env.bra = env.cursor;"),
             Command::Set => self.line("context.b_continue_stemming_noun_suffixes = true;"),
             Command::Unset => self.line("context.b_continue_stemming_noun_suffixes = false;"),
+            Command::IsSet => self.fail_if("if !context.b_continue_stemming_noun_suffixes {"),
             Command::Strlen(length) => self.line(&format!("context.i_strlen = {length};")),
             Command::StrlenIsLimit => self.fail_if("if !(context.i_strlen == env.limit){"),
             Command::Succeed => {}
@@ -168,6 +185,16 @@ impl Writer<'_> {
                 self.fail_if(&format!("if !r_{}(env, context) {{", rust_name(name)));
             }
         }
+    }
+
+    // The whole run's own variables; the stages are handed them.
+    fn context(&mut self) {
+        self.line("let mut context = &mut Context {");
+        self.inside(|writer| {
+            writer.line("b_continue_stemming_noun_suffixes: false,");
+            writer.line("i_strlen: 0,");
+        });
+        self.line("};");
     }
 
     // Cases that follow each other are one `if`.

@@ -14,18 +14,34 @@ use Rattle.utf8.specs.Behind.{readBack, behind, Open}
 use Rattle.utf8.proofs.Laws.Characters.{before-zero, before-step, before-back}
 use Rattle.utf8.proofs.Laws.Behind.{backBy-zero}
 use Rattle.turkish.specs.Letters.{text, any, has}
+use Rattle.turkish.specs.Source.{U}
 use Rattle.turkish.specs.Vowels.{vowels, vowel}
 use Rattle.turkish.specs.Simple.Grammar.{fail, took, optional}
+use Rattle.letters.specs.Ends.{isU}
 use Rattle.letters.specs.Passed.{passedTo, notPassed, passes}
 use Rattle.letters.proofs.Laws.Part.{partFrom}
 use Rattle.letters.proofs.Laws.Reads.{low, at, first-ch, first-at, first-place, second-ch}
 
--- ---- the letter ----
+-- ---- the letters ----
 
 -- one letter
 pub has-one : (l c : ℕ) → eqb c l ≡ has (l ∷ []) c
 unfolding has any
 has-one l c = sym (or-false (eqb c l))
+
+-- four tests in another order
+four : (i u ı ü : Bool) → (i || u) || (ı || ü) ≡ ı || (i || (u || (ü || false)))
+four true u true ü = refl
+four true u false ü = refl
+four false true true ü = refl
+four false true false ü = refl
+four false false true ü = refl
+four false false false ü = sym (or-false ü)
+
+-- the letters of U
+pub has-U : (c : ℕ) → isU c ≡ has (text U) c
+unfolding isU has any text
+has-U c = four (eqb c 0x69) (eqb c 0x75) (eqb c 0x131) (eqb c 0xFC)
 
 -- ---- by the characters ----
 

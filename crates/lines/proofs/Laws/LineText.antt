@@ -9,9 +9,9 @@ use lib.ListN.{length, take, length-append, length-take}
 use Rattle.turkish.specs.Letters.{tab, lf}
 use Rattle.turkish.specs.Simple.Harmony.{moreThanOneSyllable}
 use Rattle.turkish.specs.Simple.Stage.{stage, keptLength}
-use Rattle.turkish.specs.Calls.{chars, limit, accepted, passText}
+use Rattle.turkish.specs.Calls.{chars, limit, accepted, passText, wholeText}
 use Rattle.turkish.proofs.Laws.Accepted.{accepted-iff}
-use Rattle.turkish.proofs.Sizes.{passText-size, stageText-kept}
+use Rattle.turkish.proofs.Sizes.{passText-size, wholeText-size, stageText-kept}
 use Rattle.turkish.proofs.Source.Syllables.{syllableCheck-simple}
 use Rattle.turkish.proofs.Source.Calls.{suffixStage-yes, suffixStage-flag}
 use Rattle.stages.specs.declared.stage.Outcome.{Outcome}
@@ -19,7 +19,10 @@ use Rattle.stages.specs.declared.postlude.Repair.{Repair}
 use Rattle.stages.specs.Outcome.{outcomeOf}
 use Rattle.stages.specs.Repairs.{repairText, repairOf}
 use Rattle.words.proofs.Laws.WordCalls.{kept-le}
+use Rattle.outputs.specs.declared.run.Run.{Run}
+use Rattle.outputs.specs.Runs.{runText, wholeRunOf}
 use Rattle.outputs.proofs.Laws.RepairCalls.{pass-short, pass-kept, pass-repaired}
+use Rattle.outputs.proofs.Laws.Runs.{wholeText-short, wholeRunOf-text}
 use Rattle.lines.specs.Line.{yesNo, oneZero, answers, fields, lineRefusal, refusedLine, listLine}
 use Rattle.lines.specs.Room.{lineRoom}
 use Rattle.lines.proofs.Laws.LineRefusals.{lineRefusal-accepted, listLine-fields, listLine-refused}
@@ -42,10 +45,10 @@ module _ (w : List ℕ) (r : Repair) where
   unfolding repairText
   repair-two e = rw (e, append-assoc)
 
--- ---- the text of the pass ----
+-- ---- the texts of the pass and of the whole run ----
 
 module _ (w : List ℕ) (ok : accepted w ≡ true) (syllable : Bool) (y : syllable ≡ moreThanOneSyllable (chars w)) where
-  -- of a word of one syllable it is the word
+  -- of a word of one syllable the pass's is the word
   pub passText-short : syllable ≡ false → w ≡ passText w
   passText-short n = sym (pass-short w ok (sym y ∙ n))
 
@@ -59,6 +62,14 @@ module _ (w : List ℕ) (ok : accepted w ≡ true) (syllable : Bool) (y : syllab
     pub passText-repaired : s .flag ≡ true → (r : Repair) → r ≡ repairOf w (s .kept) → repairText w r ≡ passText w
     unfolding outcomeOf
     passText-repaired f r p = rw (p, q) (sym (pass-repaired w ok (sym y ∙ yes) (sym (ap (λ (x : Outcome). x .flag) q) ∙ f)))
+
+  -- the whole run's of a word of one syllable is the word
+  pub wholeText-one : syllable ≡ false → w ≡ wholeText w
+  wholeText-one n = sym (wholeText-short w ok (sym y ∙ n))
+
+  -- of any other that of its run
+  pub wholeText-run : syllable ≡ true → (r : Run) → r ≡ wholeRunOf w → runText w r ≡ wholeText w
+  wholeText-run t = wholeRunOf-text w ok (sym y ∙ t)
 
 -- ---- the fields ----
 
@@ -76,21 +87,21 @@ answers-bytes syllable stages flag p q r = rw (p, q, r)
 -- the fields of an accepted word in the words of the simple forms
 fields-simple : (w : List ℕ) → accepted w ≡ true → fields w
     ≡ w ++ (answers (moreThanOneSyllable (chars w)) (stage (chars w) .yes) (stage (chars w) .flag)
-    ++ (take (keptLength w) w ++ (tab ∷ (passText w ++ (lf ∷ [])))))
+    ++ (take (keptLength w) w ++ (tab ∷ (passText w ++ (tab ∷ (wholeText w ++ (lf ∷ [])))))))
 unfolding fields
 fields-simple w ok = rw (syllableCheck-simple (chars w), suffixStage-yes (chars w), suffixStage-flag (chars w), stageText-kept w ok)
 
 -- the parts one after the other are the fields
 pub fields-parts : (w : List ℕ) (syllable : Bool) (s : Outcome) → accepted w ≡ true → syllable ≡ moreThanOneSyllable (chars w) → s ≡ outcomeOf w
-    → ((((w ++ answers syllable (s .yes) (s .flag)) ++ take (s .kept) w) ++ (tab ∷ [])) ++ passText w) ++ (lf ∷ []) ≡ fields w
+    → ((((((w ++ answers syllable (s .yes) (s .flag)) ++ take (s .kept) w) ++ (tab ∷ [])) ++ passText w) ++ (tab ∷ [])) ++ wholeText w) ++ (lf ∷ []) ≡ fields w
 unfolding outcomeOf
 fields-parts w syllable s ok y q = rw (fields-simple w ok, y, q) (simp append-assoc)
 
--- an accepted word, the text kept and the pass's text are short enough that the fields fit three times the limit and twelve bytes
+-- an accepted word, the text kept and the texts of the pass and of the whole run are short enough that the fields fit a line's room
 pub fields-sizes : (w : List ℕ) (s : Outcome) → accepted w ≡ true → s ≡ outcomeOf w
-    → (length w ≤ limit) × (s .kept ≤ length w) × (length (passText w) ≤ length w + 2)
+    → (length w ≤ limit) × (s .kept ≤ length w) × (length (passText w) ≤ length w + 2) × (length (wholeText w) ≤ length w + 2)
 unfolding limit
-fields-sizes w s ok q = (accepted-iff w .0 ok .0, kept-le w s q, passText-size w ok)
+fields-sizes w s ok q = (accepted-iff w .0 ok .0, kept-le w s q, passText-size w ok, wholeText-size w ok)
 
 -- ---- the whole line ----
 

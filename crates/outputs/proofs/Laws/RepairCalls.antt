@@ -33,7 +33,7 @@ use Rattle.words.proofs.Laws.Refusals.{into-accepted, into-room}
 -- ---- the texts ----
 
 -- the characters before the place where the text kept ends are those kept
-before-keptLength : (w : List ℕ) → before w (keptLength w) ≡ kept (chars w)
+pub before-keptLength : (w : List ℕ) → before w (keptLength w) ≡ kept (chars w)
 unfolding keptLength kept chars
 before-keptLength w = before-back w (length w) (stage (chars w) .removed)
 

@@ -1,15 +1,18 @@
 -- What stores leave in an output: up to two bytes at a place, and a text written to its front in parts.
 -- Assumes nothing.
-use Prim.Native.Nat.{ℕ, _+_, _≤_}
-use mathlib.Core.Path.{_≡_, ap, _∙_}
+use Prim.Native.Nat.{ℕ, _+_, _-_, _≤_}
+use mathlib.Core.Path.{_≡_, refl, sym, ap, _∙_}
 use mathlib.Core.List.{List, [], _∷_, _++_, append-assoc}
 use native.Mathlib.Omega.{arith}
 use native.Mathlib.Numerals.{add-one}
-use lib.ListN.{length, take, drop, set, length-append}
+use lib.ListN.{length, take, drop, set, length-append, length-drop}
 use lib.Seq.{length-take-le, take-all, take-length, take-append-seam, drop-append-add, drop-drop, sets, sets-eq}
+use Rattle.writing.specs.Put.{put}
 use Rattle.stages.specs.declared.postlude.Repair.{Repair}
 use Rattle.stages.specs.Repairs.{repairText}
 use Rattle.turkish.specs.Calls.{written}
+use Rattle.outputs.specs.declared.run.Run.{Run}
+use Rattle.outputs.specs.Runs.{runText}
 
 -- ---- up to two bytes at a place ----
 
@@ -67,3 +70,31 @@ module _ (w : List ℕ) (r : Repair) (h : r .keep ≤ length w) (k : r .more ≤
 pub copy-written : (s out : List ℕ) → take (length s) s ++ drop (length s) out ≡ written s out
 unfolding written
 copy-written s out = ap (λ (l : List ℕ). l ++ drop (length s) out) (take-length s)
+
+-- ---- the text of a run ----
+
+-- a text put behind one that is written
+put-written : (s t out : List ℕ) → put (length s) t (written s out) ≡ written (s ++ t) out
+unfolding put
+put-written s t out = written-append s t out (written s out) (length s) (length t) refl refl (sym (copy-written s out))
+
+module _ (w : List ℕ) (r : Run) (h : r .from ≤ r .upto) (k : r .upto ≤ length w) where
+  -- the bytes behind the repair are as many as they should be
+  pub length-between : length (take (r .upto - r .from) (drop (r .from) w)) ≡ r .upto - r .from
+  length-between = length-take-le (r .upto - r .from) (drop (r .from) w) (omega (arith, length-drop (r .from) w))
+
+  -- all of them behind the repair's text are the run's
+  pub run-parts : repairText w (r .repair) ++ take (r .upto - r .from) (take (r .upto - r .from) (drop (r .from) w)) ≡ runText w r
+  unfolding runText
+  run-parts = rw (take-all (r .upto - r .from) (take (r .upto - r .from) (drop (r .from) w)) (omega (arith, length-between)))
+
+  -- so the run's text has its length
+  length-run : length (runText w r) ≡ length (repairText w (r .repair)) + (r .upto - r .from)
+  unfolding runText
+  length-run = rw (length-append, length-between)
+
+  -- the repair's text written and the others put behind it, the text is written
+  pub written-run : (out mid last : List ℕ) (n m : ℕ) → n ≡ length (repairText w (r .repair)) → mid ≡ written (repairText w (r .repair)) out
+      → m ≡ n + (r .upto - r .from) → last ≡ put n (take (r .upto - r .from) (take (r .upto - r .from) (drop (r .from) w))) mid
+      → (m ≡ length (runText w r)) × (last ≡ written (runText w r) out)
+  written-run out mid last n m e f g l = (omega (arith, length-run), l ∙ rw (e, f, put-written, run-parts))

@@ -21,6 +21,7 @@ use Rattle.letters.specs.Seen.{seenAt, Sees}
 use Rattle.letters.specs.Ends.{someEnd}
 use Rattle.letters.specs.Numbered.{numbered, firstOf}
 use Rattle.letters.proofs.Laws.Ends.{someEnd-unfit}
+use Rattle.letters.proofs.Laws.Sees.{seen-c}
 use Rattle.marks.specs.declared.marked.Marked.{Marked}
 use Rattle.marks.specs.Reach.{reach}
 use Rattle.stages.specs.declared.trail.Trail.{Trail}
@@ -80,15 +81,6 @@ pub someEnd-sees : (w : List ℕ) (s : Seen) → Sees w s → (ks : List ℕ) {b
 unfolding seenAt
 someEnd-sees w s sees ks e fails =
     someEnd-unfit ks (behind w (s .c)) (sym (ap (λ (x : Seen). someEnd ks (x .last) (x .second) (x .third)) (sees .is)) ∙ sym e ∙ fails)
-
--- what is seen from a record has that record
-seen-c : (w : List ℕ) (c : Cursor) {s : Seen} → s ≡ seenAt w c → s .c ≡ c
-unfolding seenAt
-seen-c w c e = ap (λ (x : Seen). x .c) e
-
--- what is seen from an open record is seen rightly
-pub sees-made : (w : List ℕ) (c : Cursor) {s : Seen} → s ≡ seenAt w c → Open w c → Sees w s
-sees-made w c e o = let at = sym (seen-c w c e) in record { opens = rw at at o; is = e ∙ ap (seenAt w) at }
 
 -- a command from what is seen is one from the record
 pub reach-seen : (w : List ℕ) (c : Cursor) (q : List ℕ → Trace) {s : Seen} {r : Marked} → s ≡ seenAt w c → r ≡ reach w (s .c) (q (behind w (s .c)))

@@ -1,5 +1,5 @@
--- What a command leaves the flag at: true where no `unset` stands in it, and false behind one. The code's proofs cite it of the six
--- branches. Assumes nothing.
+-- What a command leaves the flag at: true where no `unset` stands in it, and false behind one. The code's proofs cite it of the marks and
+-- the six branches. Assumes nothing.
 use Prim.Native.Nat.{ℕ}
 use mathlib.Core.Path.{_≡_, refl}
 use mathlib.Core.Bool.{Bool, true, false, not, _&&_, _||_, false≢true}
@@ -8,7 +8,7 @@ use lib.ListN.{length, drop}
 use Rattle.encoding.proofs.Laws.Booleans.{and-left, and-right, and-false}
 use Rattle.turkish.specs.Letters.{starts}
 use Rattle.turkish.specs.Simple.Harmony.{harmony}
-use Rattle.turkish.specs.Simple.Grammar.{Out, fail, took, after, among, markOf, Command, mark, _then_, _or_, nothing, unset, try, run}
+use Rattle.turkish.specs.Simple.Grammar.{Out, fail, took, after, among, Mark, markOf, Command, mark, _then_, _or_, nothing, unset, try, run}
 use Rattle.turkish.specs.Simple.Stage.{person, branch1, branch2, branch3, branch4, branch5, branch6}
 use Rattle.turkish.proofs.Laws.Outcome.{Flagged, unfit, fits, post-map, post-first, post-asking, post-cond, post-more, post-then, post-joining}
 
@@ -24,6 +24,13 @@ unfolding among
 flagged-among [] cs = unfit
 flagged-among (k ∷ ks) cs = post-cond (starts k cs) (fits (length k) refl) (flagged-among ks cs)
 
+-- by a mark
+pub mark-keeps : (m : Mark) (cs : List ℕ) → Flagged true (markOf m cs)
+unfolding markOf
+mark-keeps m cs =
+    post-asking (not (m .harmonic) || harmony cs) λ t.
+    flagged-after (flagged-among (m .keys) cs) (λ k. post-joining (m .joint) (drop k cs) (λ a. refl) (λ c d ds a e. (refl, λ h. refl)))
+
 -- a command without `unset`
 keeps : Command → Bool
 keeps (mark m) = true
@@ -34,10 +41,8 @@ keeps unset = false
 
 -- leaves the flag true
 keeps-flag : (p : Command) (cs : List ℕ) → keeps p ≡ true → Flagged true (run p cs)
-unfolding keeps run markOf
-keeps-flag (mark m) cs e =
-    post-asking (not (m .harmonic) || harmony cs) λ t.
-    flagged-after (flagged-among (m .keys) cs) (λ k. post-joining (m .joint) (drop k cs) (λ a. refl) (λ c d ds a e. (refl, λ h. refl)))
+unfolding keeps run
+keeps-flag (mark m) cs e = mark-keeps m cs
 keeps-flag (p then q) cs e =
     flagged-after (keeps-flag p cs (and-left (keeps p) (keeps q) e)) (λ k. keeps-flag q (drop k cs) (and-right (keeps p) (keeps q) e))
 keeps-flag (p or q) cs e =

@@ -6,16 +6,20 @@ use mathlib.Core.Bool.{true, false, cond, _&&_, or-false}
 use mathlib.Core.List.{List}
 use Rattle.utf8.specs.Steps.{same}
 use Rattle.turkish.specs.Letters.{fromEnd}
-use Rattle.turkish.specs.Answers.{syllableCheck, suffixStage, postludeOf}
+use Rattle.turkish.specs.Answers.{syllableCheck, suffixStage, postludeOf, nounStage}
 use Rattle.turkish.specs.WordPass.{Passed, passStage, pass}
-use Rattle.turkish.specs.Calls.{chars, bytes, refusal, accepted, syllableCall, postludeText}
+use Rattle.turkish.specs.Calls.{chars, bytes, refusal, accepted, syllableCall, postludeText, nounText, wholeText}
 use Rattle.turkish.specs.Fronts.{oneOf, reachesReserved}
 use Rattle.turkish.specs.Simple.Harmony.{moreThanOneSyllable}
 use Rattle.turkish.specs.Simple.Stage.{stage, kept}
 use Rattle.turkish.specs.Simple.Postlude.{reserved, postlude, postludeYes}
+use Rattle.turkish.specs.Simple.Nouns as nouns
+use Rattle.turkish.specs.Simple.WholeRun as whole
 use Rattle.turkish.proofs.Source.Syllables.{syllableCheck-simple}
 use Rattle.turkish.proofs.Source.Stage.{suffixStage-simple}
 use Rattle.turkish.proofs.Source.Postlude.{postludeOf-simple}
+use Rattle.turkish.proofs.Source.NounStage.{nounStage-simple}
+use Rattle.turkish.proofs.Source.WholeRun.{wholeRun-simple}
 
 -- the stage's answer
 pub suffixStage-yes : (cs : List ℕ) → suffixStage cs .yes ≡ stage cs .yes
@@ -36,6 +40,10 @@ postludeOf-yes cs = rw (postludeOf-simple cs)
 -- and its text
 pub postludeOf-text : (cs : List ℕ) → postludeOf cs .text ≡ postlude cs
 postludeOf-text cs = rw (postludeOf-simple cs)
+
+-- the noun stage's answer
+pub nounStage-yes : (cs : List ℕ) → nounStage cs .yes ≡ nouns.nounYes cs
+nounStage-yes cs = rw (nounStage-simple cs)
 
 -- the pass
 unfoldable pub simplePass : List ℕ → Passed
@@ -61,7 +69,17 @@ pub syllableCall-simple : (w : List ℕ) → syllableCall w ≡ cond (accepted w
 unfolding syllableCall
 syllableCall-simple w = rw (syllableCheck-simple (chars w))
 
--- and the postlude's text
+-- the postlude's text
 pub postludeText-simple : (w : List ℕ) → postludeText w ≡ bytes (postlude (chars w))
 unfolding postludeText
 postludeText-simple w = ap bytes (postludeOf-text (chars w))
+
+-- the noun stage's
+pub nounText-simple : (w : List ℕ) → nounText w ≡ bytes (nouns.nounLeaves (chars w))
+unfolding nounText
+nounText-simple w = rw (nounStage-simple (chars w))
+
+-- and the whole run's
+pub wholeText-simple : (w : List ℕ) → wholeText w ≡ bytes (whole.wholeLeaves (chars w))
+unfolding wholeText
+wholeText-simple w = ap bytes (wholeRun-simple (chars w))

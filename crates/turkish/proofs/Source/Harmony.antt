@@ -18,7 +18,8 @@ use Rattle.turkish.specs.Source.{vowel1, vowel2, vowel3, vowel4, vowel5,
 use Rattle.turkish.specs.Source as Source
 use Rattle.turkish.proofs.Laws.Outcome.{first-fail}
 use Rattle.turkish.proofs.Laws.Tests.{eqb-comm}
-use Rattle.turkish.proofs.Source.Means.{Means, means-define, means-as, means-then, means-or, means-test, means-not, means-next, means-literal, means-grouping, means-goto, takeIf, peeked, peeked-more, denied, sought}
+use Rattle.turkish.proofs.Source.Means.{Means, means-define, means-as, means-then, means-or, means-test, means-not, means-next, means-literal, means-grouping, means-goto}
+use Rattle.turkish.proofs.Source.Means.{takeIf, peeked, peeked-more, denied, sought}
 use Rattle.turkish.proofs.Source.LastVowel.{beforeLastVowel-none, lastVowel-vowel, means-test-goto-vowel}
 
 -- ---- a walk to a character of a grouping ----

@@ -15,13 +15,15 @@ use Rattle.utf8.specs.Steps.{same}
 use Rattle.turkish.specs.Letters.{text, fromEnd, any, has, starts}
 use Rattle.turkish.specs.Snowball.{State, ahead, place, moveTo, Result, done, failed, backward, letters, Command, define, _then_, run}
 use Rattle.turkish.specs.Snowball as Snowball
-use Rattle.turkish.specs.Source.{A-12, A-13, A-14, A-15, A-16, A-17, A-18, A-19, A-20, A-21, A-22, check-vowel-harmony, mark-suffix-with-optional-y-consonant, mark-yUm, mark-sUn, mark-yUz, mark-sUnUz, mark-lAr, mark-nUz, mark-DUr, mark-cAsInA, mark-yDU, mark-ysA, mark-ymUs-, mark-yken}
+use Rattle.turkish.specs.Source.{A-12, A-13, A-14, A-15, A-16, A-17, A-18, A-19, A-20, A-21, A-22, check-vowel-harmony, mark-suffix-with-optional-y-consonant, mark-yUm}
+use Rattle.turkish.specs.Source.{mark-sUn, mark-yUz, mark-sUnUz, mark-lAr, mark-nUz, mark-DUr, mark-cAsInA, mark-yDU, mark-ysA, mark-ymUs-, mark-yken}
 use Rattle.turkish.specs.Answers.{succeeded}
 use Rattle.turkish.specs.Pieces.{kindNames, numberFrom, kindOf, Joined, alone, withY, afterVowel, Kept, Reading, blank, orJoined, readThen, readAfter, jointOf, oneMark, readIn}
 use Rattle.turkish.specs.Pieces as Pieces
 use Rattle.turkish.specs.Simple.Harmony.{harmony}
 use Rattle.turkish.specs.Simple.Grammar.{Out, fail, took, after, asking, among, Joint, joining, Mark, markOf}
 use Rattle.turkish.specs.Simple.Marks.{unjoined, byY, marked, yUm, sUn, yUz, sUnUz, lAr, nUz, DUr, cAsInA, yDU, ysA, ymUs, yken}
+use Rattle.turkish.specs.Simple.NounMarks.{lettersU, possessives, sU, lArI, nU, nUn, yA, nA, DA, ndA, DAn, ndAn, ylA, ki, ncA}
 use Rattle.turkish.specs.Simple.Tables.{Table, tables}
 use Rattle.turkish.specs.Simple.Pieces.{joinedBy, traceOut, traceOf, located}
 use Rattle.turkish.specs.Simple.Postlude.{hardenings, hardKeys}
@@ -45,7 +47,7 @@ yless (c ∷ d ∷ cs) = yless (d ∷ cs)
 
 -- so it is with every key of every table
 tables-yless : every (λ (t : Table). every yless (t .keys)) tables ≡ true
-unfolding every yless tables hardKeys hardenings marked yUm sUn yUz sUnUz lAr nUz DUr cAsInA yDU ysA ymUs yken fromEnd text
+unfolding every yless tables hardKeys hardenings marked yUm sUn yUz sUnUz lAr nUz DUr cAsInA yDU ysA ymUs yken lettersU possessives sU lArI nU nUn yA nA DA ndA DAn ndAn ylA ki ncA fromEnd text
 tables-yless = refl
 
 -- and with those of one, told by its place in the list

@@ -17,7 +17,8 @@ use Rattle.turkish.specs.Simple.Grammar.{Out, fail, took, more, after, a
 use Rattle.turkish.specs.Simple.Marks.{unjoined, byY, marked, yUm, sUn, yUz, sUnUz, lAr, nUz, DUr, cAsInA, yDU, ysA, ymUs, yken}
 use Rattle.turkish.specs.Snowball.{longer, longest, fits, backward, letters, Command, _then_}
 use Rattle.turkish.specs.Snowball as Snowball
-use Rattle.turkish.specs.Source.{A-12, A-13, A-14, A-15, A-16, A-17, A-18, A-19, A-20, A-21, A-22, check-vowel-harmony, mark-suffix-with-optional-y-consonant, mark-yUm, mark-sUn, mark-yUz, mark-sUnUz, mark-lAr, mark-nUz, mark-DUr, mark-cAsInA, mark-yDU, mark-ysA, mark-ymUs-, mark-yken}
+use Rattle.turkish.specs.Source.{A-12, A-13, A-14, A-15, A-16, A-17, A-18, A-19, A-20, A-21, A-22, check-vowel-harmony, mark-suffix-with-optional-y-consonant, mark-yUm}
+use Rattle.turkish.specs.Source.{mark-sUn, mark-yUz, mark-sUnUz, mark-lAr, mark-nUz, mark-DUr, mark-cAsInA, mark-yDU, mark-ysA, mark-ymUs-, mark-yken}
 use Rattle.turkish.proofs.Laws.Tests.{every}
 use Rattle.turkish.specs.Simple.Tables.{tables}
 use Rattle.turkish.proofs.Tables.{neither, apart, neither-both, apart-at}

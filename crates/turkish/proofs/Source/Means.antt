@@ -9,7 +9,9 @@ use native.Mathlib.Omega.{arith}
 use lib.ListN.{length, drop}
 use lib.Seq.{drop-drop}
 use Rattle.turkish.specs.Letters.{text, starts}
-use Rattle.turkish.specs.Snowball.{State, ahead, moveTo, Result, done, failed, andThen, orElse, tested, negated, readIf, isLeft, isIn, Direction, letters, longest, keyAhead, fits, goPast, Command, define, _then_, _or_, test, not, goto, gopast, succeed, next, literal, grouping, among, enough, run}
+use Rattle.turkish.specs.Snowball.{State, ahead, moveTo, Result, done, failed, andThen, orElse, tested, negated, readIf, isLeft, isIn, isOutside, Direction, letters, longest}
+use Rattle.turkish.specs.Snowball.{keyAhead, fits, goPast, Command, define, _then_, _or_, test, not, goto, gopast, succeed, next, literal, grouping, outside, among, enough}
+use Rattle.turkish.specs.Snowball.{run}
 use Rattle.turkish.specs.Answers.{succeeded, left}
 use Rattle.turkish.specs.Simple.Grammar.{Out, fail, took, more, after, first}
 use Rattle.turkish.proofs.Laws.Outcome.{first-fail}
@@ -35,6 +37,12 @@ pub settled-again : (c b : ℕ) (r : Result) → settled c (settled b r) ≡ set
 unfolding settled moveTo
 settled-again c b (done s) = refl
 settled-again c b (failed s) = refl
+
+-- where the cursor is put back, the answer stays
+pub succeeded-settled : (c : ℕ) (r : Result) → succeeded (settled c r) ≡ succeeded r
+unfolding succeeded settled
+succeeded-settled c (done s) = refl
+succeeded-settled c (failed s) = refl
 
 -- a success is no failure
 pub done-failed : {A : Type 0} {s t : State} → done s ≡ failed t → A
@@ -199,6 +207,11 @@ means-literal {d} l = record { on-state = λ self s. read-result s (starts (lett
 pub means-grouping : {d : Direction} (g : String) → Means d (grouping g) (λ cs. takeIf (isIn (text g) cs) 1)
 unfolding run
 means-grouping g = record { on-state = λ self s. read-result s (isIn (text g) (ahead s)) 1 }
+
+-- one that is not of it
+pub means-outside : {d : Direction} (g : String) → Means d (outside g) (λ cs. takeIf (isOutside (text g) cs) 1)
+unfolding run
+means-outside g = record { on-state = λ self s. read-result s (isOutside (text g) (ahead s)) 1 }
 
 -- the longest key that fits, whatever its number
 pub means-among : {d : Direction} (ks : List String) → Means d (among ks) (λ cs. let k = longest 1 (map (letters d) ks) cs in takeIf (fits k) (k .size))

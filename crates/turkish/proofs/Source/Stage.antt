@@ -1,23 +1,23 @@
 -- stem_nominal_verb_suffixes of the source is the stage of the simple form: all that a branch takes is deleted, since nothing that
 -- follows a deletion can fail. Assumes nothing.
-use Prim.Native.Nat.{ℕ, zero, suc, _+_, _-_, _≤_}
+use Prim.Native.Nat.{ℕ, _+_, _-_}
 use mathlib.Core.Path.{_≡_, refl, sym, ap, ap₂, _∙_}
-use mathlib.Core.Bool.{Bool, true, false, cond, _&&_}
-use mathlib.Core.List.{List, [], _∷_, _++_}
+use mathlib.Core.Bool.{Bool, true, false, _&&_}
+use mathlib.Core.List.{List, [], _++_}
 use native.Mathlib.Omega.{arith}
 use lib.ListN.{length, take, drop, length-drop}
 use lib.Seq.{drop-drop}
-use lib.Dec.{ltb, leb}
-use borrow.Author.Tests.{leb-true}
 use Rattle.turkish.specs.Simple.Grammar.{Out, fail, took, more, after, first}
 use Rattle.turkish.specs.Simple.Grammar as Grammar
 use Rattle.turkish.specs.Simple.Stage.{person, branch1, branch2, branch3, branch4, branch5, branch6, branches, staged, stage, kept}
-use Rattle.turkish.specs.Snowball.{State, ahead, place, moveTo, withSlice, withFlag, withText, Result, done, failed, andThen, orElse, placeAfter, sliceFrom, backward, Command, _then_, _or_, try, succeed, ⟦, ⟧, delete, set, unset, run}
+use Rattle.turkish.specs.Snowball.{State, ahead, place, moveTo, withSlice, withFlag, withText, Result, done, failed, andThen, orElse, placeAfter, sliceFrom, backward, Command}
+use Rattle.turkish.specs.Snowball.{_then_, _or_, try, succeed, ⟦, ⟧, delete, set, unset, run}
 use Rattle.turkish.specs.Source.{mark-yUm, mark-sUn, mark-yUz, mark-sUnUz, mark-lAr, mark-nUz, mark-DUr, mark-cAsInA, mark-yDU, mark-ysA, mark-ymUs-, mark-yken, stem-nominal-verb-suffixes}
 use Rattle.turkish.specs.Answers.{entered, called, succeeded, left, stemmed, suffixStage}
 use Rattle.turkish.proofs.Laws.Outcome.{Flagged, unfit, fits}
 use Rattle.turkish.proofs.Laws.Flag.{branch1-keeps, branch2-keeps, branch3-lowers, branch4-keeps, branch5-keeps, branch6-keeps}
 use Rattle.turkish.proofs.Source.Means.{Means, means-then, means-or, means-succeed, settled, placed, done-failed, done-state, failed-state, settled-done}
+use Rattle.turkish.proofs.Source.Cutting.{drop-rest, placeAfter-bra}
 use Rattle.turkish.proofs.Source.Marks.{yUm-means, sUn-means, yUz-means, sUnUz-means, lAr-means, nUz-means, DUr-means, cAsInA-means, yDU-means, ysA-means, ymUs-means, yken-means}
 
 -- ---- a slice that was opened at the text's end ----
@@ -25,24 +25,6 @@ use Rattle.turkish.proofs.Source.Marks.{yUm-means, sUn-means, yUz-means
 -- a state with this text, cursor, ket and bra
 unfoldable pub standing : List ℕ → ℕ → ℕ → ℕ → State → State
 standing t c k b s = record { text = t; cursor = c; ket = k; bra = b; flag = s .flag; strlen = s .strlen; found = s .found }
-
--- what is left of a text behind some of its characters, told by how many those are
-drop-rest : (j : ℕ) (t : List ℕ) → drop (length t - length (drop j t)) t ≡ drop j t
-drop-rest zero t = let e : length t - length t ≡ 0 = omega arith in ap (λ (n : ℕ). drop n t) e
-drop-rest (suc j) [] = refl
-drop-rest (suc j) (c ∷ t) =
-    let e : suc (length t) - length (drop j t) ≡ suc (length t - length (drop j t)) = omega (arith, length-drop j t) in
-    ap (λ (n : ℕ). drop n (c ∷ t)) e ∙ drop-rest j t
-
--- the cursor stands at bra, and stays there
-placeAfter-bra : (b k : ℕ) → b ≤ k → placeAfter b k 0 b ≡ b
-unfolding placeAfter
-placeAfter-bra b k h = go (leb k b) (ltb b b) refl
-  where
-    go : (u v : Bool) → leb k b ≡ u → cond u (b + 0 - (k - b)) (cond v b b) ≡ b
-    go true v e = omega (arith, leb-true k b e)
-    go false true e = refl
-    go false false e = refl
 
 -- what was passed since the slice was opened is deleted
 pub delete-passed : (t : List ℕ) (j b : ℕ) (s : State)

@@ -17,7 +17,7 @@ use Rattle.turkish.specs.Snowball.{State, ahead, moveTo, Result, done, f
 use Rattle.turkish.specs.Source.{vowel as vowelLetters, more-than-one-syllable-word}
 use Rattle.turkish.specs.Answers.{entered, called, succeeded, syllableCheck}
 use Rattle.turkish.proofs.Laws.Syllables.{any-append, moreThanOneSyllable-append}
-use Rattle.turkish.proofs.Source.Means.{means-define, settled, placed, Means, done-failed, done-state, failed-state, ahead-on, moved-none, settled-on}
+use Rattle.turkish.proofs.Source.Means.{means-define, settled, succeeded-settled, placed, Means, done-failed, done-state, failed-state, ahead-on, moved-none, settled-on}
 use Rattle.turkish.proofs.Source.Means.{takeIf, peeked, peeked-more, sought, means-test, means-grouping, means-gopast}
 
 -- ---- atleast ----
@@ -231,12 +231,6 @@ syllables-run self s =
     let two = repeated-often (length cs) 2 cs (omega arith) ∙ ap (λ (b : Bool). takeIf b 0) (often-two cs ∙ sym (moreThanOneSyllable-reverse cs)) in
     means-define _ (means-test (means-atleast 2 (means-gopast (means-grouping vowelLetters)))) .on-state self s
     ∙ ap (placed s) two ∙ placed-none s (moreThanOneSyllable (reverse cs))
-
--- where the cursor is put back, the answer stays
-succeeded-settled : (c : ℕ) (r : Result) → succeeded (settled c r) ≡ succeeded r
-unfolding succeeded settled
-succeeded-settled c (done s) = refl
-succeeded-settled c (failed s) = refl
 
 -- a test made a result succeeds where it passes
 succeeded-cond : (s : State) (b : Bool) → succeeded (cond b (done s) (failed s)) ≡ b

@@ -44,8 +44,8 @@ pub record Joint : Type 0 where
   pub letters : List ℕ
   pub vowelled : Bool
 
--- an optional letter is taken if the right character stands before it; without the letter the second character back must be of that
--- kind. Either way the second character back is.
+-- the second character back must be a vowel, or where none is asked for a character that is none; the first is taken where it is one of
+-- the letters
 unfoldable pub optional : List ℕ → Bool → List ℕ → Out
 optional letters vowelled [] = fail
 optional letters vowelled (c ∷ []) = fail
@@ -54,7 +54,7 @@ optional letters vowelled (c ∷ d ∷ cs) = cond (cond vowelled (vowel d) (not 
 unfoldable pub joining : Joint → List ℕ → Out
 joining j cs = cond (j .asked) (optional (j .letters) (j .vowelled) cs) (took 0 true)
 
--- a mark: its number, 1 to 12 in the order of document 01's mark tables with yken last; whether it tests harmony, its keys from their
+-- a mark: its number, 1 to 12 in the order of document 01's mark tables with yken last, 0 for one of the noun stage; whether it tests harmony, its keys from their
 -- ends, and what joins a key to the text before it
 pub record Mark : Type 0 where
   pub kind : ℕ

@@ -1,6 +1,6 @@
 -- What stands before a cursor and the record some characters back: going back twice, and with limit_backward at the word's start; and
 -- that both ways, and a deletion, leave the record open. Assumes nothing.
-use Prim.Native.Nat.{ℕ, _+_, _-_, _≤_}
+use Prim.Native.Nat.{ℕ, _+_, _-_, _≤_, _<_}
 use mathlib.Core.Path.{_≡_, refl, ap, _∙_}
 use mathlib.Core.List.{List}
 use native.Mathlib.Omega.{arith}
@@ -11,7 +11,7 @@ use Rattle.utf8.specs.Characters.{before, back}
 use Rattle.utf8.specs.Steps.{stands, moveTo}
 use Rattle.utf8.specs.Behind.{behind, backBy, deleted, edged, Open}
 use Rattle.utf8.proofs.Laws.Steps.{stands-within, stands-ordered}
-use Rattle.utf8.proofs.Laws.Characters.{back-le, back-add, before-back}
+use Rattle.utf8.proofs.Laws.Characters.{back-le, back-less, back-add, before-back}
 
 -- ---- behind and backBy ----
 
@@ -43,6 +43,14 @@ backBy-zero w r o =
     let within = stands-within w r (o .within) in
     let place : r .«limit_backward» + (r .cursor - r .«limit_backward») ≡ r .cursor = omega (arith, within .low) in
     ap (moveTo r) place
+
+-- where there are so many characters and one at least, the record that many back stands before it
+pub backBy-less : (w : List ℕ) (r : Cursor) (n : ℕ) → 0 < n → n ≤ length (behind w r) → backBy w r n .cursor < r .cursor
+unfolding behind backBy moveTo
+backBy-less w r n h l =
+    let low = r .«limit_backward» in
+    let less : back (drop low w) (r .cursor - low) n < r .cursor - low = back-less (drop low w) (r .cursor - low) n h l in
+    omega arith
 
 -- ---- open records ----
 

@@ -6,7 +6,7 @@ use mathlib.Core.Bool.{Bool, true, false}
 use mathlib.Core.List.{List, [], _∷_}
 use native.Mathlib.Omega.{arith}
 use native.Mathlib.Nat.{zero-add, suc-add, zero-sub}
-use lib.ListN.{drop, getD}
+use lib.ListN.{length, drop, getD}
 use lib.Seq.{drop-nil}
 use lib.Dec.{ltb}
 use borrow.Author.Tests.{ltb-true}
@@ -111,6 +111,13 @@ pub back-add : (w : List ℕ) (c n m : ℕ) → back w (back w c n) m ≡ back w
 unfolding back
 back-add w c zero m = rw zero-add
 back-add w c (suc n) m = rw suc-add (back-add w (c - lastWidth w c) n m)
+
+-- and less where there is a character to go back over
+pub back-less : (w : List ℕ) (c n : ℕ) → 0 < n → n ≤ length (before w c) → back w c n < c
+unfolding back
+back-less w c zero h l = absurd (omega arith)
+back-less w zero (suc n) h l = absurd (omega (arith, ap length (before-zero w)))
+back-less w (suc c) (suc n) h l = omega (arith, lastWidth-pos w (suc c), back-le w (suc c - lastWidth w (suc c)) n)
 
 -- before the last character's first byte stands all but that character
 before-tail : (w : List ℕ) (c n : ℕ) → drop n (before w (c - lastWidth w c)) ≡ drop (suc n) (before w c)

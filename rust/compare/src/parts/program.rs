@@ -86,7 +86,7 @@ impl Runs<'_> {
         self.hold(name, &List::new(input), 1, WHOLE)
     }
 
-    // Every word that is text, and every byte string.
+    // Every word that is text, nouns, and every byte string.
     fn all_words(&mut self, words: &Words) -> Result<(), Difference> {
         let mut list = Vec::new();
         let mut number = 0;
@@ -102,7 +102,7 @@ impl Runs<'_> {
                 std::mem::take(&mut list),
             )
         };
-        words.texts(&mut |word| add(word.as_bytes()))?;
+        words.for_nouns(&mut |word| add(word.as_bytes()))?;
         words.byte_strings(&mut add)?;
         self.once("last list of words", list)
     }
@@ -188,7 +188,7 @@ fn mixed(words: &Words) -> Vec<u8> {
     for odd in [
         "\t", "\0", "\r", "\u{FEFF}", "\n", "\n\n", "\r\n\t", " ", "\u{2028}",
     ] {
-        for word in ["", "ev", "evler", "kanaddır", "arabayken"] {
+        for word in ["", "ev", "evler", "kanaddır", "arabayken", "adakina"] {
             list.extend_from_slice(format!("{odd}{word}\n{word}{odd}\na{odd}a{word}\n").as_bytes());
         }
     }

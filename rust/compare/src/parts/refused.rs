@@ -1,10 +1,10 @@
-//! Refused calls, held to the rule: outputs of every size up to n + 2, words that are no text, words
-//! over the limit, and several causes at once.
+//! Refused calls, held to the rule: outputs of every size up to n + 2 (of the noun stage and the whole
+//! run, of the sizes that tell), words that are no text, words over the limit, and several causes at once.
 
 use crate::desk::Desk;
 use crate::ffi::{
-    FannavyFold, FannavyPass, FannavyPieces, FannavyPiecesText, FannavyPostlude, FannavyStage,
-    FannavySyllable, StagePart,
+    FannavyFold, FannavyNoun, FannavyPass, FannavyPieces, FannavyPiecesText, FannavyPostlude,
+    FannavyStage, FannavySyllable, FannavyWhole, StagePart,
 };
 use crate::lent::Lent;
 use crate::list::List;
@@ -48,10 +48,14 @@ pub fn run(words: &Words, report: &mut Report) -> Outcome {
 // fold's own sizes are in its part.
 fn every_room(desk: &mut Desk, word: &[u8], report: &mut Report) -> Outcome {
     desk.set(word);
-    for room in 0..=word.len() + 2 {
+    let n = word.len();
+    for room in 0..=n + 2 {
         with_output(desk, room, report)?;
     }
-    with_buffers(desk, word.len(), report)?;
+    for room in edges(n) {
+        with_noun_output(desk, room, report)?;
+    }
+    with_buffers(desk, n, report)?;
     desk.done(report)
 }
 
@@ -63,8 +67,9 @@ fn some_rooms(desk: &mut Desk, word: &[u8], report: &mut Report) -> Outcome {
     desk.refuses::<List>(0, report)?;
     let n = word.len();
     desk.refuses::<StagePart>(n, report)?;
-    for room in [0, n.saturating_sub(1), n, n + 1, n + 2, n + 200] {
+    for room in edges(n).into_iter().chain([n + 200]) {
         with_output(desk, room, report)?;
+        with_noun_output(desk, room, report)?;
     }
     with_buffers(desk, n, report)?;
     desk.done(report)
@@ -74,6 +79,17 @@ fn with_output(desk: &mut Desk, room: usize, report: &mut Report) -> Outcome {
     desk.refuses::<FannavyPostlude>(room, report)?;
     desk.refuses::<FannavyFold>(room, report)?;
     desk.refuses::<FannavyPass>(room, report)
+}
+
+// Noun stage and whole run, for which n and n + 2 bytes are just enough.
+fn with_noun_output(desk: &mut Desk, room: usize, report: &mut Report) -> Outcome {
+    desk.refuses::<FannavyNoun>(room, report)?;
+    desk.refuses::<FannavyWhole>(room, report)
+}
+
+// No output, and about as long as the word.
+fn edges(n: usize) -> [usize; 5] {
+    [0, n.saturating_sub(1), n, n + 1, n + 2]
 }
 
 // The calls on pieces, whose buffers have a size of their own: the empty one, a shorter one that is

@@ -5,7 +5,7 @@ use crate::desk::Desk;
 use crate::ffi::{FannavyPass, FannavyPostlude, FannavyStage, FannavySyllable, StagePart};
 use crate::lent::Lent;
 use crate::report::{Difference, Report};
-use crate::share::share_out;
+use crate::share::{share_out, Stop};
 use crate::words::Words;
 use std::borrow::Cow;
 
@@ -66,22 +66,30 @@ pub fn pass(words: &Words, report: &mut Report) -> Result<(), Difference> {
     })
 }
 
-// A text's bytes.
-fn bytes(text: Cow<str>) -> Cow<[u8]> {
+/// A text's bytes.
+pub fn bytes(text: Cow<str>) -> Cow<[u8]> {
     match text {
         Cow::Borrowed(text) => Cow::from(text.as_bytes()),
         Cow::Owned(text) => Cow::from(text.into_bytes()),
     }
 }
 
-/// The call gives what the Rust gives of the word.
+/// The call gives what the Rust gives of each word for the stages.
 pub fn on_words<C: Call>(
     words: &Words,
     report: &mut Report,
     rust: impl Fn(&str) -> (C, Cow<[u8]>) + Sync,
 ) -> Result<(), Difference> {
+    on_source(|visit| words.for_stages(visit), report, rust)
+}
+
+/// The same of each word of another source.
+pub fn on_source<C: Call>(
+    source: impl Fn(&mut dyn FnMut(&str) -> Result<(), Stop>) -> Result<(), Stop> + Sync,
+    report: &mut Report,
+    rust: impl Fn(&str) -> (C, Cow<[u8]>) + Sync,
+) -> Result<(), Difference> {
     let rust = &rust;
-    let source = |visit: &mut dyn FnMut(&str) -> _| words.for_stages(visit);
     share_out(source, report, || {
         let mut desk = Desk::new(Lent::among_vowels(b""));
         move |word: &str, report: &mut Report| {

@@ -5,6 +5,10 @@ const SUFFIXES: [&str; 22] = [
     "Um", "sUn", "Uz", "sUnUz", "lAr", "nUz", "DUr", "cAsInA", "DU", "DUm", "DUn", "DUk", "sA",
     "sAm", "sAn", "sAk", "mUş", "b", "c", "d", "ğ", "ken",
 ];
+// The same for the noun stage, table by table.
+const NOUN_SUFFIXES: [&str; 15] = [
+    "m", "n", "mUz", "nUz", "lArI", "nU", "Un", "A", "nA", "DA", "ndA", "DAn", "ndAn", "lA", "cA",
+];
 // What U, A and I stand for together.
 const HARMONIES: [[char; 3]; 4] = [
     ['ı', 'a', 'ı'],
@@ -16,6 +20,11 @@ const HARMONIES: [[char; 3]; 4] = [
 /// Every key that the suffix stage and the postlude search for, and the literal `ken`.
 pub fn endings() -> Vec<String> {
     SUFFIXES.into_iter().flat_map(spellings).collect()
+}
+
+/// Every key that the noun stage searches for in tables of its own.
+pub fn noun_endings() -> Vec<String> {
+    NOUN_SUFFIXES.into_iter().flat_map(spellings).collect()
 }
 
 /// Every spelling of one suffix, once each.
@@ -45,19 +54,25 @@ fn spell(suffix: &str, [u, a, i]: [char; 3], d: char) -> String {
 
 #[cfg(test)]
 mod tests {
-    use super::endings;
+    use super::{endings, noun_endings};
 
     #[cfg(feature = "oracle")]
     #[test]
     fn endings_are_the_keys_of_the_crate_and_ken() {
-        let mut keys: Vec<String> = oracle::keys()
-            .concat()
-            .iter()
-            .map(|key| key.to_string())
-            .collect();
-        keys.push("ken".to_string());
+        let mut keys = oracle::keys().concat();
+        keys.push("ken");
         keys.sort();
         let mut endings = endings();
+        endings.sort();
+        assert_eq!(endings, keys);
+    }
+
+    #[cfg(feature = "oracle")]
+    #[test]
+    fn noun_endings_are_the_keys_of_the_crate() {
+        let mut keys = oracle::noun_keys().concat();
+        keys.sort();
+        let mut endings = noun_endings();
         endings.sort();
         assert_eq!(endings, keys);
     }
@@ -68,5 +83,6 @@ mod tests {
         assert!(endings.contains(&"casına".to_string()));
         assert!(!endings.contains(&"casina".to_string()));
         assert_eq!(endings.len(), 81);
+        assert_eq!(noun_endings().len(), 40);
     }
 }

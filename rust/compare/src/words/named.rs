@@ -1,14 +1,24 @@
-//! The words that document 01 names, and every word one letter away from one of them.
+//! The words that the documents name, and every word one letter away from one of them.
 
 use super::letters::alphabet;
 use super::Visit;
-use shared::named::NAMED;
+use shared::named::{NAMED, NOUNS};
 
-/// Each word, and at each of its characters the word without it, with another letter for it, and
-/// with one more letter before it or at the end.
+/// Document 01's words and their neighbours.
 pub fn each<E>(visit: Visit<E>) -> Result<(), E> {
+    each_near(&NAMED, visit)
+}
+
+/// The nouns and their neighbours.
+pub fn each_noun<E>(visit: Visit<E>) -> Result<(), E> {
+    each_near(&NOUNS, visit)
+}
+
+// Each word, and at each of its characters the word without it, with another letter for it, and
+// with one more letter before it or at the end.
+fn each_near<E>(words: &[&str], visit: Visit<E>) -> Result<(), E> {
     let letters = alphabet();
-    for word in NAMED {
+    for word in words {
         visit(word)?;
         let ends = word.char_indices().map(|(place, _)| place);
         for place in ends.chain([word.len()]) {

@@ -5,9 +5,9 @@ use super::odometer;
 use super::random::{each_drawn, Random};
 use super::Visit;
 
-// No vowel, one, or several that harmonise or do not; vowels and consonants at the end; the two
-// reserved words.
-const FRONTS: [&str; 16] = [
+/// No vowel, one, or several that harmonise or do not; vowels and consonants at the end; the two
+/// reserved words.
+pub const FRONTS: [&str; 16] = [
     "",
     "a",
     "e",

@@ -5,7 +5,7 @@ use native.Mathlib.Omega.{arith}
 use borrow.Author.Needs.{needs}
 use denote.Ref.{now}
 use Rattle.turkish.specs.Letters.{tab, lf}
-use Rattle.turkish.specs.Calls.{chars, passText}
+use Rattle.turkish.specs.Calls.{chars, passText, wholeText}
 use Rattle.lines.specs.Room.{lineRoom}
 use Rattle.writing.proofs.Laws.Put.{wrote-nothing, wrote-text, wrote-byte, wrote-bytes, wrote-whole, wrote-all}
 use Rattle.lines.proofs.Laws.LineText.{length-answers, fields-parts, fields-sizes}
@@ -46,9 +46,19 @@ put-byte-requires c κs =
     let sizes = fields-sizes _ _ (stem .before .before .before .before .pre .0) (stem .stem-nominal-verb-suffixes .ensures) in
     omega arith
 
--- the place behind the stage, from before the pass's text, and the function's entry: a `let` would have `omega` read all that is known there
+-- the place behind the stage, from before what is written after the text kept, and the function's entry: a `let` would have `omega` read all
+-- that is known there
 abbrev stem : tie.After-put-pass-arg → tie.After-stem-nominal-verb-suffixes
 stem c = c .before .before .before .before .before .before .before .before .before .before .before .before .before .before .before .before .before
+
+abbrev stem-tab : tie.After-put-byte-arg2 → tie.After-stem-nominal-verb-suffixes
+stem-tab c = stem (c .before .before .before .before)
+
+abbrev stem-whole : tie.After-put-whole-arg → tie.After-stem-nominal-verb-suffixes
+stem-whole c = stem-tab (c .before .before .before .before)
+
+abbrev stem-lf : tie.After-put-byte-arg3 → tie.After-stem-nominal-verb-suffixes
+stem-lf c = stem-whole (c .before .before .before .before)
 
 abbrev start : tie.After-stem-nominal-verb-suffixes → tie.Start
 start c = c .before .before .before .before
@@ -62,8 +72,20 @@ put-pass-requires c κs =
 put-byte-requires-2 : tie.Need-put-byte-requires-2
 unfolding lineRoom
 put-byte-requires-2 c κs =
-    let sizes = fields-sizes _ _ (start (stem (c .before .before .before .before)) .pre .0) (stem (c .before .before .before .before) .stem-nominal-verb-suffixes .ensures) in
-    omega (arith, start (stem (c .before .before .before .before)) .pre .1)
+    let sizes = fields-sizes _ _ (start (stem-tab c) .pre .0) (stem-tab c .stem-nominal-verb-suffixes .ensures) in
+    omega (arith, start (stem-tab c) .pre .1)
+
+put-whole-requires : tie.Need-put-whole-requires
+unfolding chars lineRoom
+put-whole-requires c κs =
+    let sizes = fields-sizes _ _ (start (stem-whole c) .pre .0) (stem-whole c .stem-nominal-verb-suffixes .ensures) in
+    (start (stem-whole c) .pre .0, (stem-whole c .before .more-than-one-syllable-word .ensures, (stem-whole c .stem-nominal-verb-suffixes .ensures, omega (arith, start (stem-whole c) .pre .1))))
+
+put-byte-requires-3 : tie.Need-put-byte-requires-3
+unfolding lineRoom
+put-byte-requires-3 c κs =
+    let sizes = fields-sizes _ _ (start (stem-lf c) .pre .0) (stem-lf c .stem-nominal-verb-suffixes .ensures) in
+    omega (arith, start (stem-lf c) .pre .1)
 
 same-length : tie.Need-same-length
 same-length c = search needs
@@ -71,7 +93,9 @@ same-length c = search needs
 returns : tie.Need-returns
 unfolding chars tab lf lineRoom
 returns c =
-    let e = c .before .before in
+    let g = c .before .before in
+    let whole = g .before .before .before .before in
+    let e = whole .before .before .before .before in
     let pass = e .before .before .before .before in
     let d = pass .before .before .before .before in
     let kept = d .before .before .before .before in
@@ -84,6 +108,8 @@ returns c =
     let sizes = fields-sizes _ _ (start .pre .0) q in
     wrote-all (fields-parts _ _ _ (start .pre .0) (stem .before .more-than-one-syllable-word .ensures) q)
     (wrote-byte _
+    (wrote-text (wholeText w) _ refl
+    (wrote-byte _
     (wrote-text (passText w) _ refl
     (wrote-byte _
     (wrote-bytes _ _ (sizes .1)
@@ -92,6 +118,8 @@ returns c =
     (d .put-byte .ensures))
     (pass .put-pass .ensures))
     (e .put-byte2 .ensures))
+    (whole .put-whole .ensures))
+    (g .put-byte3 .ensures))
 
 pub put-fields-spec : {M : Type 1} → statement M
 put-fields-spec =
@@ -105,5 +133,7 @@ put-fields-spec =
     put-byte-requires
     put-pass-requires
     put-byte-requires-2
+    put-whole-requires
+    put-byte-requires-3
     same-length
     returns)

@@ -9,10 +9,11 @@ use Rattle.turkish.specs.Simple.Marks.{ymUs}
 use Rattle.turkish.specs.Simple.Pieces.{traceOf, trace}
 use Rattle.turkish.specs.Simple.Stage.{branch5}
 use Rattle.letters.specs.Numbered.{numbered}
+use Rattle.letters.proofs.Laws.Sees.{sees-made}
 use Rattle.letters.proofs.Laws.Told.{hears-unasked}
 use Rattle.stages.specs.Trail.{noStop, noTrail}
 use Rattle.stages.proofs.Laws.Trails.{steps-mark, steps-group, reach-fails, cut-none, after-none, open-cut, along-step, try-cut, try-none}
-use Rattle.stages.proofs.Laws.Branches.{someEnd-sees, sees-made, reach-seen, group-four}
+use Rattle.stages.proofs.Laws.Branches.{someEnd-sees, reach-seen, group-four}
 use Rattle.stages.proofs.stage.fifth_branch.Statement.{statement}
 use Rattle.stages.proofs.stage.fifth_branch.Tie as tie
 

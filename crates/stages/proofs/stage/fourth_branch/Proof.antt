@@ -8,10 +8,11 @@ use Rattle.turkish.specs.Simple.Marks.{nUz, yDU, ysA}
 use Rattle.turkish.specs.Simple.Pieces.{trace}
 use Rattle.turkish.specs.Simple.Stage.{branch4}
 use Rattle.letters.specs.Numbered.{numbered, firstOf}
+use Rattle.letters.proofs.Laws.Sees.{sees-made}
 use Rattle.letters.proofs.Laws.Told.{hears-unasked}
 use Rattle.stages.specs.Trail.{noStop, noTrail}
 use Rattle.stages.proofs.Laws.Trails.{steps-mark, steps-group, reach-fails, cut-none, after-none, open-step, along-step, then-none, then-cut}
-use Rattle.stages.proofs.Laws.Branches.{reach-seen, sees-made, group-two}
+use Rattle.stages.proofs.Laws.Branches.{reach-seen, group-two}
 use Rattle.stages.proofs.stage.fourth_branch.Statement.{statement}
 use Rattle.stages.proofs.stage.fourth_branch.Tie as tie
 

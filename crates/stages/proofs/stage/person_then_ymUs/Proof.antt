@@ -3,10 +3,11 @@
 use Rattle.turkish.specs.Simple.Marks.{ymUs}
 use Rattle.turkish.specs.Simple.Pieces.{traceOf, trace}
 use Rattle.letters.specs.Numbered.{numbered}
+use Rattle.letters.proofs.Laws.Sees.{sees-made}
 use Rattle.letters.proofs.Laws.Told.{hears-unasked}
 use Rattle.stages.specs.Trail.{noStop, noTrail}
 use Rattle.stages.proofs.Laws.Trails.{steps-mark, reach-fails, along-none, open-step, along-step, then-none, then-along}
-use Rattle.stages.proofs.Laws.Branches.{steps-person, sees-made, reach-seen}
+use Rattle.stages.proofs.Laws.Branches.{steps-person, reach-seen}
 use borrow.Author.Needs.{needs}
 use Rattle.stages.proofs.stage.person_then_ymUs.Statement.{statement}
 use Rattle.stages.proofs.stage.person_then_ymUs.Tie as tie

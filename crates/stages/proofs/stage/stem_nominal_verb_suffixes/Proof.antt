@@ -11,10 +11,11 @@ use Rattle.turkish.specs.Simple.Pieces.{trace}
 use Rattle.turkish.specs.Calls.{chars}
 use Rattle.turkish.proofs.Laws.Flag.{branch1-keeps, branch2-keeps, branch3-lowers, branch4-keeps, branch5-keeps, branch6-keeps}
 use Rattle.letters.specs.Seen.{seenAt}
+use Rattle.letters.proofs.Laws.Sees.{sees-made}
 use Rattle.letters.proofs.Laws.Told.{hears-toldAtEnd}
 use Rattle.letters.proofs.Laws.Ends.{branches-unfit}
 use Rattle.stages.specs.Outcome.{whole}
-use Rattle.stages.proofs.Laws.Branches.{open-whole, sees-made, someEnd-whole, branch-unfit, outcome-none, outcome-unfit, outcome-last, outcome-cut}
+use Rattle.stages.proofs.Laws.Branches.{open-whole, someEnd-whole, branch-unfit, outcome-none, outcome-unfit, outcome-last, outcome-cut}
 use Rattle.stages.proofs.stage.stem_nominal_verb_suffixes.Statement.{statement}
 use Rattle.stages.proofs.stage.stem_nominal_verb_suffixes.Tie as tie
 

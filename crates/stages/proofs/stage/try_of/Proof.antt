@@ -1,9 +1,10 @@
 -- `stages::stage::try_of` meets its contract: the group is tried from what is seen before the record. Assumes nothing.
 use denote.Ref.{now}
 use Rattle.letters.specs.Numbered.{firstOf}
+use Rattle.letters.proofs.Laws.Sees.{sees-made}
 use Rattle.letters.proofs.Laws.Told.{hears-unasked}
 use Rattle.stages.proofs.Laws.Trails.{tried-fails, tried-to}
-use Rattle.stages.proofs.Laws.Branches.{sees-made, reach-seen}
+use Rattle.stages.proofs.Laws.Branches.{reach-seen}
 use borrow.Author.Needs.{needs}
 use Rattle.stages.proofs.stage.try_of.Statement.{statement}
 use Rattle.stages.proofs.stage.try_of.Tie as tie

@@ -1,0 +1,35 @@
+-- `nouns::stage::DA_or_yU_or_yA` meets its contract: each of the three where those before it do not fit. In each answer d is the place
+-- behind DA, and u behind yU. Assumes nothing.
+use borrow.Author.Needs.{needs}
+use Rattle.turkish.specs.Simple.Grammar.{markOf}
+use Rattle.turkish.specs.Simple.NounMarks.{yU, yA, DA}
+use Rattle.turkish.specs.Simple.Nouns.{either}
+use Rattle.nouns.specs.Stage.{DAOrYUOrYA}
+use Rattle.nouns.proofs.Laws.Passing.{either-moved, either-else}
+use Rattle.nouns.proofs.stage.DA_or_yU_or_yA.Statement.{statement}
+use Rattle.nouns.proofs.stage.DA_or_yU_or_yA.Tie as tie
+
+returns : tie.Need-returns
+unfolding DAOrYUOrYA
+returns c = either-moved _ _ (markOf DA) (either (markOf yU) (markOf yA)) (c .before .mark-DA .ensures) (c .if1 .taken)
+
+returns-2 : tie.Need-returns-2
+unfolding DAOrYUOrYA
+returns-2 c =
+    let u = c .before in
+    let d = u .before .before in
+    either-else _ _ (markOf DA) (either (markOf yU) (markOf yA)) (d .mark-DA .ensures) (u .before .if1 .left)
+    (either-moved _ _ (markOf yU) (markOf yA) (u .mark-yU .ensures) (c .if2 .taken))
+
+returns-3 : tie.Need-returns-3
+unfolding DAOrYUOrYA
+returns-3 c =
+    let u = c .before .before in
+    let d = u .before .before in
+    either-else _ _ (markOf DA) (either (markOf yU) (markOf yA)) (d .mark-DA .ensures) (u .before .if1 .left)
+    (either-else _ _ (markOf yU) (markOf yA) (u .mark-yU .ensures) (c .before .if2 .left) (c .mark-yA .ensures))
+
+pub DA-or-yU-or-yA-spec : {M : Type 1} → statement M
+DA-or-yU-or-yA-spec =
+    tie.close
+    (tie.spec (λ c κs. search needs) returns (λ c κs. search needs) returns-2 (λ c κs. search needs) returns-3)

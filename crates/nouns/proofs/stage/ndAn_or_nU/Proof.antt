@@ -1,0 +1,19 @@
+-- `nouns::stage::ndAn_or_nU` meets its contract: ndAn, or nU where that does not fit. Assumes nothing.
+use borrow.Author.Needs.{needs}
+use Rattle.turkish.specs.Simple.Grammar.{markOf}
+use Rattle.turkish.specs.Simple.NounMarks.{ndAn, nU}
+use Rattle.nouns.specs.Stage.{ndAnOrNU}
+use Rattle.nouns.proofs.Laws.Passing.{either-moved, either-else}
+use Rattle.nouns.proofs.stage.ndAn_or_nU.Statement.{statement}
+use Rattle.nouns.proofs.stage.ndAn_or_nU.Tie as tie
+
+returns : tie.Need-returns
+unfolding ndAnOrNU
+returns c = either-moved _ _ (markOf ndAn) (markOf nU) (c .before .mark-ndAn .ensures) (c .if1 .taken)
+
+returns-2 : tie.Need-returns-2
+unfolding ndAnOrNU
+returns-2 c = either-else _ _ (markOf ndAn) (markOf nU) (c .before .before .mark-ndAn .ensures) (c .before .if1 .left) (c .mark-nU .ensures)
+
+pub ndAn-or-nU-spec : {M : Type 1} → statement M
+ndAn-or-nU-spec = tie.close (tie.spec (λ c κs. search needs) returns (λ c κs. search needs) returns-2)

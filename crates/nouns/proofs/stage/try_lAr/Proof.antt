@@ -1,0 +1,26 @@
+-- `nouns::stage::try_lAr` meets its contract: the place to which lAr leads, and its own place where that does not fit. In
+-- each answer s is the place behind what is seen from the record. Assumes nothing.
+use borrow.Author.Needs.{needs}
+use Rattle.turkish.specs.Simple.Grammar.{markOf}
+use Rattle.turkish.specs.Simple.Marks.{lAr}
+use Rattle.letters.proofs.Laws.Sees.{sees-made}
+use Rattle.letters.proofs.Laws.Told.{hears-unasked}
+use Rattle.nouns.proofs.Laws.Passing.{passes-seen, place-perhaps, place-none}
+use Rattle.nouns.proofs.stage.try_lAr.Statement.{statement}
+use Rattle.nouns.proofs.stage.try_lAr.Tie as tie
+
+mark-lAr-requires : tie.Need-mark-lAr-requires
+mark-lAr-requires c κs = (sees-made _ _ (c .look-back .ensures) (c .before .before .pre), hears-unasked _ (c .look-back .result .c))
+
+returns : tie.Need-returns
+returns c =
+    let s = c .before .before in
+    place-perhaps _ _ (markOf lAr) (passes-seen _ _ (markOf lAr) (s .look-back .ensures) (c .before .mark-lAr .ensures)) (c .if1 .taken)
+
+returns-2 : tie.Need-returns-2
+returns-2 c =
+    let s = c .before .before in
+    place-none _ _ (markOf lAr) (passes-seen _ _ (markOf lAr) (s .look-back .ensures) (c .before .mark-lAr .ensures)) (c .if1 .left) (s .before .before .pre)
+
+pub try-lAr-spec : {M : Type 1} → statement M
+try-lAr-spec = tie.close (tie.spec (λ c κs. search needs) mark-lAr-requires returns returns-2)
