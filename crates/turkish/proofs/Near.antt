@@ -22,6 +22,7 @@ use Rattle.turkish.specs.Fronts.{endLength, mostRemoved, Alike, reachesR
 use Rattle.turkish.proofs.Laws.Outcome.{Post, unfit, fits}
 use Rattle.turkish.proofs.Laws.Bounds.{longest, most, among-most, run-most, stage-most}
 use Rattle.turkish.proofs.Source.Calls.{simplePass, pass-simple, reachesReserved-simple}
+use Rattle.turkish.proofs.Laws.Harmony.{harmony-any}
 use Rattle.turkish.proofs.Laws.Vowels.{any-vowels, partner-vowel, has-last-beforeLastVowel}
 
 -- ---- alike fronts ----
@@ -47,9 +48,8 @@ lastVowel-near e f g a = alike-append e f g a .last
 
 -- in harmony
 pub harmony-near : (e f g : List ℕ) → Alike f g → harmony (e ++ f) ≡ harmony (e ++ g)
-unfolding harmony
 harmony-near e f g a =
-    rw (lastVowel-near e f g a)
+    rw (harmony-any (e ++ f), harmony-any (e ++ g), lastVowel-near e f g a)
     (any-vowels (partner (lastVowel (e ++ g))) (beforeLastVowel (e ++ f)) (beforeLastVowel (e ++ g)) (partner-vowel (lastVowel (e ++ g))) (alike-append e f g a .others))
 
 -- and in the syllable check

@@ -17,8 +17,8 @@ use Rattle.turkish.specs.Snowball.{ahead, place, limit as textLimit, mov
 use Rattle.turkish.specs.Source.{check-vowel-harmony, mark-suffix-with-optional-y-consonant, mark-yUm, mark-sUn, mark-yUz, mark-sUnUz, mark-lAr, mark-nUz, mark-DUr, mark-cAsInA, mark-yDU, mark-ysA, mark-ymUs-, mark-yken, stem-nominal-verb-suffixes}
 use Rattle.turkish.specs.Answers.{entered, called, succeeded, left, stemmed, suffixStage}
 use Rattle.turkish.specs.Pieces.{kindNames, numberFrom, kindOf, nameFrom, kindName, Joined, alone, withY, afterVowel, blank, orJoined, readThen, readAfter, readOr, jointOf, oneMark, readIn, reading, keptMarks}
-use Rattle.turkish.specs.Calls.{chars, bytes, limit, refusal, refusalShort, stageText}
-use Rattle.turkish.specs.PieceCalls.{Span, offset, spanOf, spansOf, lettersOf, pieceRefusal, joinedOf, kindNumber, kindJoined, told, unused, piecesRoom, buffer, bufferOf, piecesRefusal, piecesCall}
+use Rattle.turkish.specs.Calls.{chars, bytes, limit, refusal, refusalShort, stageText, offset}
+use Rattle.turkish.specs.PieceCalls.{Span, spanOf, spansOf, lettersOf, pieceRefusal, joinedOf, kindNumber, kindJoined, told, unused, piecesRoom, buffer, bufferOf, piecesRefusal, piecesCall}
 use Rattle.turkish.specs.PieceCalls.{textRoom, pieceLine, textOf, piecesTextRefusal, piecesTextCall}
 use Rattle.turkish.proofs.Starred.{word}
 

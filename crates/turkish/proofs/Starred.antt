@@ -9,7 +9,6 @@ use lib.ListN.{length}
 use Rattle.encoding.specs.Encoding.{encode, encodeAll, decode, continuation}
 use Rattle.encoding.specs.Validity.{table37, due, refused, leadIn, lead, next, accepts, isText}
 use Rattle.utf8.specs.Characters.{width, goesOn, lastWidth, charAt, lastChar, beforeWithin, before}
-use Rattle.turkish.specs.declared.answer.StageAnswer.{StageAnswer}
 use Rattle.turkish.specs.declared.answer.PostludeAnswer.{PostludeAnswer}
 use Rattle.turkish.specs.declared.answer.PassAnswer.{PassAnswer}
 use Rattle.turkish.specs.Letters.{text, fromEnd, any, has, starts}
@@ -30,21 +29,21 @@ pub data Row : Type 0 where
   postludeOf : String → String → Bool → Row
   passOf : String → String → Bool → Bool → Bool → Row
 
--- what a call gives: its answer and its text
+-- what a call gives: its answer, the stage's as far as document 01 knows it, and its text
 pub data Given : Type 0 where
-  byStage : StageAnswer → List ℕ → Given
+  byStage : ℕ → ℕ → Bool → Bool → List ℕ → Given
   byPostlude : PostludeAnswer → List ℕ → Given
   byPass : PassAnswer → List ℕ → Given
 
 -- what the call of a row gives
 unfoldable pub found : Row → Given
-found (stageOf w t y f) = byStage (stageCall (word w)) (stagePart (word w))
+found (stageOf w t y f) = let a = stageCall (word w) in byStage (a .refusal) (a .length) (a .yes) (a .flag) (stagePart (word w))
 found (postludeOf w t y) = byPostlude (postludeCall (word w) (length (word w) + 2)) (postludeText (word w))
 found (passOf w t s y f) = byPass (passCall (word w) (length (word w) + 2)) (passText (word w))
 
 -- and what document 01 says of it
 unfoldable pub expected : Row → Given
-expected (stageOf w t y f) = byStage (record { refusal = 0; length = length (word t); yes = y; flag = f }) (word t)
+expected (stageOf w t y f) = byStage 0 (length (word t)) y f (word t)
 expected (postludeOf w t y) = byPostlude (record { refusal = 0; length = length (word t); yes = y }) (word t)
 expected (passOf w t s y f) = byPass (record { refusal = 0; length = length (word t); syllable = s; yes = y; flag = f }) (word t)
 

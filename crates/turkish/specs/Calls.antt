@@ -4,7 +4,7 @@
 use Prim.Native.Nat.{ℕ, _+_}
 use mathlib.Core.Bool.{Bool, false, cond}
 use mathlib.Core.List.{List, [], _++_, reverse}
-use lib.ListN.{length, drop}
+use lib.ListN.{length, take, drop}
 use lib.Dec.{ltb, eqb}
 use Rattle.encoding.specs.Encoding.{encodeAll}
 use Rattle.encoding.specs.Validity.{isText}
@@ -28,6 +28,10 @@ chars w = before w (length w)
 
 unfoldable pub bytes : List ℕ → List ℕ
 bytes cs = encodeAll (reverse cs)
+
+-- the bytes before a place, which is told in characters
+unfoldable pub offset : List ℕ → ℕ → ℕ
+offset w p = length (encodeAll (take p (reverse (chars w))))
 
 -- ---- refusals ----
 

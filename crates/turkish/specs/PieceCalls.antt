@@ -3,10 +3,9 @@
 use Prim.Native.Nat.{ℕ, _+_, _-_, _≤_}
 use mathlib.Core.Path.{_≡_}
 use mathlib.Core.Bool.{cond, _&&_}
-use mathlib.Core.List.{List, [], _∷_, _++_, map, reverse, List·Permᴰ}
+use mathlib.Core.List.{List, [], _∷_, _++_, map, List·Permᴰ}
 use lib.ListN.{length, take, drop}
 use lib.Dec.{eqb, ltb, leb}
-use Rattle.encoding.specs.Encoding.{encodeAll}
 use Rattle.turkish.specs.declared.answer.PiecesAnswer.{PiecesAnswer}
 use Rattle.turkish.specs.declared.answer.PiecesTextAnswer.{PiecesTextAnswer}
 use Rattle.turkish.specs.declared.endings.Joining.{Joining}
@@ -16,7 +15,7 @@ use Rattle.turkish.specs.declared.endings.Kind.the-variants.{YUm, SUn, Y
 use Rattle.turkish.specs.declared.endings.Piece.{Piece}
 use Rattle.turkish.specs.Letters.{tab, lf}
 use Rattle.turkish.specs.Pieces.{Joined, alone, withY, afterVowel, Kept, kindName, keptMarks}
-use Rattle.turkish.specs.Calls.{chars, refusal, refusalShort, written, stageText}
+use Rattle.turkish.specs.Calls.{chars, offset, refusal, refusalShort, written, stageText}
 
 -- ---- the pieces of a word of bytes ----
 
@@ -26,10 +25,6 @@ pub record Span : Type 0 where
   pub joined : Joined
   pub first : ℕ
   pub last : ℕ
-
--- the bytes before a place, which is told in characters
-unfoldable pub offset : List ℕ → ℕ → ℕ
-offset w p = length (encodeAll (take p (reverse (chars w))))
 
 unfoldable pub spanOf : List ℕ → Kept → Span
 spanOf w k = record { kind = k .kind; joined = k .joined; first = offset w (k .to); last = offset w (k .from) - 1 }

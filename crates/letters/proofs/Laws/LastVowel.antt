@@ -10,9 +10,10 @@ use Rattle.utf8.specs.Characters.{lastWidth, before, back}
 use Rattle.utf8.proofs.Laws.Characters.{before-zero, before-back, back-le}
 use Rattle.turkish.specs.Letters.{any, has, text}
 use Rattle.turkish.specs.Vowels.{vowels, vowel, lastVowel, beforeLastVowel}
-use Rattle.turkish.specs.Simple.Harmony.{moreThanOneSyllable}
+use Rattle.turkish.specs.Simple.Harmony.{toFirst, moreThanOneSyllable}
+use Rattle.turkish.proofs.Laws.Harmony.{drop-toVowel}
 use Rattle.letters.specs.declared.walk.LastVowel.{LastVowel}
-use Rattle.letters.specs.LastVowel.{toVowel, lastVowelOf}
+use Rattle.letters.specs.LastVowel.{lastVowelOf}
 use Rattle.letters.proofs.Laws.Walk.{lastVowel-skips, lastVowel-stops}
 
 -- an answer of the walk
@@ -27,10 +28,10 @@ pub lastVowelOf-skips : (w : List ℕ) (at n ch : ℕ) → n ≡ lastWidth w at 
 unfolding lastVowelOf
 lastVowelOf-skips w at n ch e step d = ap₂ found (lastVowel-skips step d) place
   where
-    further : toVowel (before w at) ≡ suc (toVowel (before w (at - n)))
-    further = unfold toVowel in rw (step, d)
+    further : toFirst vowel (before w at) ≡ suc (toFirst vowel (before w (at - n)))
+    further = unfold toFirst in rw (step, d)
 
-    place : back w (at - n) (toVowel (before w (at - n))) ≡ back w at (toVowel (before w at))
+    place : back w (at - n) (toFirst vowel (before w (at - n))) ≡ back w at (toFirst vowel (before w at))
     place = unfold back in rw (further, e)
 
 -- a vowel ends the walk
@@ -39,28 +40,18 @@ pub lastVowelOf-stops : (w : List ℕ) (at n ch : ℕ) → n ≡ lastWidth w at 
 unfolding lastVowelOf
 lastVowelOf-stops w at n ch e step d = ap₂ found (lastVowel-stops step d) place
   where
-    one : toVowel (before w at) ≡ 1
-    one = unfold toVowel in rw (step, d)
+    one : toFirst vowel (before w at) ≡ 1
+    one = unfold toFirst in rw (step, d)
 
-    place : at - n ≡ back w at (toVowel (before w at))
+    place : at - n ≡ back w at (toFirst vowel (before w at))
     place = unfold back in rw (one, e)
 
 -- there is none at the word's start
 pub lastVowelOf-none : (w : List ℕ) (at : ℕ) → at ≡ 0 → found 0 at ≡ lastVowelOf w at
-unfolding lastVowelOf lastVowel toVowel back
+unfolding lastVowelOf lastVowel toFirst back
 lastVowelOf-none w at e = rw (e, before-zero w)
 
 -- ---- what it gives ----
-
--- the characters past the last vowel's are those before it
-drop-toVowel : (cs : List ℕ) → drop (toVowel cs) cs ≡ beforeLastVowel cs
-unfolding toVowel beforeLastVowel
-drop-toVowel [] = refl
-drop-toVowel (c ∷ cs) = go (vowel c) (drop-toVowel cs)
-  where
-    go : (t : Bool) → drop (toVowel cs) cs ≡ beforeLastVowel cs → drop (cond t 0 (toVowel cs)) cs ≡ cond t cs (beforeLastVowel cs)
-    go true h = refl
-    go false h = h
 
 -- an answer l of the walk from place c
 module _ (w : List ℕ) (c : ℕ) (l : LastVowel) (e : l ≡ lastVowelOf w c) where
@@ -72,12 +63,12 @@ module _ (w : List ℕ) (c : ℕ) (l : LastVowel) (e : l ≡ lastVowelOf w c) wh
   -- its place does not lie past c
   pub last-at-le : l .at ≤ c
   unfolding lastVowelOf
-  last-at-le = rw e (back-le w c (toVowel (before w c)))
+  last-at-le = rw e (back-le w c (toFirst vowel (before w c)))
 
   -- before its place stands what is before the last vowel
   pub last-beforeLastVowel : before w (l .at) ≡ beforeLastVowel (before w c)
   unfolding lastVowelOf
-  last-beforeLastVowel = rw e (before-back w c (toVowel (before w c)) ∙ drop-toVowel (before w c))
+  last-beforeLastVowel = rw e (before-back w c (toFirst vowel (before w c)) ∙ drop-toVowel (before w c))
 
 -- a vowel is there where one of the characters is a vowel
 any-lastVowel : (cs : List ℕ) → not (eqb (lastVowel cs) 0) ≡ any vowel cs

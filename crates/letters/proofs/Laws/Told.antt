@@ -30,6 +30,11 @@ pub hears-asked : (w : List ℕ) (c : Cursor) (t : Told) → Hears w c t → t .
 unfolding toldAt
 hears-asked w c t h e = ap₂ told e (h .heard e)
 
+-- its yes or no is harmony's
+pub told-holds : (w : List ℕ) (c : Cursor) {t : Told} → t ≡ toldAt w c → t .holds ≡ harmony (behind w c)
+unfolding toldAt
+told-holds w c e = ap (λ (x : Told). x .holds) e
+
 -- harmony of what is behind the record is what is told there
 pub toldAt-harmony : (w : List ℕ) (c : Cursor) {b : Bool} → b ≡ harmony (behind w c) → told true b ≡ toldAt w c
 unfolding toldAt

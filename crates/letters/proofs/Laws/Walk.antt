@@ -10,6 +10,7 @@ use Rattle.utf8.proofs.Laws.Characters.{before-zero, before-step, lastWidth-pos
 use Rattle.turkish.specs.Letters.{any}
 use Rattle.turkish.specs.Vowels.{vowel, lastVowel, beforeLastVowel}
 use Rattle.turkish.specs.Simple.Harmony.{partner, harmony}
+use Rattle.turkish.proofs.Laws.Harmony.{harmony-any}
 
 -- ---- one turn ----
 
@@ -43,15 +44,15 @@ lastVowel-stops e d = rw (e, d)
 
 -- a character that is no vowel is skipped
 pub harmony-skips : {l cs : List ℕ} {c : ℕ} → l ≡ c ∷ cs → vowel c ≡ false → harmony cs ≡ harmony l
-unfolding harmony lastVowel beforeLastVowel
-harmony-skips e d = rw (e, d)
+unfolding lastVowel beforeLastVowel
+harmony-skips {l} {cs} e d = harmony-any cs ∙ sym (harmony-any l ∙ rw (e, d))
 
 -- at a vowel the rest is searched for its partners
 pub harmony-stops : {l cs : List ℕ} {c : ℕ} → l ≡ c ∷ cs → vowel c ≡ true → any (partner c) cs ≡ harmony l
-unfolding harmony lastVowel beforeLastVowel
-harmony-stops e d = rw (e, d)
+unfolding lastVowel beforeLastVowel
+harmony-stops {l} e d = sym (harmony-any l ∙ rw (e, d))
 
 -- there is none at the word's start
 pub harmony-none : {l : List ℕ} → l ≡ [] → false ≡ harmony l
-unfolding harmony beforeLastVowel any
-harmony-none e = rw e
+unfolding beforeLastVowel any
+harmony-none {l} e = sym (harmony-any l ∙ rw e)

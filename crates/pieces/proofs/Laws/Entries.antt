@@ -14,10 +14,9 @@ use Rattle.utf8.specs.Characters.{back}
 use Rattle.utf8.specs.Behind.{backBy}
 use Rattle.utf8.proofs.Laws.Behind.{backBy-add, backBy-back}
 use Rattle.turkish.specs.declared.endings.Kind.{Kind}
-use Rattle.turkish.specs.Pieces.{Kept}
-use Rattle.turkish.specs.Simple.Pieces.{Taken, total, joinedBy, located}
-use Rattle.turkish.specs.Calls.{chars, accepted}
-use Rattle.turkish.specs.PieceCalls.{Span, offset, spanOf, kindNumber, kindJoined, told}
+use Rattle.turkish.specs.Simple.Pieces.{Taken, total, joinedBy, keptAt, located}
+use Rattle.turkish.specs.Calls.{chars, accepted, offset}
+use Rattle.turkish.specs.PieceCalls.{Span, spanOf, kindNumber, kindJoined, told}
 use Rattle.turkish.proofs.Laws.PieceCounts.{Numbered, Each}
 use Rattle.turkish.proofs.Laws.Joints.{joins, JoinedAs, joinedAs-head, joinedAs-tail}
 use Rattle.turkish.proofs.Laws.Offsets.{offset-back, joinedBy-byte}
@@ -38,7 +37,7 @@ module _ (w : List ℕ) (a : accepted w ≡ true) where
   -- a mark that took some characters behind the nearest n is told as the piece that it is
   told-piece : (n : ℕ) (t : Taken) → Numbered t → t .joined ≡ joinedBy (joins (t .kind)) (t .size) (drop n (chars w)) → n + t .size ≤ length (chars w)
       → told (pieceOf w (record { kind = t .kind; at = back w (length w) (n + t .size) }) (back w (length w) n))
-      ≡ spanOf w (record { kind = t .kind; joined = t .joined; from = length (chars w) - n; to = length (chars w) - n - t .size })
+      ≡ spanOf w (keptAt (length (chars w) - n) t)
   unfolding told pieceOf spanOf joins
   told-piece n t s j h =
       let k = t .kind in
@@ -63,8 +62,7 @@ module _ (w : List ℕ) (a : accepted w ≡ true) where
       let c = backBy w (whole w) n in
       let next = backBy-add w (whole w) n (t .size) in
       let there : backBy w c (t .size) .cursor ≡ back w (length w) (n + t .size) = ap (λ (d : Cursor). d .cursor) next ∙ back-whole (n + t .size) in
-      let here : Kept = record { kind = t .kind; joined = t .joined; from = length (chars w) - n; to = length (chars w) - n - t .size } in
-      let first : told (pieceOf w (stopOf w c t) (c .cursor)) ≡ spanOf w here =
+      let first : told (pieceOf w (stopOf w c t) (c .cursor)) ≡ spanOf w (keptAt (length (chars w) - n) t) =
       rw (there, back-whole n) (told-piece n t (s t (List·Memᴰ·head refl)) (joinedAs-head j) (omega arith)) in
       let left : length (chars w) - n - t .size ≡ length (chars w) - (n + t .size) = omega arith in
       let rest : JoinedAs (drop (n + t .size) (chars w)) ts = rw (drop-drop (t .size) n (chars w)) at (joinedAs-tail j) in

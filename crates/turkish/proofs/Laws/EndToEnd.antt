@@ -6,9 +6,9 @@ use mathlib.Core.List.{List, [], _∷_, _++_, map, append-nil, append-assoc, Lis
 use native.Mathlib.Omega.{arith}
 use lib.ListN.{length, take, drop}
 use lib.Seq.{take-add}
-use Rattle.turkish.specs.Simple.Pieces.{Taken, total, located}
-use Rattle.turkish.specs.Calls.{chars}
-use Rattle.turkish.specs.PieceCalls.{Span, offset, spanOf, lettersOf, EndToEnd, empty, onward, spelled}
+use Rattle.turkish.specs.Simple.Pieces.{Taken, total, keptAt, located}
+use Rattle.turkish.specs.Calls.{chars, offset}
+use Rattle.turkish.specs.PieceCalls.{Span, spanOf, lettersOf, EndToEnd, empty, onward, spelled}
 use Rattle.turkish.proofs.Laws.PieceCounts.{Numbered, Each}
 use Rattle.turkish.proofs.Laws.Offsets.{offset-mono}
 
@@ -25,7 +25,7 @@ located-endToEnd w n (t ∷ ts) s h k =
     let left : n - (t .size + total ts) ≡ n - t .size - total ts = omega arith in
     let last : offset w n - 1 + 1 ≡ offset w n = omega arith in
     rw left
-    (onward (spanOf w (record { kind = t .kind; joined = t .joined; from = n; to = n - t .size })) (omega arith) last
+    (onward (spanOf w (keptAt n t)) (omega arith) last
     (located-endToEnd w (n - t .size) ts (λ u i. s u (List·Memᴰ·tail i)) (omega arith) (omega arith)))
 
 -- ---- any pieces ----

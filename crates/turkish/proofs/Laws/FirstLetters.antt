@@ -11,8 +11,8 @@ use lib.Seq.{drop-drop}
 use lib.Dec.{eqb}
 use Rattle.turkish.specs.Pieces.{Joined, alone, withY, afterVowel}
 use Rattle.turkish.specs.Simple.Pieces.{Taken, total, located}
-use Rattle.turkish.specs.Calls.{chars, accepted}
-use Rattle.turkish.specs.PieceCalls.{Span, offset, spanOf}
+use Rattle.turkish.specs.Calls.{chars, accepted, offset}
+use Rattle.turkish.specs.PieceCalls.{Span, spanOf}
 use Rattle.turkish.proofs.Laws.PieceCounts.{Numbered, Each}
 use Rattle.turkish.proofs.Laws.Joints.{joins, JoinedAs, joinedAs-head, joinedAs-tail}
 use Rattle.turkish.proofs.Laws.Offsets.{offset-back, joinedBy-byte}

@@ -4,12 +4,8 @@ use Prim.Native.Nat.{ℕ}
 use mathlib.Core.Bool.{Bool, true, _&&_}
 use mathlib.Core.List.{List, [], _∷_, _++_}
 use Rattle.turkish.specs.Simple.Grammar.{Out, Mark, Command, mark, _then_, _or_, nothing, unset}
-use Rattle.turkish.specs.Simple.Pieces.{Taken, Trace, none, keeps, total, moreTrace, afterTrace, firstTrace, joinedBy, traceOut, takenOf}
+use Rattle.turkish.specs.Simple.Pieces.{Taken, Trace, none, keeps, total, moreTrace, afterTrace, firstTrace, takenBy, traceOut, takenOf}
 use Rattle.turkish.proofs.Laws.Outcome.{Post, unfit, fits}
-
--- a mark that took k of these characters
-abbrev pub takenBy : Mark → List ℕ → ℕ → Taken
-takenBy m cs k = record { kind = m .kind; size = k; joined = joinedBy (m .joint .asked) k cs }
 
 -- an answer that fails, or of whose marks P holds
 pub data Keeping (P : List Taken → Type 0) : Trace → Type 0 where

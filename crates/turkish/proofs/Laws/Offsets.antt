@@ -19,8 +19,7 @@ use Rattle.utf8.proofs.TextCharacters.{encodeAll-append, take-back}
 use Rattle.turkish.specs.Pieces.{withY, afterVowel, alone}
 use Rattle.turkish.specs.Simple.Stage.{stage, kept}
 use Rattle.turkish.specs.Simple.Pieces.{joinedBy}
-use Rattle.turkish.specs.Calls.{chars, bytes, accepted, stageText}
-use Rattle.turkish.specs.PieceCalls.{offset}
+use Rattle.turkish.specs.Calls.{chars, bytes, accepted, stageText, offset}
 use Rattle.turkish.proofs.Laws.Accepted.{accepted-text, bytes-chars}
 use Rattle.turkish.proofs.Source.Calls.{suffixStage-text}
 

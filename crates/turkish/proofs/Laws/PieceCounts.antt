@@ -15,11 +15,11 @@ use Rattle.turkish.specs.Pieces.{Kept}
 use Rattle.turkish.specs.Simple.Grammar.{Mark, Command, mark, _then_, _or_, nothing, unset, try, run}
 use Rattle.turkish.specs.Simple.Marks.{marked, yUm, sUn, yUz, sUnUz, lAr, nUz, DUr, cAsInA, yDU, ysA, ymUs, yken}
 use Rattle.turkish.specs.Simple.Stage.{person, branch1, branch2, branch3, branch4, branch5, branch6, branches}
-use Rattle.turkish.specs.Simple.Pieces.{Taken, total, traceOf, trace, stageMarks, located}
+use Rattle.turkish.specs.Simple.Pieces.{Taken, total, takenBy, traceOf, trace, stageMarks, located}
 use Rattle.turkish.specs.PieceCalls.{mostPieces}
 use Rattle.turkish.proofs.Laws.Outcome.{post-map}
 use Rattle.turkish.proofs.Laws.Bounds.{shortest, least, run-least}
-use Rattle.turkish.proofs.Laws.Keeping.{Keeping, keeping, takenBy, keeping-map, keeping-first, keeping-mark, keeping-taken, keeping-then, everyMark}
+use Rattle.turkish.proofs.Laws.Keeping.{Keeping, keeping, keeping-map, keeping-first, keeping-mark, keeping-taken, keeping-then, everyMark}
 
 -- ---- how many ----
 

@@ -16,6 +16,7 @@ use Rattle.turkish.specs.Simple.Grammar.{Out, fail, more, after, first, 
 use Rattle.turkish.specs.Simple.Marks.{unjoined, byY, marked, yUm, sUn, yUz, sUnUz, lAr, nUz, DUr, cAsInA, yDU, ysA, ymUs, yken}
 use Rattle.turkish.specs.Simple.Stage.{person, branch1, branch2, branch3, branch4, branch5, branch6, branches, staged, stage}
 use Rattle.turkish.proofs.Laws.Tests.{every}
+use Rattle.turkish.proofs.Laws.Harmony.{harmony-any}
 use Rattle.turkish.proofs.Laws.Vowels.{partner-vowel}
 
 -- ---- harmony ----
@@ -30,8 +31,8 @@ any-stricter f g h (c ∷ cs) e =
 
 -- so where there are not two vowels, there is no harmony
 harmony-no : (cs : List ℕ) → moreThanOneSyllable cs ≡ false → harmony cs ≡ false
-unfolding harmony moreThanOneSyllable
-harmony-no cs = any-stricter (partner (lastVowel cs)) vowel (partner-vowel (lastVowel cs)) (beforeLastVowel cs)
+unfolding moreThanOneSyllable
+harmony-no cs e = harmony-any cs ∙ any-stricter (partner (lastVowel cs)) vowel (partner-vowel (lastVowel cs)) (beforeLastVowel cs) e
 
 -- ---- keys ----
 

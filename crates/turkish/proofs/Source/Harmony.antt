@@ -16,6 +16,7 @@ use Rattle.turkish.specs.Simple.Grammar.{Out, fail, took, more, after, f
 use Rattle.turkish.specs.Snowball.{isIn, isLeft, backward, letters, Command, _then_, _or_, test, not, goto, next, literal, grouping}
 use Rattle.turkish.specs.Source.{vowel1, vowel2, vowel3, vowel4, vowel5, vowel6, check-vowel-harmony, mark-suffix-with-optional-y-consonant}
 use Rattle.turkish.specs.Source as Source
+use Rattle.turkish.proofs.Laws.Harmony.{harmony-any}
 use Rattle.turkish.proofs.Laws.Outcome.{first-fail}
 use Rattle.turkish.proofs.Laws.Tests.{eqb-comm}
 use Rattle.turkish.proofs.Source.Means.{Means, means-define, means-as, means-then, means-or, means-test, means-not, means-next, means-literal, means-grouping, means-goto}
@@ -85,10 +86,11 @@ partners-vowel cs c h =
 
 -- and behind a walk to the last vowel, that there is harmony
 partners-last : (cs : List ℕ) → cond (any vowel cs) (peeked (partners (lastVowel cs ∷ beforeLastVowel cs))) fail ≡ takeIf (harmony cs) 0
-unfolding harmony takeIf any
-partners-last cs = go (any vowel cs) refl
+unfolding takeIf any
+partners-last cs = rw (harmony-any cs) (go (any vowel cs) refl)
   where
-    go : (t : Bool) → any vowel cs ≡ t → cond t (peeked (partners (lastVowel cs ∷ beforeLastVowel cs))) fail ≡ takeIf (harmony cs) 0
+    go : (t : Bool) → any vowel cs ≡ t
+        → cond t (peeked (partners (lastVowel cs ∷ beforeLastVowel cs))) fail ≡ takeIf (any (partner (lastVowel cs)) (beforeLastVowel cs)) 0
     go true e = partners-vowel (beforeLastVowel cs) (lastVowel cs) (lastVowel-vowel cs e)
     go false e = rw (beforeLastVowel-none cs e)
 

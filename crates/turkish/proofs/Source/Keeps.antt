@@ -10,7 +10,7 @@ use Rattle.turkish.specs.Snowball.{State, ahead, place, moveTo, Result, 
 use Rattle.turkish.specs.Answers.{succeeded}
 use Rattle.turkish.specs.Pieces.{Kept, Reading, blank, readThen, readAfter, readOr}
 use Rattle.turkish.specs.Pieces as Pieces
-use Rattle.turkish.specs.Simple.Pieces.{Taken, Trace, none, keeps, total, moreTrace, afterTrace, firstTrace, summed, located}
+use Rattle.turkish.specs.Simple.Pieces.{Taken, Trace, none, keeps, total, moreTrace, afterTrace, firstTrace, summed, keptAt, located}
 use Rattle.turkish.proofs.Laws.Traces.{summed-after, summed-first}
 use Rattle.turkish.proofs.Source.Means.{Means, settled, placed, settled-again, done-failed, done-state, failed-state, ahead-on, means-as, means-then, means-or, means-succeed}
 
@@ -22,8 +22,7 @@ unfolding located total
 located-append n [] us = let e : n ≡ n - 0 = omega arith in ap (λ (m : ℕ). located m us) e
 located-append n (t ∷ ts) us =
     let e : n - t .size - total ts ≡ n - (t .size + total ts) = omega arith in
-    let here : Kept = record { kind = t .kind; joined = t .joined; from = n; to = n - t .size } in
-    ap (λ (ks : List Kept). here ∷ ks) (located-append (n - t .size) ts us ∙ ap (λ (m : ℕ). located (n - t .size) ts ++ located m us) e)
+    ap (λ (ks : List Kept). keptAt n t ∷ ks) (located-append (n - t .size) ts us ∙ ap (λ (m : ℕ). located (n - t .size) ts ++ located m us) e)
 
 -- some characters on, so many fewer stand before the cursor
 pub place-on : (s : State) (k : ℕ) → place (moveTo s (s .cursor + k)) ≡ place s - k

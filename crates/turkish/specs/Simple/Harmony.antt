@@ -1,5 +1,5 @@
 -- Vowel harmony and the syllable check in the simple form (document 01, "Harmony" and "Syllable check"). Assumes nothing.
-use Prim.Native.Nat.{ℕ}
+use Prim.Native.Nat.{ℕ, suc}
 use Prim.Native.Char.{code}
 use mathlib.Core.Bool.{Bool, cond}
 use mathlib.Core.List.{List, [], _∷_}
@@ -35,6 +35,11 @@ partner v c = has (partnersIn partnerTable v) c
 -- somewhere before the last vowel stands one of its partners, other vowels being skipped
 unfoldable pub harmony : List ℕ → Bool
 harmony cs = any (partner (lastVowel cs)) (beforeLastVowel cs)
+
+-- how many characters there are up to the first that passes a test, and with it; all of them where none does
+unfoldable pub toFirst : (ℕ → Bool) → List ℕ → ℕ
+toFirst f [] = 0
+toFirst f (c ∷ cs) = suc (cond (f c) 0 (toFirst f cs))
 
 -- two or more vowels
 unfoldable pub moreThanOneSyllable : List ℕ → Bool

@@ -45,9 +45,13 @@ firstTrace (keeps ts f) q = keeps ts f
 unfoldable pub joinedBy : Bool → ℕ → List ℕ → Joined
 joinedBy joins k cs = cond joins (cond (eqb (getD cs (k - 1) 0) 0x79) withY afterVowel) alone
 
+-- a mark that took k of these characters
+abbrev pub takenBy : Mark → List ℕ → ℕ → Taken
+takenBy m cs k = record { kind = m .kind; size = k; joined = joinedBy (m .joint .asked) k cs }
+
 unfoldable pub traceOut : Mark → List ℕ → Out → Trace
 traceOut m cs fail = none
-traceOut m cs (took k f) = keeps (record { kind = m .kind; size = k; joined = joinedBy (m .joint .asked) k cs } ∷ []) f
+traceOut m cs (took k f) = keeps (takenBy m cs k ∷ []) f
 
 unfoldable pub traceOf : Mark → List ℕ → Trace
 traceOf m cs = traceOut m cs (markOf m cs)
@@ -76,7 +80,11 @@ takenOf (keeps ts f) = ts
 unfoldable pub stageMarks : List ℕ → List Taken
 stageMarks cs = takenOf (trace branches cs)
 
--- with the places between which each stands, from place n inward
+-- a mark entered at place n, with the places between which it stands
+abbrev pub keptAt : ℕ → Taken → Kept
+keptAt n t = record { kind = t .kind; joined = t .joined; from = n; to = n - t .size }
+
+-- the marks one behind the other, from place n inward
 unfoldable pub located : ℕ → List Taken → List Kept
 located n [] = []
-located n (t ∷ ts) = record { kind = t .kind; joined = t .joined; from = n; to = n - t .size } ∷ located (n - t .size) ts
+located n (t ∷ ts) = keptAt n t ∷ located (n - t .size) ts

@@ -39,17 +39,13 @@ put-bytes-requires-2 c κs =
     let sizes = fields-sizes _ _ (stem .before .before .before .before .pre .0) (stem .stem-nominal-verb-suffixes .ensures) in
     (omega arith, omega arith)
 
-put-byte-requires : tie.Need-put-byte-requires
-unfolding lineRoom
-put-byte-requires c κs =
-    let stem = c .before .before .before .before .before .before .before .before .before .before .before .before .before in
-    let sizes = fields-sizes _ _ (stem .before .before .before .before .pre .0) (stem .stem-nominal-verb-suffixes .ensures) in
-    omega arith
+-- the place behind the stage, from before what is written after the text kept and what follows it, and the function's entry: a `let` would
+-- have `omega` read all that is known there
+abbrev stem-kept : tie.After-put-byte-arg → tie.After-stem-nominal-verb-suffixes
+stem-kept c = c .before .before .before .before .before .before .before .before .before .before .before .before .before
 
--- the place behind the stage, from before what is written after the text kept, and the function's entry: a `let` would have `omega` read all
--- that is known there
 abbrev stem : tie.After-put-pass-arg → tie.After-stem-nominal-verb-suffixes
-stem c = c .before .before .before .before .before .before .before .before .before .before .before .before .before .before .before .before .before
+stem c = stem-kept (c .before .before .before .before)
 
 abbrev stem-tab : tie.After-put-byte-arg2 → tie.After-stem-nominal-verb-suffixes
 stem-tab c = stem (c .before .before .before .before)
@@ -62,6 +58,12 @@ stem-lf c = stem-whole (c .before .before .before .before)
 
 abbrev start : tie.After-stem-nominal-verb-suffixes → tie.Start
 start c = c .before .before .before .before
+
+put-byte-requires : tie.Need-put-byte-requires
+unfolding lineRoom
+put-byte-requires c κs =
+    let sizes = fields-sizes _ _ (start (stem-kept c) .pre .0) (stem-kept c .stem-nominal-verb-suffixes .ensures) in
+    omega (arith, start (stem-kept c) .pre .1)
 
 put-pass-requires : tie.Need-put-pass-requires
 unfolding chars lineRoom

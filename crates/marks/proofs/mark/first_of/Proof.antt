@@ -2,17 +2,16 @@
 -- what is known of harmony is true. The measure is what is left of the group. In each answer l is the loop, t the place behind its test,
 -- m behind the mark, i behind the test of its answer, and h behind harmony. Assumes nothing.
 use Prim.Native.Nat.{_-_, _≤_}
-use mathlib.Core.Path.{_≡_, refl, sym, ap, subst, _∙_}
+use mathlib.Core.Path.{_≡_, refl, sym, subst, _∙_}
 use native.Mathlib.Omega.{arith}
 use lib.ListN.{length, drop}
 use borrow.Author.Needs.{needs}
 use borrow.Author.Tests.{not-true, not-false}
 use Rattle.utf8.specs.Behind.{behind}
-use Rattle.letters.specs.declared.harmony.Told.{Told}
-use Rattle.letters.specs.Told.{Hears, toldAt}
+use Rattle.letters.specs.Told.{Hears}
 use Rattle.letters.specs.Numbered.{firstOf}
 use Rattle.marks.specs.Reach.{reach}
-use Rattle.letters.proofs.Laws.Told.{hears-told}
+use Rattle.letters.proofs.Laws.Told.{hears-told, told-holds}
 use Rattle.letters.proofs.Laws.Ends.{traceOf-unfit}
 use Rattle.marks.proofs.Laws.Marks.{traceOf-not, traceOf-took, traceOf-discord, firstOf-next, firstOf-took, firstOf-end, mayEnd-sees, agrees-free, agrees-bound}
 use Rattle.marks.proofs.mark.first_of.Statement.{statement}
@@ -62,7 +61,6 @@ hear-requires c κs =
     (t .before .before .before .before .pre .0 .opens, t .before .loop .inv .1)
 
 returns-2 : tie.Need-returns-2 Inv-loop μ-loop
-unfolding toldAt
 returns-2 c =
     let h = c .before .before in
     let i = h .before .before .before in
@@ -70,18 +68,17 @@ returns-2 c =
     let t = m .before .before .before .before in
     let l = t .before .loop in
     let bound = sym (h .before .before .is-harmonic .ensures) ∙ not-false _ (h .before .if3 .left) in
-    let holds = sym (ap (λ (x : Told). x .holds) (h .hear .ensures)) ∙ c .before .if4 .taken in
+    let holds = sym (told-holds _ _ (h .hear .ensures)) ∙ c .before .if4 .taken in
     firstOf-took _ _ _ (l .i) (t .loop-test .taken) (traceOf-took _ _ _ (m .mark .ensures) (not-false _ (i .if2 .left)) (agrees-bound _ bound ∙ holds) (c .moved-to2 .ensures)) ∙ l .inv .2
 
 loop-again-3 : tie.Need-loop-again-3 Inv-loop μ-loop
-unfolding toldAt
 loop-again-3 c =
     let h = c .before in
     let m = h .before .before .before .before .before in
     let t = m .before .before .before .before in
     let l = t .before .loop in
     let bound = sym (h .before .before .is-harmonic .ensures) ∙ not-false _ (h .before .if3 .left) in
-    let discord = sym (ap (λ (x : Told). x .holds) (h .hear .ensures)) ∙ c .if4 .left in
+    let discord = sym (told-holds _ _ (h .hear .ensures)) ∙ c .if4 .left in
     let fails = traceOf-discord _ _ _ (m .mark .ensures) (agrees-bound _ bound ∙ discord) in
     (omega arith, subst (Hears _ _) (sym (h .hear .ensures)) (hears-told _ _), firstOf-next _ _ _ (l .i) (t .loop-test .taken) fails ∙ l .inv .2)
 

@@ -2,9 +2,8 @@
 -- take. In each answer m is the place behind the mark, i behind the test of its answer, and h behind harmony. Assumes nothing.
 use mathlib.Core.Path.{sym, ap, _∙_}
 use borrow.Author.Tests.{not-true, not-false}
-use Rattle.letters.specs.declared.harmony.Told.{Told}
-use Rattle.letters.specs.Told.{toldAt}
 use Rattle.marks.specs.Reach.{reach}
+use Rattle.letters.proofs.Laws.Told.{told-holds}
 use Rattle.letters.proofs.Laws.Ends.{traceOf-unfit}
 use Rattle.marks.proofs.Laws.Marks.{traceOf-not, traceOf-took, traceOf-discord, mayEnd-sees, agrees-free, agrees-bound}
 use borrow.Author.Needs.{needs}
@@ -32,22 +31,21 @@ returns-3 c =
     traceOf-took _ _ _ (m .mark .ensures) (not-false _ (i .if2 .left)) (agrees-free _ free) (c .moved-to .ensures)
 
 returns-4 : tie.Need-returns-4
-unfolding reach toldAt
+unfolding reach
 returns-4 c =
     let h = c .before .before in
     let m = h .before .before .before .before .before in
     let bound = sym (h .before .before .is-harmonic .ensures) ∙ not-false _ (h .before .if3 .left) in
-    let discord = sym (ap (λ (x : Told). x .holds) (h .hear .ensures)) ∙ not-true _ (c .if4 .taken) in
+    let discord = sym (told-holds _ _ (h .hear .ensures)) ∙ not-true _ (c .if4 .taken) in
     sym (ap (reach _ _) (traceOf-discord _ _ _ (m .mark .ensures) (agrees-bound _ bound ∙ discord)))
 
 returns-5 : tie.Need-returns-5
-unfolding toldAt
 returns-5 c =
     let h = c .before .before .before in
     let i = h .before .before .before in
     let m = i .before .before in
     let bound = sym (h .before .before .is-harmonic .ensures) ∙ not-false _ (h .before .if3 .left) in
-    let holds = sym (ap (λ (x : Told). x .holds) (h .hear .ensures)) ∙ not-false _ (c .before .if4 .left) in
+    let holds = sym (told-holds _ _ (h .hear .ensures)) ∙ not-false _ (c .before .if4 .left) in
     traceOf-took _ _ _ (m .mark .ensures) (not-false _ (i .if2 .left)) (agrees-bound _ bound ∙ holds) (c .moved-to2 .ensures)
 
 pub one-of-spec : {M : Type 1} → statement M

@@ -1,14 +1,13 @@
 -- `nouns::tabled::mark_of` meets its contract: a key found and what joins it, then harmony. In each answer j is the place behind the joint, h behind
 -- harmony. Assumes nothing.
-use mathlib.Core.Path.{refl, sym, ap, _∙_}
+use mathlib.Core.Path.{refl, sym, _∙_}
 use borrow.Author.Needs.{needs}
 use borrow.Author.Tests.{not-true, not-false}
 use denote.Ref.{now}
-use Rattle.letters.specs.declared.harmony.Told.{Told}
 use Rattle.letters.specs.Joints.{jointOf}
 use Rattle.letters.specs.Keys.{rows}
 use Rattle.letters.specs.Passed.{notPassed}
-use Rattle.letters.specs.Told.{toldAt}
+use Rattle.letters.proofs.Laws.Told.{told-holds}
 use Rattle.marks.proofs.Laws.Marks.{keyed-nothing, keyed-open, keyed-joined, agrees-free, agrees-bound}
 use Rattle.nouns.proofs.Laws.Marks.{markBy-not, markBy-took, markBy-discord}
 use Rattle.nouns.proofs.tabled.mark_of.Statement.{statement}
@@ -49,7 +48,7 @@ returns-3 c =
     markBy-took _ _ _ _ _ by (agrees-free _ (not-true (s .args .harmonic) (c .if2 .taken)))
 
 returns-4 : tie.Need-returns-4
-unfolding notPassed toldAt
+unfolding notPassed
 returns-4 c =
     let h = c .before .before in
     let j = h .before .before .before .before in
@@ -57,11 +56,10 @@ returns-4 c =
     let s = f .before .before .before in
     let by = keyed-joined _ (jointOf (s .args .joint)) _ _ (f .find-among-b .ensures) (j .before .before .d .given .1) (j .join .ensures) in
     let bound = not-false (s .args .harmonic) (h .before .if2 .left) in
-    let discord = sym (ap (λ (x : Told). x .holds) (h .hear .ensures)) ∙ not-true _ (c .if3 .taken) in
+    let discord = sym (told-holds _ _ (h .hear .ensures)) ∙ not-true _ (c .if3 .taken) in
     markBy-discord _ _ _ _ _ by (agrees-bound _ bound ∙ discord)
 
 returns-5 : tie.Need-returns-5
-unfolding toldAt
 returns-5 c =
     let h = c .before .before in
     let j = h .before .before .before .before in
@@ -69,7 +67,7 @@ returns-5 c =
     let s = f .before .before .before in
     let by = keyed-joined _ (jointOf (s .args .joint)) _ _ (f .find-among-b .ensures) (j .before .before .d .given .1) (j .join .ensures) in
     let bound = not-false (s .args .harmonic) (h .before .if2 .left) in
-    let holds = sym (ap (λ (x : Told). x .holds) (h .hear .ensures)) ∙ not-false _ (c .if3 .left) in
+    let holds = sym (told-holds _ _ (h .hear .ensures)) ∙ not-false _ (c .if3 .left) in
     markBy-took _ _ _ _ _ by (agrees-bound _ bound ∙ holds)
 
 pub mark-of-spec : {M : Type 1} → statement M
