@@ -1,6 +1,7 @@
-/* Prints the stems of a few Turkish words, three of them in steps, the stems of headings, what is left
-   of nouns, the stems of three words by the whole run, the pieces of removed endings, and four refusals. Given
-   words as arguments, it prints the pieces of these, a line for each word, and nothing else.
+/* Prints the stems of a few Turkish words, three of them in steps, the harmony of three, the stems of
+   headings, what is left of nouns, the stems of three words by the whole run, the pieces of removed
+   endings, and four refusals. Given words as arguments, it prints the pieces of these, a line for each
+   word, and nothing else.
    Build: cc -std=c11 -I include examples/stem.c target/staticlib/libfannavy.a -o stem */
 #include "fannavy.h"
 
@@ -86,6 +87,22 @@ static void print_steps(const char *word) {
     printf("mended '%.*s'\n", (int)postlude.length, (const char *)out);
 }
 
+/* The two vowels that an ending's harmony rests on, and whether they tell of a loanword. */
+static void print_harmony(const char *word) {
+    FannavyStage stage = fannavy_stage(bytes(word), strlen(word));
+
+    if (refused(stage.refusal)) {
+        return;
+    }
+    printf("'%s': ", word);
+    if (stage.harmonic) {
+        printf("harmony of the vowels at %zu and %zu, ", stage.last, stage.partner);
+    } else {
+        printf("no harmony tested, ");
+    }
+    printf("loan candidate %s\n", yes_or_no(stage.loan));
+}
+
 /* A heading is in capitals and is folded first. The folded text may be longer than the heading. */
 static void print_heading(const char *heading) {
     char small[FANNAVY_FOLD_ROOM(FANNAVY_LIMIT) + 1];
@@ -150,7 +167,8 @@ static const uint8_t *piece_at(size_t distance, const uint8_t *pieces, size_t co
 }
 
 /* What was removed, piece by piece as the word has them. The order in which the call writes the
-   pieces is free, so each is looked for by its distance: they lie end to end. */
+   pieces is free, so each is looked for by its distance: they lie end to end. Behind them, whether
+   the word is a loan candidate. */
 static void print_pieces(const char *word) {
     uint8_t out[FANNAVY_PIECES_ROOM];
     FannavyPieces pieces = fannavy_pieces(bytes(word), strlen(word), out, sizeof out);
@@ -166,6 +184,9 @@ static void print_pieces(const char *word) {
         printf(" + '%.*s' (%s%s)", piece[2] + 1 - piece[1], letters, kinds[piece[0]],
                joined(piece[0], letters));
         piece = piece_at((size_t)piece[2] + 1, out, pieces.count);
+    }
+    if (fannavy_stage(bytes(word), strlen(word)).loan) {
+        printf(", a loan candidate");
     }
     printf("\n");
 }
@@ -193,6 +214,9 @@ static void print_samples(void) {
     print_steps("kanaddır");
     print_steps("kitablar");
     print_steps("lar");
+    print_harmony("kalemlar");
+    print_harmony("evler");
+    print_harmony("arabayken");
     print_heading("GÖZLÜKÇÜLER");
     print_heading("IŞIKLAR");
     print_heading("İZLERDİR");
@@ -206,6 +230,7 @@ static void print_samples(void) {
     print_pieces("evmişlerdir");
     print_pieces("aymışsınızcasına");
     print_pieces("saatler");
+    print_pieces("petroller");
     print_lines("arabayken", FANNAVY_PIECES_TEXT_ROOM);
     print_stem("evler", FANNAVY_PASS_ROOM(strlen("evler")) - 1);
     print_noun("evlerle", FANNAVY_NOUN_ROOM(strlen("evlerle")) - 1);

@@ -77,16 +77,30 @@ typedef struct {
     size_t length;
     bool yes;
     bool flag;
+    bool harmonic;
+    size_t last;
+    size_t partner;
+    bool loan;
 } FannavyStage;
 
 /*
  * Removes the endings of a nominal verb from the word's end. What is kept is w[0] .. w[length - 1],
  * whole characters, possibly none; there is no output.
  *
- *   yes   an ending was removed; where none was, length is n
- *   flag  stemming may go on (fannavy_noun, fannavy_postlude). False only where the plural (-lar, -ler)
- *         was removed from the word's very end, after which no more is to be removed or mended.
- *         True where no ending was found; in a refused call false, so look at `refusal` first
+ *   yes       an ending was removed; where none was, length is n
+ *   flag      stemming may go on (fannavy_noun, fannavy_postlude). False only where the plural (-lar,
+ *             -ler) was removed from the word's very end, after which no more is to be removed or
+ *             mended. True where no ending was found; in a refused call false, so look at `refusal`
+ *             first
+ *   harmonic  a piece of the ending (fannavy_pieces) tests vowel harmony: every piece does but those of
+ *             FANNAVY_SUNUZ, FANNAVY_CASINA, FANNAVY_YSA and FANNAVY_YKEN. The next three are of the
+ *             first that does, from the word's end inward; 0 and false where none does. 0 is an offset
+ *             too, so look at `harmonic` first
+ *   last      w[last] is the first byte of the last vowel up to that piece's end; it lies in the piece
+ *   partner   w[partner] is the first byte of the nearest vowel before it that is in harmony with it:
+ *             for a this is a ı o u; for e, e i ö ü; for ı, a ı; for i, e i; for u, o u; for ü, ö ü
+ *   loan      the word is a loan candidate: some vowel stands between these two (kalemlar: the e
+ *             between the a of -lar, at 6, and its partner, at 1)
  *
  * Refuses by the numbers 1 and 2.
  */

@@ -48,10 +48,12 @@ fn texts(table: &[Among<Context>]) -> Vec<&'static str> {
     table.iter().map(|among| among.0).collect()
 }
 
-/// A mark of the suffix stage: its routine, and the parts of which that is made besides harmony.
+/// A mark of the suffix stage: its routine, and the parts of which that is made.
 pub struct Mark {
     routine: fn(&mut SnowballEnv, &mut Context) -> bool,
     routine_name: &'static str,
+    /// Whether harmony is tested before the key.
+    pub harmony: bool,
     key: Key,
     /// Whether the optional y follows the key.
     pub joins: bool,
@@ -63,10 +65,11 @@ enum Key {
 }
 
 macro_rules! mark {
-    ($routine:ident, $key:expr, joins: $joins:expr) => {
+    ($routine:ident, harmony: $harmony:expr, $key:expr, joins: $joins:expr) => {
         Mark {
             routine: $routine,
             routine_name: stringify!($routine),
+            harmony: $harmony,
             key: $key,
             joins: $joins,
         }
@@ -75,18 +78,18 @@ macro_rules! mark {
 
 /// The marks in the order of document 01's mark tables, yken last.
 pub static MARKS: [Mark; 12] = [
-    mark!(r_mark_yUm, Key::Among(A_12), joins: true),
-    mark!(r_mark_sUn, Key::Among(A_13), joins: false),
-    mark!(r_mark_yUz, Key::Among(A_14), joins: true),
-    mark!(r_mark_sUnUz, Key::Among(A_15), joins: false),
-    mark!(r_mark_lAr, Key::Among(A_16), joins: false),
-    mark!(r_mark_nUz, Key::Among(A_17), joins: false),
-    mark!(r_mark_DUr, Key::Among(A_18), joins: false),
-    mark!(r_mark_cAsInA, Key::Among(A_19), joins: false),
-    mark!(r_mark_yDU, Key::Among(A_20), joins: true),
-    mark!(r_mark_ysA, Key::Among(A_21), joins: true),
-    mark!(r_mark_ymUs_, Key::Among(A_22), joins: true),
-    mark!(r_mark_yken, Key::Literal("ken"), joins: true),
+    mark!(r_mark_yUm, harmony: true, Key::Among(A_12), joins: true),
+    mark!(r_mark_sUn, harmony: true, Key::Among(A_13), joins: false),
+    mark!(r_mark_yUz, harmony: true, Key::Among(A_14), joins: true),
+    mark!(r_mark_sUnUz, harmony: false, Key::Among(A_15), joins: false),
+    mark!(r_mark_lAr, harmony: true, Key::Among(A_16), joins: false),
+    mark!(r_mark_nUz, harmony: true, Key::Among(A_17), joins: false),
+    mark!(r_mark_DUr, harmony: true, Key::Among(A_18), joins: false),
+    mark!(r_mark_cAsInA, harmony: false, Key::Among(A_19), joins: false),
+    mark!(r_mark_yDU, harmony: true, Key::Among(A_20), joins: true),
+    mark!(r_mark_ysA, harmony: false, Key::Among(A_21), joins: true),
+    mark!(r_mark_ymUs_, harmony: true, Key::Among(A_22), joins: true),
+    mark!(r_mark_yken, harmony: false, Key::Literal("ken"), joins: true),
 ];
 
 impl Mark {
@@ -108,6 +111,36 @@ impl Mark {
         }
     }
 }
+
+/// The harmony test by itself. Where it says no, the cursor may be anywhere.
+pub fn harmony_stands(env: &mut SnowballEnv) -> bool {
+    r_check_vowel_harmony(env, &mut no_context())
+}
+
+/// A grouping: its bits, its first and its last code point.
+pub struct Grouping(&'static [u8], u32, u32);
+
+impl Grouping {
+    /// Whether one of its characters stands before the cursor, which then goes back over it.
+    pub fn stands(&self, env: &mut SnowballEnv) -> bool {
+        env.in_grouping_b(self.0, self.1, self.2)
+    }
+}
+
+/// The vowels, line 114.
+pub static VOWELS: Grouping = Grouping(G_vowel, 97, 305);
+
+/// Each vowel with the grouping of its partners, lines 116 to 123.
+pub static PARTNERS: [(&'static str, Grouping); 8] = [
+    ("a", Grouping(G_vowel1, 97, 305)),
+    ("e", Grouping(G_vowel2, 101, 252)),
+    ("\u{131}", Grouping(G_vowel3, 97, 305)),
+    ("i", Grouping(G_vowel4, 101, 105)),
+    ("o", Grouping(G_vowel5, 111, 117)),
+    ("\u{f6}", Grouping(G_vowel6, 246, 252)),
+    ("u", Grouping(G_vowel5, 111, 117)),
+    ("\u{fc}", Grouping(G_vowel6, 246, 252)),
+];
 
 /// The optional y by itself: whether a mark may join here; the cursor goes back over a y.
 pub fn optional_y_stands(env: &mut SnowballEnv) -> bool {
@@ -138,10 +171,33 @@ mod tests {
     }
 
     // Where a mark ends that stands at the end of the front, a joint and a key.
-    fn end(joint: &str, key: &str, stands: impl Fn(&mut SnowballEnv) -> bool) -> Option<usize> {
-        let word = [FRONT, joint, key].concat();
+    fn end(
+        front: &str,
+        joint: &str,
+        key: &str,
+        stands: impl Fn(&mut SnowballEnv) -> bool,
+    ) -> Option<usize> {
+        let word = [front, joint, key].concat();
         let mut env = at_end(&word);
         stands(&mut env).then_some(env.cursor)
+    }
+
+    // A routine's text in the crate's file.
+    fn text_of(routine: &str) -> &'static str {
+        let text = include_str!(concat!(env!("OUT_DIR"), "/snowball.rs"));
+        let start = text.find(&format!("\nfn {}(", routine));
+        let text = &text[start.expect("a routine of the crate")..];
+        &text[..text.find("\n}\n").expect("its end")]
+    }
+
+    // sUnUz and cAsInA are in harmony with themselves, so that only the text tells.
+    #[test]
+    fn eight_marks_test_harmony() {
+        for mark in &MARKS {
+            let calls = text_of(mark.routine_name).contains("r_check_vowel_harmony(");
+            assert_eq!(mark.harmony, calls, "{}", mark.name());
+        }
+        assert_eq!(MARKS.iter().filter(|mark| mark.harmony).count(), 8);
     }
 
     #[test]
@@ -149,7 +205,7 @@ mod tests {
         for mark in &MARKS {
             assert_eq!(mark.joins, mark.name().starts_with('y'), "{}", mark.name());
             for key in keys_of(mark) {
-                let ends = |joint| end(joint, key, |env| mark.stands(env));
+                let ends = |joint| end(FRONT, joint, key, |env| mark.stands(env));
                 let n = FRONT.len();
                 let (with, without) = match mark.joins {
                     true => (n, None),
@@ -164,14 +220,21 @@ mod tests {
 
     #[test]
     fn marks_are_made_of_their_parts() {
-        for mark in &MARKS {
-            for key in MARKS.iter().flat_map(keys_of) {
-                for joint in &["", "b", "y", "by"] {
-                    let whole = end(joint, key, |env| mark.stands(env));
-                    let parts = end(joint, key, |env| {
-                        mark.key_stands(env) && (!mark.joins || optional_y_stands(env))
-                    });
-                    assert_eq!(whole, parts, "{} {}{}", mark.name(), joint, key);
+        let parts = |mark: &Mark, env: &mut SnowballEnv| {
+            (!mark.harmony || harmony_stands(env))
+                && mark.key_stands(env)
+                && (!mark.joins || optional_y_stands(env))
+        };
+        let vowels = PARTNERS.iter().map(|&(vowel, _)| vowel);
+        for front in vowels.chain(Some(FRONT)) {
+            for mark in &MARKS {
+                for key in MARKS.iter().flat_map(keys_of) {
+                    for joint in &["", "b", "y", "by"] {
+                        let whole = end(front, joint, key, |env| mark.stands(env));
+                        let parts = end(front, joint, key, |env| parts(mark, env));
+                        let at = (mark.name(), front, joint, key);
+                        assert_eq!(whole, parts, "{:?}", at);
+                    }
                 }
             }
         }

@@ -8,4 +8,5 @@ pub mod Search
 pub mod Numbered
 pub mod Ends
 pub mod Told
+pub mod Accord
 pub mod Joints

@@ -1,10 +1,13 @@
--- A mark's answer as the code gives it: the record moved back over all that it takes and the mark's number, or that it fails.
+-- A mark's answer as the code gives it: the record moved back over all that it takes, the mark's number and what its harmony test found, or
+-- that it fails.
 -- Assumes nothing.
 use Prim.Native.Nat.{ℕ}
 use mathlib.Core.List.{List, [], _∷_}
 use Rattle.utf8.specs.declared.cursor.Cursor.{Cursor}
 use Rattle.utf8.specs.Behind.{backBy}
 use Rattle.turkish.specs.Simple.Pieces.{Taken, Trace, none, keeps, total}
+use Rattle.letters.specs.declared.harmony.Accord.{Accord}
+use Rattle.letters.specs.Accord.{noAccord, passedOn}
 use Rattle.marks.specs.declared.marked.Marked.{Marked}
 use Rattle.marks.specs.declared.marked.Marked.the-variants.{To, Fails}
 
@@ -13,6 +16,11 @@ unfoldable pub leading : List Taken → ℕ
 leading [] = 0
 leading (t ∷ ts) = t .kind
 
+-- and what it passes on
+unfoldable pub leadingAccord : List ℕ → Cursor → List Taken → Accord
+leadingAccord w c [] = noAccord
+leadingAccord w c (t ∷ ts) = passedOn w c (t .found)
+
 unfoldable pub reach : List ℕ → Cursor → Trace → Marked
 reach w c none = Fails
-reach w c (keeps ts f) = To (backBy w c (total ts)) (leading ts)
+reach w c (keeps ts f) = To (backBy w c (total ts)) (leading ts) (leadingAccord w c ts)

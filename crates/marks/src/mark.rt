@@ -1,14 +1,14 @@
 // The marks of the suffix stage (turkish.rs, `r_mark_yUm` to `r_mark_yken`), numbered 1 to 12 in the order of document 01's mark tables
-// with yken last. Tried alone or in a group, they take the word and what is seen from a record and answer the record moved back and their
-// number. The key and the optional y are tested first and harmony only where they fit: all must hold, so the answer is the same as in the
-// Rust, which tests harmony first.
+// with yken last. Tried alone or in a group, they take the word and what is seen from a record and answer the record moved back, their
+// number and what their harmony test found. The key and the optional y are tested first and harmony only where they fit: all must hold, so
+// the answer is the same as in the Rust, which tests harmony first.
 use crate::marked::Marked;
 use crate::tables;
 use letters::among::Among;
 use letters::among::find_among_b;
 use letters::ends;
 use letters::harmony;
-use letters::harmony::Told;
+use letters::harmony::Accord;
 use letters::joint::mark_suffix_with_optional_consonant;
 use letters::passed::Passed;
 use letters::seen::Seen;
@@ -23,7 +23,7 @@ ghost use Rattle.turkish.specs.Simple.Marks.{yDU, yken};
 ghost use Rattle.turkish.specs.Simple.Pieces.{traceOf};
 ghost use Rattle.letters.specs.Search.{found};
 ghost use Rattle.letters.specs.Seen.{Sees};
-ghost use Rattle.letters.specs.Told.{Hears};
+ghost use Rattle.letters.specs.Accord.{Listens};
 ghost use Rattle.letters.specs.Passed.{passes};
 ghost use Rattle.marks.specs.Reach.{reach};
 ghost use Rattle.letters.specs.Numbered.{numbered, tabled, unharmonic, firstOf};
@@ -152,9 +152,9 @@ fn is_harmonic(kind: u32) -> bool
 }
 
 // The first mark of a group that fits before the cursor. Harmony is walked for at most once.
-pub fn first_of(w: &[u8], s: Seen, told: Told, group: &[u32]) -> Marked
+pub fn first_of(w: &[u8], s: Seen, told: Accord, group: &[u32]) -> Marked
     requires { ⌜ Sees (now w) s ⌝ }
-    requires { ⌜ Hears (now w) (s .c) told ⌝ }
+    requires { ⌜ Listens (now w) (s .c) told ⌝ }
     ensures { λ r. ⌜ r ≡ reach (now (w .entry)) (s .c) (firstOf (now (group .entry)) (behind (now (w .entry)) (s .c))) ⌝ }
 {
     let mut t = told;
@@ -170,11 +170,11 @@ pub fn first_of(w: &[u8], s: Seen, told: Told, group: &[u32]) -> Marked
             continue;
         }
         if !is_harmonic(k) {
-            return Marked::To(s.c.moved_to(p.at), k);
+            return Marked::To(s.c.moved_to(p.at), k, Accord::UNASKED);
         }
-        t = harmony::hear(w, s.c, t);
+        t = harmony::listen(w, s.c, t);
         if t.holds {
-            return Marked::To(s.c.moved_to(p.at), k);
+            return Marked::To(s.c.moved_to(p.at), k, t);
         }
     }
     Marked::Fails
@@ -182,9 +182,9 @@ pub fn first_of(w: &[u8], s: Seen, told: Told, group: &[u32]) -> Marked
 
 // One mark, and no group of one: with two callers `mark` stays a function of its own. Inlined into the loop of `first_of` it has the
 // tests of all marks made ready at each call.
-pub fn one_of(w: &[u8], s: Seen, told: Told, kind: u32) -> Marked
+pub fn one_of(w: &[u8], s: Seen, told: Accord, kind: u32) -> Marked
     requires { ⌜ Sees (now w) s ⌝ }
-    requires { ⌜ Hears (now w) (s .c) told ⌝ }
+    requires { ⌜ Listens (now w) (s .c) told ⌝ }
     ensures { λ r. ⌜ r ≡ reach (now (w .entry)) (s .c) (traceOf (numbered kind) (behind (now (w .entry)) (s .c))) ⌝ }
 {
     if !ends::may_end(kind, s.last, s.second, s.third) {
@@ -195,11 +195,11 @@ pub fn one_of(w: &[u8], s: Seen, told: Told, kind: u32) -> Marked
         return Marked::Fails;
     }
     if !is_harmonic(kind) {
-        return Marked::To(s.c.moved_to(p.at), kind);
+        return Marked::To(s.c.moved_to(p.at), kind, Accord::UNASKED);
     }
-    let t = harmony::hear(w, s.c, told);
+    let t = harmony::listen(w, s.c, told);
     if !t.holds {
         return Marked::Fails;
     }
-    Marked::To(s.c.moved_to(p.at), kind)
+    Marked::To(s.c.moved_to(p.at), kind, t)
 }

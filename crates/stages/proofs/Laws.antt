@@ -4,3 +4,4 @@ pub mod Trails
 pub mod Branches
 pub mod Hardened
 pub mod Repairs
+pub mod Heard

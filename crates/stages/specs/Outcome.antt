@@ -8,21 +8,31 @@ use Rattle.turkish.specs.Simple.Stage.{stage, keptLength}
 use Rattle.turkish.specs.Simple.Pieces.{stageMarks}
 use Rattle.turkish.specs.Calls.{chars}
 use Rattle.stages.specs.declared.stage.Outcome.{Outcome}
+use Rattle.letters.specs.declared.harmony.Accord.{Accord}
+use Rattle.letters.specs.Accord.{noAccord}
 use Rattle.stages.specs.declared.trail.Trail.{Trail}
-use Rattle.stages.specs.Trail.{noTrail, trailOf}
+use Rattle.stages.specs.declared.trail.Way.{Way}
+use Rattle.stages.specs.Trail.{noTrail, trailOf, heardAlong}
 
 -- the record at the word's end
 unfoldable pub whole : List ℕ → Cursor
 whole w = record { cursor = length w; limit = length w; «limit_backward» = 0 }
 
+-- the answer with these marks, and what the first of them found that tests harmony
+abbrev pub outcome : ℕ → Bool → Bool → Trail → Accord → Outcome
+outcome n answer f t h =
+    record { kept = n; yes = answer; flag = f; harmonic = h .asked; last = h .last; partner = h .partner; loan = h .skipped; trail = t }
+
 unfoldable pub outcomeOf : List ℕ → Outcome
 outcomeOf w =
-    record { kept = keptLength w; yes = stage (chars w) .yes; flag = stage (chars w) .flag; trail = trailOf w (whole w) (stageMarks (chars w)) }
+    let s = stage (chars w) in
+    let ts = stageMarks (chars w) in
+    outcome (keptLength w) (s .yes) (s .flag) (trailOf w (whole w) ts) (heardAlong w (whole w) ts)
 
 -- no ending: all n bytes are kept
 unfoldable pub uncut : ℕ → Outcome
-uncut n = record { kept = n; yes = false; flag = true; trail = noTrail }
+uncut n = outcome n false true noTrail noAccord
 
 -- a branch taken: what stands before the record's limit is kept
-unfoldable pub cut : Cursor → Trail → Bool → Outcome
-cut c t f = record { kept = c .limit; yes = true; flag = f; trail = t }
+unfoldable pub cut : Cursor → Way → Bool → Outcome
+cut c y f = outcome (c .limit) true f (y .trail) (y .heard)

@@ -1,4 +1,4 @@
--- The marks that a branch keeps, as the code gives them. Assumes nothing.
+-- The marks that a branch keeps, and what the first of them found that tests harmony, as the code gives them. Assumes nothing.
 use Prim.Native.Nat.{ℕ}
 use mathlib.Core.Bool.{cond}
 use mathlib.Core.List.{List, [], _∷_}
@@ -6,9 +6,12 @@ use lib.Dec.{eqb}
 use Rattle.utf8.specs.declared.cursor.Cursor.{Cursor}
 use Rattle.utf8.specs.Behind.{backBy, deleted}
 use Rattle.turkish.specs.Simple.Pieces.{Taken, Trace, none, keeps, total}
-use Rattle.marks.specs.Reach.{leading}
+use Rattle.letters.specs.declared.harmony.Accord.{Accord}
+use Rattle.letters.specs.Accord.{noAccord, passedOn, orAccord}
+use Rattle.marks.specs.Reach.{leading, leadingAccord}
 use Rattle.stages.specs.declared.trail.Stop.{Stop}
 use Rattle.stages.specs.declared.trail.Trail.{Trail}
+use Rattle.stages.specs.declared.trail.Way.{Way}
 use Rattle.stages.specs.declared.trail.Tried.{Tried}
 use Rattle.stages.specs.declared.trail.Branch.{Branch}
 use Rattle.stages.specs.declared.trail.Branch.the-variants.{Fits, Unfit}
@@ -29,17 +32,34 @@ unfoldable pub trailOf : List ℕ → Cursor → List Taken → Trail
 trailOf w c [] = noTrail
 trailOf w c (t ∷ ts) = behindTrail (t .kind) (backBy w c (t .size) .cursor) (trailOf w (backBy w c (t .size)) ts)
 
+-- what the first of them found that tests harmony
+unfoldable pub heardAlong : List ℕ → Cursor → List Taken → Accord
+heardAlong w c [] = noAccord
+heardAlong w c (t ∷ ts) = orAccord (passedOn w c (t .found)) (heardAlong w (backBy w c (t .size)) ts)
+
+-- both
+unfoldable pub wayOf : List ℕ → Cursor → List Taken → Way
+wayOf w c ts = record { heard = heardAlong w c ts; trail = trailOf w c ts }
+
+-- neither
+unfoldable pub noWay : Way
+noWay = record { heard = noAccord; trail = noTrail }
+
+-- both behind one more mark and what that one found
+unfoldable pub behindWay : ℕ → ℕ → Accord → Way → Way
+behindWay k at told y = record { heard = orAccord told (y .heard); trail = behindTrail k at (y .trail) }
+
 -- a branch's answer: the record moved back over all that it takes
 unfoldable pub along : List ℕ → Cursor → Trace → Branch
 along w c none = Unfit
-along w c (keeps ts f) = Fits (backBy w c (total ts)) (trailOf w c ts)
+along w c (keeps ts f) = Fits (backBy w c (total ts)) (wayOf w c ts)
 
 -- the same with all from there on deleted
 unfoldable pub cutTo : List ℕ → Cursor → Trace → Branch
 cutTo w c none = Unfit
-cutTo w c (keeps ts f) = Fits (deleted (backBy w c (total ts))) (trailOf w c ts)
+cutTo w c (keeps ts f) = Fits (deleted (backBy w c (total ts))) (wayOf w c ts)
 
 -- a group tried: the record moved back where a mark fits, and the record itself where none does
 unfoldable pub triedTo : List ℕ → Cursor → Trace → Tried
-triedTo w c none = record { c = c; kind = 0 }
-triedTo w c (keeps ts f) = record { c = backBy w c (total ts); kind = leading ts }
+triedTo w c none = record { c = c; kind = 0; told = noAccord }
+triedTo w c (keeps ts f) = record { c = backBy w c (total ts); kind = leading ts; told = leadingAccord w c ts }

@@ -1,11 +1,13 @@
 // The suffix stage (turkish.rs, `r_stem_nominal_verb_suffixes`): its six branches in the Rust's order. A branch answers the record
-// after its deletions, which lower the limit, with the marks that it keeps; the text kept ends at the limit.
+// after its deletions, which lower the limit, with the marks that it keeps and what the first of them found that tests harmony; the text kept
+// ends at the limit.
 use crate::trail::Branch;
 use crate::trail::Trail;
 use crate::trail::Tried;
+use crate::trail::Way;
 use letters::ends;
 use letters::harmony;
-use letters::harmony::Told;
+use letters::harmony::Accord;
 use letters::seen;
 use letters::seen::Seen;
 use marks::mark;
@@ -18,16 +20,21 @@ ghost use Rattle.turkish.specs.Simple.Marks.{ymUs};
 ghost use Rattle.turkish.specs.Simple.Pieces.{trace};
 ghost use Rattle.turkish.specs.Simple.Stage.{person, branch1, branch2, branch3, branch4, branch5, branch6};
 ghost use Rattle.letters.specs.Seen.{Sees};
-ghost use Rattle.letters.specs.Told.{Hears, toldAtEnd};
+ghost use Rattle.letters.specs.Accord.{Listens, accordAtEnd};
 ghost use Rattle.letters.specs.Numbered.{firstOf};
 ghost use Rattle.stages.specs.Trail.{along, cutTo, triedTo};
 ghost use Rattle.stages.specs.Outcome.{outcomeOf, uncut, cut};
 
-// The place before which the text kept stands, whether an ending was removed, the flag, and the marks kept.
+// The place before which the text kept stands, whether an ending was removed, and the flag; whether a mark kept tests harmony, for the first
+// that does the places of the two vowels, and whether a vowel was skipped between them; and the marks kept.
 pub struct Outcome {
     pub kept: usize,
     pub yes: bool,
     pub flag: bool,
+    pub harmonic: bool,
+    pub last: usize,
+    pub partner: usize,
+    pub loan: bool,
     pub trail: Trail,
 }
 
@@ -40,18 +47,28 @@ impl Outcome {
             kept: n,
             yes: false,
             flag: true,
+            harmonic: false,
+            last: 0,
+            partner: 0,
+            loan: false,
             trail: Trail::NONE,
         }
     }
 
     // A branch taken: what stands before the record's limit is kept.
-    fn cut(c: Cursor, trail: Trail, flag: bool) -> Outcome
-        ensures { λ r. ⌜ r ≡ cut c trail flag ⌝ }
+    fn cut(c: Cursor, way: Way, flag: bool) -> Outcome
+        ensures { λ r. ⌜ r ≡ cut c way flag ⌝ }
     {
+        let trail = way.trail;
+        let h = way.heard;
         Outcome {
             kept: c.limit,
             yes: true,
             flag,
+            harmonic: h.asked,
+            last: h.last,
+            partner: h.partner,
+            loan: h.skipped,
             trail,
         }
     }
@@ -77,10 +94,15 @@ fn try_of(w: &[u8], c: Cursor, group: &[u32]) -> Tried
     requires { ⌜ Open (now w) c ⌝ }
     ensures { λ r. ⌜ r ≡ triedTo (now (w .entry)) c (firstOf (now (group .entry)) (behind (now (w .entry)) c)) ⌝ }
 {
-    let Marked::To(d, kind) = mark::first_of(w, seen::look_back(w, c), Told::UNASKED, group) else {
-        return Tried { c, kind: 0 };
+    let Marked::To(d, kind, told) = mark::first_of(w, seen::look_back(w, c), Accord::UNASKED, group)
+    else {
+        return Tried {
+            c,
+            kind: 0,
+            told: Accord::UNASKED,
+        };
     };
-    Tried { c: d, kind }
+    Tried { c: d, kind, told }
 }
 
 // A person's ending or nothing, then ymUs_ (lines 316 and 327).
@@ -90,130 +112,150 @@ fn person_then_ymUs(w: &[u8], c: Cursor) -> Branch
 {
     let p = try_of(w, c, &PERSON);
     let d = p.c;
-    let Marked::To(e, kind) = mark::one_of(w, seen::look_back(w, d), Told::UNASKED, mark::YMUS)
-    else {
+    let Marked::To(e, kind, told) = mark::one_of(
+        w,
+        seen::look_back(w, d),
+        Accord::UNASKED,
+        mark::YMUS,
+    ) else {
         return Branch::Unfit;
     };
     Branch::Fits(
         e,
-        Trail::NONE.behind(kind, e.cursor).behind(p.kind, d.cursor),
+        Way::NONE
+            .behind(kind, e.cursor, told)
+            .behind(p.kind, d.cursor, p.told),
     )
 }
 
 // Line 314: ymUs_, yDU, ysA or yken.
-fn first_branch(w: &[u8], s: Seen, t: Told) -> Branch
+fn first_branch(w: &[u8], s: Seen, t: Accord) -> Branch
     requires { ⌜ Sees (now w) s ⌝ }
-    requires { ⌜ Hears (now w) (s .c) t ⌝ }
+    requires { ⌜ Listens (now w) (s .c) t ⌝ }
     ensures { λ r. ⌜ r ≡ cutTo (now (w .entry)) (s .c) (trace branch1 (behind (now (w .entry)) (s .c))) ⌝ }
 {
     if !ends::ends_first(s.last, s.second, s.third) {
         return Branch::Unfit;
     }
-    let Marked::To(c, kind) = mark::first_of(w, s, t, &FIRST) else {
+    let Marked::To(c, kind, told) = mark::first_of(w, s, t, &FIRST) else {
         return Branch::Unfit;
     };
-    Branch::Fits(c.deleted(), Trail::NONE.behind(kind, c.cursor))
+    Branch::Fits(c.deleted(), Way::NONE.behind(kind, c.cursor, told))
 }
 
 // Line 316: cAsInA, a person's ending or nothing, then ymUs_.
-fn second_branch(w: &[u8], s: Seen, t: Told) -> Branch
+fn second_branch(w: &[u8], s: Seen, t: Accord) -> Branch
     requires { ⌜ Sees (now w) s ⌝ }
-    requires { ⌜ Hears (now w) (s .c) t ⌝ }
+    requires { ⌜ Listens (now w) (s .c) t ⌝ }
     ensures { λ r. ⌜ r ≡ cutTo (now (w .entry)) (s .c) (trace branch2 (behind (now (w .entry)) (s .c))) ⌝ }
 {
-    let Marked::To(c, kind) = mark::one_of(w, s, t, mark::CASINA) else {
+    let Marked::To(c, kind, told) = mark::one_of(w, s, t, mark::CASINA) else {
         return Branch::Unfit;
     };
     let Branch::Fits(d, rest) = person_then_ymUs(w, c) else {
         return Branch::Unfit;
     };
-    Branch::Fits(d.deleted(), rest.behind(kind, c.cursor))
+    Branch::Fits(d.deleted(), rest.behind(kind, c.cursor, told))
 }
 
 // Lines 318 to 320: lAr, deleted; then DUr, yDU, ysA or ymUs_ if one fits. The flag goes down.
-fn third_branch(w: &[u8], s: Seen, t: Told) -> Branch
+fn third_branch(w: &[u8], s: Seen, t: Accord) -> Branch
     requires { ⌜ Sees (now w) s ⌝ }
-    requires { ⌜ Hears (now w) (s .c) t ⌝ }
+    requires { ⌜ Listens (now w) (s .c) t ⌝ }
     ensures { λ r. ⌜ r ≡ cutTo (now (w .entry)) (s .c) (trace branch3 (behind (now (w .entry)) (s .c))) ⌝ }
 {
-    let Marked::To(c, kind) = mark::one_of(w, s, t, mark::LAR) else {
+    let Marked::To(c, kind, told) = mark::one_of(w, s, t, mark::LAR) else {
         return Branch::Unfit;
     };
     let p = try_of(w, c.deleted(), &AFTER_LAR);
     let d = p.c;
     Branch::Fits(
         d.deleted(),
-        Trail::NONE.behind(p.kind, d.cursor).behind(kind, c.cursor),
+        Way::NONE
+            .behind(p.kind, d.cursor, p.told)
+            .behind(kind, c.cursor, told),
     )
 }
 
 // Line 323: nUz, then yDU or ysA.
-fn fourth_branch(w: &[u8], s: Seen, t: Told) -> Branch
+fn fourth_branch(w: &[u8], s: Seen, t: Accord) -> Branch
     requires { ⌜ Sees (now w) s ⌝ }
-    requires { ⌜ Hears (now w) (s .c) t ⌝ }
+    requires { ⌜ Listens (now w) (s .c) t ⌝ }
     ensures { λ r. ⌜ r ≡ cutTo (now (w .entry)) (s .c) (trace branch4 (behind (now (w .entry)) (s .c))) ⌝ }
 {
-    let Marked::To(c, kind) = mark::one_of(w, s, t, mark::NUZ) else {
+    let Marked::To(c, kind, told) = mark::one_of(w, s, t, mark::NUZ) else {
         return Branch::Unfit;
     };
-    let Marked::To(d, next) = mark::first_of(w, seen::look_back(w, c), Told::UNASKED, &AFTER_NUZ)
-    else {
+    let Marked::To(d, next, heard) = mark::first_of(
+        w,
+        seen::look_back(w, c),
+        Accord::UNASKED,
+        &AFTER_NUZ,
+    ) else {
         return Branch::Unfit;
     };
     Branch::Fits(
         d.deleted(),
-        Trail::NONE.behind(next, d.cursor).behind(kind, c.cursor),
+        Way::NONE
+            .behind(next, d.cursor, heard)
+            .behind(kind, c.cursor, told),
     )
 }
 
 // Line 325: sUnUz, yUz, sUn or yUm, deleted; then ymUs_ if it fits.
-fn fifth_branch(w: &[u8], s: Seen, t: Told) -> Branch
+fn fifth_branch(w: &[u8], s: Seen, t: Accord) -> Branch
     requires { ⌜ Sees (now w) s ⌝ }
-    requires { ⌜ Hears (now w) (s .c) t ⌝ }
+    requires { ⌜ Listens (now w) (s .c) t ⌝ }
     ensures { λ r. ⌜ r ≡ cutTo (now (w .entry)) (s .c) (trace branch5 (behind (now (w .entry)) (s .c))) ⌝ }
 {
     if !ends::ends_fifth(s.last, s.second, s.third) {
         return Branch::Unfit;
     }
-    let Marked::To(c, kind) = mark::first_of(w, s, t, &PERSON_ALONE) else {
+    let Marked::To(c, kind, told) = mark::first_of(w, s, t, &PERSON_ALONE) else {
         return Branch::Unfit;
     };
     let d = c.deleted();
-    let Marked::To(e, next) = mark::one_of(w, seen::look_back(w, d), Told::UNASKED, mark::YMUS)
-    else {
-        return Branch::Fits(d, Trail::NONE.behind(kind, c.cursor));
+    let Marked::To(e, next, heard) = mark::one_of(
+        w,
+        seen::look_back(w, d),
+        Accord::UNASKED,
+        mark::YMUS,
+    ) else {
+        return Branch::Fits(d, Way::NONE.behind(kind, c.cursor, told));
     };
     Branch::Fits(
         e.deleted(),
-        Trail::NONE.behind(next, e.cursor).behind(kind, c.cursor),
+        Way::NONE
+            .behind(next, e.cursor, heard)
+            .behind(kind, c.cursor, told),
     )
 }
 
 // Line 327: DUr, deleted; then a person's ending or nothing and ymUs_, if that fits whole.
-fn sixth_branch(w: &[u8], s: Seen, t: Told) -> Branch
+fn sixth_branch(w: &[u8], s: Seen, t: Accord) -> Branch
     requires { ⌜ Sees (now w) s ⌝ }
-    requires { ⌜ Hears (now w) (s .c) t ⌝ }
+    requires { ⌜ Listens (now w) (s .c) t ⌝ }
     ensures { λ r. ⌜ r ≡ cutTo (now (w .entry)) (s .c) (trace branch6 (behind (now (w .entry)) (s .c))) ⌝ }
 {
-    let Marked::To(c, kind) = mark::one_of(w, s, t, mark::DUR) else {
+    let Marked::To(c, kind, told) = mark::one_of(w, s, t, mark::DUR) else {
         return Branch::Unfit;
     };
     let d = c.deleted();
     let Branch::Fits(e, rest) = person_then_ymUs(w, d) else {
-        return Branch::Fits(d, Trail::NONE.behind(kind, c.cursor));
+        return Branch::Fits(d, Way::NONE.behind(kind, c.cursor, told));
     };
-    Branch::Fits(e.deleted(), rest.behind(kind, c.cursor))
+    Branch::Fits(e.deleted(), rest.behind(kind, c.cursor, told))
 }
 
 // Harmony at the word's end, walked for where the last letters are those of a mark that tests it.
-fn told_at_end(w: &[u8], s: Seen) -> Told
+fn told_at_end(w: &[u8], s: Seen) -> Accord
     requires { ⌜ Sees (now w) s ⌝ }
-    ensures { λ r. ⌜ r ≡ toldAtEnd (now (w .entry)) s ⌝ }
+    ensures { λ r. ⌜ r ≡ accordAtEnd (now (w .entry)) s ⌝ }
 {
     if !ends::ends_harmonic(s.last, s.second, s.third) {
-        return Told::UNASKED;
+        return Accord::UNASKED;
     }
-    harmony::hear(w, s.c, Told::UNASKED)
+    harmony::listen(w, s.c, Accord::UNASKED)
 }
 
 // The suffix stage of a word, entered at its end with limit_backward 0: the first branch that fits.
@@ -233,23 +275,23 @@ pub fn stem_nominal_verb_suffixes(w: &[u8]) -> Outcome
         return Outcome::uncut(n);
     }
     let t = told_at_end(w, s);
-    if let Branch::Fits(c, kept) = first_branch(w, s, t) {
-        return Outcome::cut(c, kept, true);
+    if let Branch::Fits(c, way) = first_branch(w, s, t) {
+        return Outcome::cut(c, way, true);
     }
-    if let Branch::Fits(c, kept) = second_branch(w, s, t) {
-        return Outcome::cut(c, kept, true);
+    if let Branch::Fits(c, way) = second_branch(w, s, t) {
+        return Outcome::cut(c, way, true);
     }
-    if let Branch::Fits(c, kept) = third_branch(w, s, t) {
-        return Outcome::cut(c, kept, false);
+    if let Branch::Fits(c, way) = third_branch(w, s, t) {
+        return Outcome::cut(c, way, false);
     }
-    if let Branch::Fits(c, kept) = fourth_branch(w, s, t) {
-        return Outcome::cut(c, kept, true);
+    if let Branch::Fits(c, way) = fourth_branch(w, s, t) {
+        return Outcome::cut(c, way, true);
     }
-    if let Branch::Fits(c, kept) = fifth_branch(w, s, t) {
-        return Outcome::cut(c, kept, true);
+    if let Branch::Fits(c, way) = fifth_branch(w, s, t) {
+        return Outcome::cut(c, way, true);
     }
-    if let Branch::Fits(c, kept) = sixth_branch(w, s, t) {
-        return Outcome::cut(c, kept, true);
+    if let Branch::Fits(c, way) = sixth_branch(w, s, t) {
+        return Outcome::cut(c, way, true);
     }
     Outcome::uncut(n)
 }

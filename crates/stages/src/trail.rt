@@ -1,7 +1,9 @@
-// The marks that a branch keeps, as the suffix stage holds them on the way: up to three, in order of running.
+// The marks that a branch keeps, as the suffix stage holds them on the way: up to three, in order of running; and what the first of them found
+// that tests harmony.
+use letters::harmony::Accord;
 use utf8::cursor::Cursor;
 ghost use mathlib.Core.Path.{_≡_};
-ghost use Rattle.stages.specs.Trail.{behindTrail};
+ghost use Rattle.stages.specs.Trail.{behindTrail, behindWay};
 
 // A mark kept: its number, and the place at which it begins; both 0 where there is none.
 pub struct Stop {
@@ -44,14 +46,40 @@ impl Trail {
     }
 }
 
-// A branch's answer: the record after it and the marks that it keeps, or that it does not fit.
+// What a branch keeps on its way: its marks, and what the first of them found that tests harmony.
+pub struct Way {
+    pub heard: Accord,
+    pub trail: Trail,
+}
+
+impl Way {
+    pub const NONE: Way = Way {
+        heard: Accord::UNASKED,
+        trail: Trail::NONE,
+    };
+
+    // The same behind one mark that was kept before, and what that one found; number 0 is none, and has found nothing.
+    pub fn behind(self, kind: u32, at: usize, told: Accord) -> Way
+        ensures { λ r. ⌜ r ≡ behindWay kind at told self ⌝ }
+    {
+        let t = self.trail;
+        let h = self.heard;
+        Way {
+            heard: told.or_else(h),
+            trail: t.behind(kind, at),
+        }
+    }
+}
+
+// A branch's answer: the record after it and what it keeps, or that it does not fit.
 pub enum Branch {
-    Fits(Cursor, Trail),
+    Fits(Cursor, Way),
     Unfit,
 }
 
-// A mark of a group tried: the record moved back and the mark's number, or the record as it was and 0.
+// A mark of a group tried: the record moved back, the mark's number and what it found, or the record as it was and 0.
 pub struct Tried {
     pub c: Cursor,
     pub kind: u32,
+    pub told: Accord,
 }

@@ -7,9 +7,11 @@ pub mod Traces
 pub mod Bounds
 pub mod Keeping
 pub mod PieceCounts
+pub mod Along
 pub mod Joints
 pub mod RemovedBytes
 pub mod Offsets
+pub mod Heard
 pub mod FirstLetters
 pub mod EndToEnd
 pub mod PieceForms
@@ -19,6 +21,8 @@ pub mod Flag
 pub mod Accepted
 pub mod Vowels
 pub mod Syllables
+pub mod KeyVowels
+pub mod FirstHeard
 pub mod Words
 pub mod Folding
 pub mod Same

@@ -7,7 +7,9 @@ pub mod Starred
 pub mod NounParts
 pub mod NounWords
 pub mod PieceWords
+pub mod HeardWords
 pub mod PieceTheorems
+pub mod HeardTheorems
 pub mod Shapes
 pub mod PieceLines
 pub mod ReadBack

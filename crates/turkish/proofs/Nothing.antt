@@ -16,7 +16,7 @@ use Rattle.utf8.proofs.Laws.Characters.{before-zero, before-step, before-back}
 use Rattle.turkish.specs.Letters.{text, any, has, starts}
 use Rattle.turkish.specs.Letters
 use Rattle.turkish.specs.Vowels.{vowels, vowel, lastVowel, beforeLastVowel}
-use Rattle.turkish.specs.Simple.Harmony.{partnerTable, partnersIn, partner, harmony}
+use Rattle.turkish.specs.Simple.Harmony.{partnerTable, partnersIn, partner, harmonyFound, isFound, harmony}
 use Rattle.turkish.specs.Simple.Grammar.{more, after, first, asking, among, joining, markOf, mark, _or_, try, run}
 use Rattle.turkish.specs.Simple.Marks.{unjoined, byY, marked, yUm, sUn, yUz, sUnUz, lAr, nUz, DUr, cAsInA, yDU, ysA, ymUs, yken}
 use Rattle.turkish.specs.Simple.Stage.{branch1, branch2, branch3, branch4, branch5, branch6, branches, staged, stage, kept, keptLength}
@@ -30,7 +30,7 @@ use Rattle.turkish.proofs.Laws.Leaves.{mark-leaves, unharmonic, spares,
 
 -- branch 5 leaves a character of a text that is no key of sUnUz
 branch5-leaves : (cs : List ℕ) → oneOf (sUnUz .keys) cs ≡ false → Post (λ k. k + 1 ≤ length cs) (run branch5 cs)
-unfolding run branch5 try leaves spares every unharmonic harmony any partner has partnersIn partnerTable lastVowel beforeLastVowel vowel vowels
+unfolding run branch5 try leaves spares every unharmonic harmony harmonyFound isFound any partner has partnersIn partnerTable lastVowel beforeLastVowel vowel vowels
     text Letters.fromEnd unjoined byY marked yUm sUn yUz sUnUz ymUs
 branch5-leaves cs h =
     post-then
@@ -39,7 +39,7 @@ branch5-leaves cs h =
 
 -- and so does the stage, as the other branches leave one of every text
 branches-leaves : (cs : List ℕ) → oneOf (sUnUz .keys) cs ≡ false → Post (λ k. k + 1 ≤ length cs) (run branches cs)
-unfolding run branches branch1 branch2 branch3 branch4 branch6 try leaves spares every unharmonic harmony any partner has partnersIn partnerTable lastVowel beforeLastVowel vowel vowels
+unfolding run branches branch1 branch2 branch3 branch4 branch6 try leaves spares every unharmonic harmony harmonyFound isFound any partner has partnersIn partnerTable lastVowel beforeLastVowel vowel vowels
     text Letters.fromEnd unjoined byY marked lAr DUr yDU ysA ymUs yken
 branches-leaves cs h =
     let z : 0 ≤ length cs = omega arith in
@@ -59,7 +59,7 @@ kept-others (c ∷ cs) h =
 
 -- nothing is kept of nothing, nor of a key of sUnUz
 kept-keys : every (λ cs. same (kept cs) []) ([] ∷ sUnUz .keys) ≡ true
-unfolding kept stage staged run branches branch1 branch2 branch3 branch4 branch5 branch6 try same every harmony any partner has partnersIn partnerTable
+unfolding kept stage staged run branches branch1 branch2 branch3 branch4 branch5 branch6 try same every harmony harmonyFound isFound any partner has partnersIn partnerTable
     lastVowel beforeLastVowel vowel vowels text Letters.fromEnd unjoined byY marked yUm sUn yUz sUnUz lAr nUz DUr cAsInA yDU ysA ymUs yken starts among joining markOf more after first asking
 kept-keys = refl
 

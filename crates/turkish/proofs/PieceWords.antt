@@ -16,7 +16,7 @@ use Rattle.turkish.specs.Letters.{text, fromEnd, tab, lf, any, has, star
 use Rattle.turkish.specs.Snowball.{ahead, place, limit as textLimit, moveTo, withSlice, withFlag, withStrlen, withFound, withText, andThen, orElse, tested, negated, readIf, isLeft, isIn, letters, longer, longest, keyAhead, fits, goPast, placeAfter, sliceFrom, enough, run}
 use Rattle.turkish.specs.Source.{check-vowel-harmony, mark-suffix-with-optional-y-consonant, mark-yUm, mark-sUn, mark-yUz, mark-sUnUz, mark-lAr, mark-nUz, mark-DUr, mark-cAsInA, mark-yDU, mark-ysA, mark-ymUs-, mark-yken, stem-nominal-verb-suffixes}
 use Rattle.turkish.specs.Answers.{entered, called, succeeded, left, stemmed, suffixStage}
-use Rattle.turkish.specs.Pieces.{kindNames, numberFrom, kindOf, nameFrom, kindName, Joined, alone, withY, afterVowel, blank, orJoined, readThen, readAfter, readOr, jointOf, oneMark, readIn, reading, keptMarks}
+use Rattle.turkish.specs.Pieces.{kindNames, numberFrom, kindOf, nameFrom, kindName, Joined, alone, withY, afterVowel, blank, orJoined, readThen, readAfter, readOr, stoppedAt, jointOf, heardBy, oneMark, readIn, reading, keptMarks}
 use Rattle.turkish.specs.Calls.{chars, bytes, limit, refusal, refusalShort, stageText, offset}
 use Rattle.turkish.specs.PieceCalls.{Span, spanOf, spansOf, lettersOf, pieceRefusal, joinedOf, kindNumber, kindJoined, told, unused, piecesRoom, buffer, bufferOf, piecesRefusal, piecesCall}
 use Rattle.turkish.specs.PieceCalls.{textRoom, pieceLine, textOf, piecesTextRefusal, piecesTextCall}
@@ -115,7 +115,7 @@ pub words-met : Pieced table × Formed forms × AnswersMet
 unfolding table row span word forms form answered answer
     piecesCall piecesRefusal piecesRoom bufferOf buffer piecesTextCall piecesTextRefusal textRoom textOf pieceLine lettersOf pieceRefusal refusalShort refusal limit stageText bytes
     isText accepts next lead leadIn table37 due refused suffixStage stemmed called succeeded left
-    spansOf spanOf offset keptMarks reading readIn oneMark jointOf readOr readAfter readThen orJoined blank kindOf numberFrom kindName nameFrom kindNames same tab lf
+    spansOf spanOf offset keptMarks reading readIn oneMark heardBy stoppedAt jointOf readOr readAfter readThen orJoined blank kindOf numberFrom kindName nameFrom kindNames same tab lf
     chars encodeAll encode decode before beforeWithin lastChar charAt lastWidth width goesOn continuation entered
     run enough ahead place textLimit moveTo withSlice withFlag withStrlen withFound withText andThen orElse tested negated
     readIf isLeft isIn letters longer longest keyAhead fits goPast placeAfter sliceFrom

@@ -1,10 +1,10 @@
 -- From the lines of a word's pieces and the text that the stage leaves, the word can be read back in one way only, in whatever order the
 -- lines stand (document 02, request 1). The kinds of the pieces tell the order in which they were kept, and then each piece has its place.
 -- Assumes nothing.
-use Prim.Native.Nat.{ℕ, _-_}
+use Prim.Native.Nat.{ℕ}
 use mathlib.Core.Path.{_≡_, refl, sym, ap, _∙_}
 use mathlib.Core.Bool.{Bool, true, false, cond}
-use mathlib.Core.List.{List, [], _∷_, _++_, map, cons≢nil, head-eq-of-cons-eq, tail-eq-of-cons-eq, cons-eq-cons, append-cancel-left}
+use mathlib.Core.List.{List, [], _∷_, _++_, map, map-map, cons≢nil, head-eq-of-cons-eq, tail-eq-of-cons-eq, cons-eq-cons, append-cancel-left}
 use mathlib.Core.List.{List·Memᴰ, List·Memᴰ·head, List·Memᴰ·tail, Memᴰ·cast, Memᴰ·map, Memᴰ·of-map, List·Permᴰ, List·Permᴰ·trans, Permᴰ·symm, Permᴰ·map}
 use lib.ListN.{length, take, drop, take-append-drop}
 use lib.Seq.{take-at}
@@ -26,7 +26,7 @@ use Rattle.turkish.proofs.Source.Calls.{suffixStage-text}
 use Rattle.turkish.proofs.Source.KeptStage.{keptMarks-simple}
 use Rattle.turkish.proofs.PieceTheorems.{together-removed}
 use Rattle.turkish.proofs.PieceLines.{named, Entry, entryOf, lineOf, line-entry, line-tells, linesOf, text-entries, clear, lines-injective}
-use Rattle.turkish.proofs.Shapes.{kindsOf, endings, ending-distinct, ending-named, endings-equal, stageMarks-ending}
+use Rattle.turkish.proofs.Shapes.{kindsOf, endings, ending-distinct, ending-named, endings-equal, stageMarks-ending, kinds-located}
 
 -- ---- entries ----
 
@@ -84,17 +84,15 @@ entries-equal (e ∷ es) (f ∷ fs) k d h =
     )
 
 -- the marks' kinds are those of what their lines tell
-kinds-located : (w : List ℕ) (n : ℕ) (ts : List Taken) → kinds (map (entryOf w) (map (spanOf w) (located n ts))) ≡ kindsOf ts
-unfolding located spanOf
-kinds-located w n [] = refl
-kinds-located w n (t ∷ ts) = rw (kinds-located w (n - t .size) ts)
+kinds-told : (w : List ℕ) (n : ℕ) (ts : List Taken) → kinds (map (entryOf w) (map (spanOf w) (located n ts))) ≡ kindsOf ts
+kinds-told w n ts = map-map entryKind (entryOf w) (map (spanOf w) (located n ts)) ∙ kinds-located w n ts
 
 -- ---- words ----
 
 -- the kinds that a word's lines tell are one of the stage's sequences
 entries-ending : (w : List ℕ) → List·Memᴰ (kinds (entriesOf w)) endings
 unfolding spansOf
-entries-ending w = Memᴰ·cast (rw (keptMarks-simple (chars w)) (kinds-located w (length (chars w)) (stageMarks (chars w)))) (stageMarks-ending (chars w))
+entries-ending w = Memᴰ·cast (rw (keptMarks-simple (chars w)) (kinds-told w (length (chars w)) (stageMarks (chars w)))) (stageMarks-ending (chars w))
 
 -- so each has a name that tells it
 entries-named : (w : List ℕ) (e : Entry) → List·Memᴰ e (entriesOf w) → named (e .kind) ≡ true

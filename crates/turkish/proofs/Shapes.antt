@@ -1,7 +1,7 @@
 -- The kinds of the marks that a command keeps, in order of running: one of the sequences that are computed from the command. For the
 -- stage these are 33, the empty one among them; no kind stands twice in one, and no two have the same kinds, in whatever order these are
 -- told. Assumes nothing.
-use Prim.Native.Nat.{ℕ}
+use Prim.Native.Nat.{ℕ, _-_}
 use mathlib.Core.Path.{_≡_, refl, ap}
 use mathlib.Core.Bool.{Bool, true, not, _&&_, _||_}
 use mathlib.Core.List.{List, [], _∷_, _++_, map, map-append, List·Memᴰ, List·Memᴰ·head, List·Memᴰ·tail, Memᴰ·cast, Memᴰ·append-left, Memᴰ·append-right, Memᴰ·map}
@@ -14,7 +14,8 @@ use Rattle.turkish.specs.Pieces.{kindNames, numberFrom, nameFrom, kindNa
 use Rattle.turkish.specs.Simple.Grammar.{Out, fail, took, Mark, markOf, Command, mark, _then_, _or_, nothing, unset, try}
 use Rattle.turkish.specs.Simple.Marks.{marked, yUm, sUn, yUz, sUnUz, lAr, nUz, DUr, cAsInA, yDU, ysA, ymUs, yken}
 use Rattle.turkish.specs.Simple.Stage.{person, branch1, branch2, branch3, branch4, branch5, branch6, branches}
-use Rattle.turkish.specs.Simple.Pieces.{Taken, Trace, none, keeps, total, moreTrace, afterTrace, firstTrace, traceOut, traceOf, trace, takenOf, stageMarks}
+use Rattle.turkish.specs.Simple.Pieces.{Taken, Trace, none, keeps, total, moreTrace, afterTrace, firstTrace, traceOut, traceOf, trace, takenOf, stageMarks, located}
+use Rattle.turkish.specs.PieceCalls.{Span, spanOf}
 use Rattle.turkish.proofs.Laws.Tests.{every, every-at}
 use Rattle.turkish.proofs.Laws.Members.{every-of, mem-has, without, distinct}
 use Rattle.turkish.proofs.PieceLines.{numberOf, named}
@@ -22,12 +23,12 @@ use Rattle.turkish.proofs.PieceLines.{numberOf, named}
 -- ---- the sequences ----
 
 -- each of one list followed by each of another
-crossed : List (List ℕ) → List (List ℕ) → List (List ℕ)
+unfoldable pub crossed : List (List ℕ) → List (List ℕ) → List (List ℕ)
 crossed [] ys = []
 crossed (x ∷ xs) ys = map (λ y. x ++ y) ys ++ crossed xs ys
 
 -- the sequences of kinds that a command may keep
-shapes : Command → List (List ℕ)
+unfoldable pub shapes : Command → List (List ℕ)
 shapes (mark m) = (m .kind ∷ []) ∷ []
 shapes (p then q) = crossed (shapes p) (shapes q)
 shapes (p or q) = shapes p ++ shapes q
@@ -35,7 +36,7 @@ shapes nothing = [] ∷ []
 shapes unset = [] ∷ []
 
 -- those of the stage, with none where it answers no
-pub endings : List (List ℕ)
+unfoldable pub endings : List (List ℕ)
 endings = [] ∷ shapes branches
 
 -- they are 33
@@ -149,3 +150,9 @@ stageMarks-ending cs = go (trace-shaped branches cs)
     go : {o : Trace} → Shaped (shapes branches) o → List·Memᴰ (kindsOf (takenOf o)) ([] ∷ shapes branches)
     go unfit = unfold takenOf in List·Memᴰ·head refl
     go (fits m) = unfold takenOf in List·Memᴰ·tail m
+
+-- the pieces of some marks have the marks' kinds
+pub kinds-located : (w : List ℕ) (n : ℕ) (ts : List Taken) → map (λ (p : Span). p .kind) (map (spanOf w) (located n ts)) ≡ kindsOf ts
+unfolding located spanOf
+kinds-located w n [] = refl
+kinds-located w n (t ∷ ts) = ap (λ (ks : List ℕ). t .kind ∷ ks) (kinds-located w (n - t .size) ts)

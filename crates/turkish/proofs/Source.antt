@@ -8,6 +8,7 @@ pub mod Marks
 pub mod NounMarks
 pub mod Stage
 pub mod Keeps
+pub mod Stops
 pub mod KeptMarks
 pub mod KeptStage
 pub mod Syllables

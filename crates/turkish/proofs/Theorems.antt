@@ -1,6 +1,6 @@
 -- The file to open first: what the definitions of turkish promise, in the words of the user's demands. Each theorem is proved in
 -- a line or two from the files named for what they prove. That the code gives these definitions' answers is the contracts' part.
--- What the calls give is what turkish.sbl's commands answer (specs: Snowball, Source, Answers, Pieces, Calls, PieceCalls); the code's own
+-- What the calls give is what turkish.sbl's commands answer (specs: Snowball, Source, Answers, Heard, Pieces, Calls, PieceCalls); the code's own
 -- contracts rest on simpler forms (Simple: Harmony, Grammar, Marks, Stage, Pieces, Postlude, NounMarks, Nouns, WholeRun), and that these are
 -- the same is proved here.
 -- Assumes nothing.
@@ -8,7 +8,7 @@ use Prim.Native.Nat.{ℕ, _+_, _*_, _≤_, _<_}
 use Prim.Native.Char.{code}
 use Prim.Native.String.{String}
 use mathlib.Core.Path.{_≡_, refl, sym, ap, _∙_}
-use mathlib.Core.Bool.{true, false, cond}
+use mathlib.Core.Bool.{Bool, true, false, cond, not}
 use mathlib.Core.List.{List, _++_, map, reverse, List·Memᴰ, List·Permᴰ}
 use mathlib.Core.Logic.{_↔_}
 use native.Mathlib.Omega.{arith}
@@ -17,18 +17,18 @@ use lib.Dec.{eqb}
 use Rattle.encoding.specs.Validity.{isText}
 use Rattle.encoding.specs.Encoding.{continuation}
 use Rattle.turkish.specs.Letters.{text, has, starts}
-use Rattle.turkish.specs.Snowball.{State, ahead, Result, done, failed, Direction, forward, backward, letters, deep, Command, define, _then_, try, literal, routine, itself, run}
+use Rattle.turkish.specs.Snowball.{State, ahead, place, Result, done, failed, Direction, forward, backward, letters, deep, Command, define, _then_, try, literal, routine, itself, run}
 use Rattle.turkish.specs.Source as source
 use Rattle.turkish.specs.Answers.{called, succeeded, left, syllableCheck, stemmed, suffixStage, repaired, postludeOf, uninflected, nounStage, wholeRun}
-use Rattle.turkish.specs.Pieces.{alone, withY, afterVowel, reading}
-use Rattle.turkish.specs.Simple.Harmony.{harmony, moreThanOneSyllable}
-use Rattle.turkish.specs.Simple.Grammar.{joining, markOf}
+use Rattle.turkish.specs.Pieces.{alone, withY, afterVowel, heardBy, reading}
+use Rattle.turkish.specs.Simple.Harmony.{harmonyFound, harmony, moreThanOneSyllable}
+use Rattle.turkish.specs.Simple.Grammar.{took, joining, Mark, markOf}
 use Rattle.turkish.specs.Simple.Marks.{byY, yUm, sUn, yUz, sUnUz, lAr, nUz, DUr, cAsInA, yDU, ysA, ymUs, yken}
 use Rattle.turkish.specs.Simple.NounMarks.{byN, byS, byU, possessives, sU, lArI, yU, nU, nUn, yA, nA, DA, ndA, DAn, ndAn, ylA, ki, ncA}
 use Rattle.turkish.specs.Simple.Stage.{stage, kept}
 use Rattle.turkish.specs.Simple.Nouns as nouns
 use Rattle.turkish.specs.Simple.WholeRun as whole
-use Rattle.turkish.specs.Simple.Pieces.{stageMarks, located}
+use Rattle.turkish.specs.Simple.Pieces.{stageMarks, heardAt, located}
 use Rattle.turkish.specs.Simple.Postlude.{reserved, appends, appendU, harden, postlude, postludeYes}
 use Rattle.turkish.specs.Simple.Tables.{Table, tables, nonzero}
 use Rattle.turkish.specs.Fold.{capitals01, foldBy}
@@ -38,9 +38,11 @@ use Rattle.turkish.specs.Calls.{nounText, nounRefusal, nounOut, wholeTex
 use Rattle.turkish.specs.NounParts.{NounPart}
 use Rattle.turkish.specs.PieceCalls.{Span, spansOf, given, mostPieces, piecesRoom, buffer, bufferOf, piecesRefusal, PiecesOut, textRoom, pieceLine, textOf}
 use Rattle.turkish.specs.PieceCalls.{piecesTextRefusal, piecesTextCall, PiecesTextOut, EndToEnd, between, covering, spelled, mostBytes}
+use Rattle.turkish.specs.HeardTerms.{TwoVowels, untestedEndings, kinds, FirstHarmonic, allMarks, KeyVowel}
 use Rattle.turkish.specs.Fronts.{mostRemoved, front, Pair, reachesReserved, passGives, SameAnswers, leftEmpty, oneOf}
 use Rattle.turkish.proofs.Source.Means.{settled, Means, takeIf}
 use Rattle.turkish.proofs.Source.Harmony.{harmony-means}
+use Rattle.turkish.proofs.Source.Stops.{harmony-heard}
 use Rattle.turkish.proofs.Source.Marks.{byY-means, yUm-means, sUn-means, yUz-means, sUnUz-means, lAr-means, nUz-means, DUr-means, cAsInA-means, yDU-means, ysA-means, ymUs-means, yken-means}
 use Rattle.turkish.proofs.Source.NounMarks.{possessives-means, sU-means, lArI-means, yU-means, nU-means, nUn-means, yA-means, nA-means, DA-means, ndA-means, DAn-means}
 use Rattle.turkish.proofs.Source.NounMarks.{ndAn-means, ylA-means, ki-means, ncA-means}
@@ -74,6 +76,8 @@ use Rattle.turkish.proofs.PostludeRules.{postlude-one}
 use Rattle.turkish.proofs.PieceTheorems.{at-most-three-pieces, kinds-1-to-12, end-to-end, together-removed, covered-once, pieces-within, joined-told, buffer-fits, buffer-bytes, text-fits}
 use Rattle.turkish.proofs.ReadBack.{lines-tell-word, texts-tell-word, calls-tell-word}
 use Rattle.turkish.proofs.PieceWords as PieceWords
+use Rattle.turkish.proofs.HeardTheorems.{harmony-finds, not-harmonic, none-tests, key-vowel}
+use Rattle.turkish.proofs.HeardWords as HeardWords
 use Rattle.turkish.proofs.Starred as Starred
 use Rattle.turkish.proofs.NounWords as NounWords
 
@@ -108,7 +112,8 @@ pub stage-of-source : (s : State) → s .cursor ≡ 0
     → stemmed (called backward source.stem-nominal-verb-suffixes s) ≡ record { yes = stage (s .text) .yes; text = kept (s .text); flag = stage (s .text) .flag }
 stage-of-source = stage-answers
 
--- entered so, it keeps the simple form's marks in the same order, each with its joint and between its places: the pieces of the ending
+-- entered so, it keeps the simple form's marks in the same order, each with its joint, what its harmony test found and between its places: the
+-- pieces of the ending
 pub pieces-of-source : (s : State) → s .cursor ≡ 0
     → reading backward failed source.stem-nominal-verb-suffixes s .kept ≡ located (length (s .text)) (stageMarks (s .text))
 pieces-of-source = keeps-of-source
@@ -127,6 +132,11 @@ postlude-of-source = postlude-answers
 -- harmony takes nothing, and succeeds where the simple form finds it
 pub harmony-of-source : Means backward source.check-vowel-harmony (λ cs. takeIf (harmony cs) 0)
 harmony-of-source = harmony-means
+
+-- and where it succeeds, its two walks stopped at the two vowels that the simple form finds
+pub harmony-stops-of-source : (self : State → Result) (s : State) → harmony (ahead s) ≡ true
+    → heardBy (reading backward self source.check-vowel-harmony s .stops) ≡ heardAt (place s) (harmonyFound (ahead s))
+harmony-stops-of-source = harmony-heard
 
 -- the optional letters: y, n and s after a vowel, U after a character that is none
 pub optional-letters-of-source : Means backward source.mark-suffix-with-optional-y-consonant (joining byY)
@@ -282,6 +292,33 @@ pub calls-read-back-one-way : (u v : List ℕ) {o p x y : List ℕ} → eqb (pie
     → PiecesTextOut u o x → PiecesTextOut v p y → stageText u ≡ stageText v
     → take (piecesTextCall u (length o) .length) x ≡ take (piecesTextCall v (length p) .length) y → u ≡ v
 calls-read-back-one-way = calls-tell-word
+
+-- ---- which vowels harmony found (document 02, request 5) ----
+
+-- words with what the stage's call gives of harmony, computed from turkish.sbl's own commands, and a refused one
+pub words-heard : HeardWords.Met HeardWords.table × HeardWords.RefusedMet
+words-heard = HeardWords.outcomes
+
+-- of the first piece, in order of running, that tests harmony: the offsets are the starts of the last vowel up to its end, which lies in it, and
+-- of the nearest of that vowel's partners before it; the word is a loan candidate exactly where some vowel stands between the two
+pub vowels-found : (w : List ℕ) → accepted w ≡ true → stageCall w .harmonic ≡ true
+    → (p : FirstHarmonic (spansOf w) (stageCall w .last)) × TwoVowels w (stageCall w .last) (stageCall w .partner) (p .it .last + 1) (stageCall w .loan)
+vowels-found = harmony-finds
+
+-- where no piece tests harmony, there are no offsets and no loan candidate
+pub no-vowels-found : (w : List ℕ) → stageCall w .harmonic ≡ false
+    → (stageCall w .last ≡ 0) × (stageCall w .partner ≡ 0) × (stageCall w .loan ≡ false)
+no-vowels-found = not-harmonic
+
+-- and that is so exactly for no ending, and for sUnUz, ysA or yken alone
+pub none-tests-harmony : (w : List ℕ) → accepted w ≡ true
+    → not (stageCall w .harmonic) ≡ oneOf untestedEndings (kinds (spansOf w))
+none-tests-harmony = none-tests
+
+-- for a mark that fits and tests harmony, of the suffix stage's or the noun stage's, the last vowel is its key's own
+pub last-vowel-is-the-key's : (m : Mark) → List·Memᴰ m allMarks → (cs : List ℕ) {k : ℕ} {f : Bool} → markOf m cs ≡ took k f → m .harmonic ≡ true
+    → KeyVowel (m .keys) cs k
+last-vowel-is-the-key's = key-vowel
 
 -- ---- the fold (document 02, request 2) ----
 

@@ -1,5 +1,5 @@
 -- What each call gives for a word of bytes, refused calls included, and what its lent output holds after it (document 01, "Whose
--- fault a refusal is" and "Syllable check, postlude, folding, word pass"; document 02, requests 2 and 4). The contracts cite these.
+-- fault a refusal is" and "Syllable check, postlude, folding, word pass"; document 02, requests 2, 4 and 5). The contracts cite these.
 -- Assumes nothing.
 use Prim.Native.Nat.{ℕ, _+_}
 use mathlib.Core.Bool.{Bool, false, cond}
@@ -17,6 +17,8 @@ use Rattle.turkish.specs.declared.answer.PassAnswer.{PassAnswer}
 use Rattle.turkish.specs.declared.answer.NounAnswer.{NounAnswer}
 use Rattle.turkish.specs.declared.answer.WholeAnswer.{WholeAnswer}
 use Rattle.turkish.specs.Answers.{syllableCheck, suffixStage, postludeOf, nounStage, wholeRun}
+use Rattle.turkish.specs.Heard.{Heard, unheard, heard, isHeard, loanIn}
+use Rattle.turkish.specs.Pieces.{stageHeard}
 use Rattle.turkish.specs.Fold.{fold}
 use Rattle.turkish.specs.WordPass.{pass}
 
@@ -74,11 +76,31 @@ stageText w = bytes (suffixStage (chars w) .text)
 unfoldable pub stagePart : List ℕ → List ℕ
 stagePart w = cond (accepted w) (stageText w) []
 
+-- the offsets of the two vowels that harmony found, 0 where it was not tested
+unfoldable pub lastOffset : List ℕ → Heard → ℕ
+lastOffset w unheard = 0
+lastOffset w (heard last partner) = offset w last
+
+unfoldable pub partnerOffset : List ℕ → Heard → ℕ
+partnerOffset w unheard = 0
+partnerOffset w (heard last partner) = offset w partner
+
 unfoldable pub stageCall : List ℕ → StageAnswer
 stageCall w =
+    let s = suffixStage (chars w) in
+    let h = stageHeard (chars w) in
     cond (accepted w)
-    (record { refusal = 0; length = length (stageText w); yes = suffixStage (chars w) .yes; flag = suffixStage (chars w) .flag })
-    (record { refusal = refusal w; length = 0; yes = false; flag = false })
+    (record {
+      refusal = 0;
+      length = length (stageText w);
+      yes = s .yes;
+      flag = s .flag;
+      harmonic = isHeard h;
+      last = lastOffset w h;
+      partner = partnerOffset w h;
+      loan = loanIn (chars w) h;
+    })
+    (record { refusal = refusal w; length = 0; yes = false; flag = false; harmonic = false; last = 0; partner = 0; loan = false })
 
 -- ---- postlude: an output of n + 2 bytes ----
 

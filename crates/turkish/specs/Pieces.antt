@@ -1,6 +1,6 @@
--- The pieces of an ending (document 02, request 1): the marks that a command keeps on the way that it takes, one more reading of the same
--- commands, which asks `run` which way that is. Assumes nothing.
-use Prim.Native.Nat.{ℕ, _+_}
+-- The pieces of an ending (document 02, request 1): the marks that a command keeps on the way that it takes, each with what its harmony test
+-- found (request 5); one more reading of the same commands, which asks `run` which way that is. Assumes nothing.
+use Prim.Native.Nat.{ℕ, _+_, _-_}
 use Prim.Native.String.{String}
 use mathlib.Core.Bool.{cond}
 use mathlib.Core.List.{List, [], _∷_, _++_, map}
@@ -12,6 +12,7 @@ use Rattle.turkish.specs.Snowball.{backwards, succeed, next, literal, gr
 use Rattle.turkish.specs.Snowball.{strlen==limit, routine, itself, run}
 use Rattle.turkish.specs.Source.{stem-nominal-verb-suffixes}
 use Rattle.turkish.specs.Answers.{entered}
+use Rattle.turkish.specs.Heard.{Heard, unheard, heard, orHeard}
 
 -- ---- the marks by number ----
 
@@ -44,21 +45,24 @@ pub data Joined : Type 0 where
   withY : Joined
   afterVowel : Joined
 
--- a mark kept: its kind, how it joined, and the places at which it was entered and left. A place is the number of characters before the
--- cursor, so the piece has the characters from `to` up to `from`.
+-- a mark kept: its kind, how it joined, what its harmony test found, and the places at which it was entered and left. A place is the number
+-- of characters before the cursor, so the piece has the characters from `to` up to `from`.
 pub record Kept : Type 0 where
   pub kind : ℕ
   pub joined : Joined
+  pub heard : Heard
   pub from : ℕ
   pub to : ℕ
 
--- what a command was seen to do on the way that it took: the joint that it found, and the marks that it kept, in order of running
+-- what a command was seen to do on the way that it took: the joint that it found, the places of the characters at which `goto` stopped, and
+-- the marks that it kept, all in order of running
 pub record Reading : Type 0 where
   pub joined : Joined
+  pub stops : List ℕ
   pub kept : List Kept
 
 unfoldable pub blank : Reading
-blank = record { joined = alone; kept = [] }
+blank = record { joined = alone; stops = []; kept = [] }
 
 -- ---- one command, then another ----
 
@@ -69,7 +73,7 @@ orJoined withY k = withY
 orJoined afterVowel k = afterVowel
 
 unfoldable pub readThen : Reading → Reading → Reading
-readThen a b = record { joined = orJoined (a .joined) (b .joined); kept = a .kept ++ b .kept }
+readThen a b = record { joined = orJoined (a .joined) (b .joined); stops = a .stops ++ b .stops; kept = a .kept ++ b .kept }
 
 -- on where the first succeeded
 unfoldable pub readAfter : Result → Reading → (State → Reading) → Reading
@@ -81,7 +85,18 @@ unfoldable pub readOr : ℕ → Result → Reading → (State → Reading) → R
 readOr c (done t) a f = a
 readOr c (failed t) a f = f (moveTo t c)
 
+-- `goto`, read backwards, stops behind a character, whose place is one less than the cursor's
+unfoldable pub stoppedAt : Result → Reading
+stoppedAt (done t) = record { joined = alone; stops = (place t - 1) ∷ []; kept = [] }
+stoppedAt (failed t) = blank
+
 -- ---- routines ----
+
+-- check_vowel_harmony stops twice: at the last vowel (line 114) and at its nearest partner (lines 116 to 123); nothing else in a mark does
+unfoldable pub heardBy : List ℕ → Heard
+heardBy [] = unheard
+heardBy (last ∷ []) = unheard
+heardBy (last ∷ partner ∷ stops) = heard last partner
 
 -- the optional y's routine joins with a y where it takes one
 unfoldable pub jointOf : State → State → Joined
@@ -89,12 +104,14 @@ jointOf s t = cond (ltb (s .cursor) (t .cursor)) withY afterVowel
 
 -- a mark keeps itself, as one piece
 unfoldable pub oneMark : ℕ → State → State → Reading → Reading
-oneMark k s t a = record { joined = alone; kept = record { kind = k; joined = a .joined; from = place s; to = place t } ∷ [] }
+oneMark k s t a =
+    let mark : Kept = record { kind = k; joined = a .joined; heard = heardBy (a .stops); from = place s; to = place t } in
+    record { joined = alone; stops = []; kept = mark ∷ [] }
 
 -- any other routine keeps what its commands keep; one that fails keeps nothing
 unfoldable pub readIn : String → State → Result → Reading → Reading
 readIn n s (done t) a =
-    cond (same (text "mark_suffix_with_optional_y_consonant") (text n)) (record { joined = jointOf s t; kept = [] })
+    cond (same (text "mark_suffix_with_optional_y_consonant") (text n)) (record { joined = jointOf s t; stops = []; kept = [] })
     (cond (eqb (kindOf n) 0) a (oneMark (kindOf n) s t a))
 readIn n s (failed t) a = blank
 
@@ -107,11 +124,11 @@ reading d self (define n p) s = readIn n s (run d self p s) (reading d self p s)
 reading d self (p then q) s = readAfter (run d self p s) (reading d self p s) (reading d self q)
 reading d self (p or q) s = readOr (s .cursor) (run d self p s) (reading d self p s) (reading d self q)
 reading d self (try p) s = readOr (s .cursor) (run d self p s) (reading d self p s) (λ t. blank)
--- the suffix stage has no mark inside any of the others
-reading d self (test p) s = blank
+reading d self (test p) s = reading d self p s
+reading d self (goto p) s = stoppedAt (run d self (goto p) s)
+-- the suffix stage has no mark, and no harmony test, inside any of the others
 reading d self (not p) s = blank
 reading d self («do» p) s = blank
-reading d self (goto p) s = blank
 reading d self (gopast p) s = blank
 reading d self (atleast n p) s = blank
 reading d self (backwards p) s = blank
@@ -139,3 +156,11 @@ reading d self itself s = blank
 -- the marks that the suffix stage keeps of a word, whose characters stand the last one first; none where it answers no
 unfoldable pub keptMarks : List ℕ → List Kept
 keptMarks cs = reading backward failed stem-nominal-verb-suffixes (entered cs) .kept
+
+-- what the first of them found that tests harmony
+unfoldable pub firstHeard : List Kept → Heard
+firstHeard [] = unheard
+firstHeard (k ∷ ks) = orHeard (k .heard) (firstHeard ks)
+
+unfoldable pub stageHeard : List ℕ → Heard
+stageHeard cs = firstHeard (keptMarks cs)

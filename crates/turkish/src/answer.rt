@@ -7,14 +7,19 @@ pub struct SyllableAnswer {
     pub yes: bool,
 }
 
-// The suffix stage: the kept text's length in bytes, whether an ending was removed, and whether noun stage and
-// postlude are due.
+// The suffix stage: the kept text's length in bytes, whether an ending was removed, and whether noun stage and postlude are due. Then whether
+// a piece of the ending tests harmony, and for the first that does the offsets at which the last vowel and its nearest partner start, and
+// whether a vowel stands between them: a loan candidate. 0 and no where none does.
 #[repr(C)]
 pub struct StageAnswer {
     pub refusal: u32,
     pub length: usize,
     pub yes: bool,
     pub flag: bool,
+    pub harmonic: bool,
+    pub last: usize,
+    pub partner: usize,
+    pub loan: bool,
 }
 
 // The postlude: its text's length, and no where the word is reserved.

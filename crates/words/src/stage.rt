@@ -17,7 +17,7 @@ pub fn stage_part(w: &[u8]) -> &[u8]
     &w[..kept]
 }
 
-// The kept text's length, yes or no, and the flag.
+// The kept text's length, yes or no, the flag, and what harmony found.
 pub fn stage_numbers(w: &[u8]) -> StageAnswer
     ensures { λ r. ⌜ r ≡ stageCall (now (w .entry)) ⌝ }
 {
@@ -28,6 +28,10 @@ pub fn stage_numbers(w: &[u8]) -> StageAnswer
             length: 0,
             yes: false,
             flag: false,
+            harmonic: false,
+            last: 0,
+            partner: 0,
+            loan: false,
         };
     }
     let s = stage::stem_nominal_verb_suffixes(w);
@@ -36,5 +40,9 @@ pub fn stage_numbers(w: &[u8]) -> StageAnswer
         length: s.kept,
         yes: s.yes,
         flag: s.flag,
+        harmonic: s.harmonic,
+        last: s.last,
+        partner: s.partner,
+        loan: s.loan,
     }
 }

@@ -2,7 +2,7 @@
 
 use crate::ffi::{
     self, FannavyFold, FannavyNoun, FannavyPass, FannavyPieces, FannavyPiecesText, FannavyPostlude,
-    FannavyStage, FannavySyllable, FannavyWhole, StagePart,
+    FannavyStage, FannavySyllable, FannavyWhole, StageKept, StagePart,
 };
 use crate::lent::Lent;
 use crate::list::List;
@@ -94,6 +94,10 @@ impl Call for FannavyStage {
             length: 0,
             yes: false,
             flag: false,
+            harmonic: false,
+            last: 0,
+            partner: 0,
+            loan: false,
         }
     }
 
@@ -106,6 +110,43 @@ impl Call for FannavyStage {
     }
 
     // The front part of the word.
+    fn text<'a>(&self, lent: &'a Lent, _: &'a Output) -> Option<&'a [u8]> {
+        lent.word().get(..self.length)
+    }
+}
+
+impl From<FannavyStage> for StageKept {
+    fn from(stage: FannavyStage) -> StageKept {
+        StageKept {
+            refusal: stage.refusal,
+            length: stage.length,
+            yes: stage.yes,
+            flag: stage.flag,
+        }
+    }
+}
+
+// The stage's call, of whose answer some fields are left out.
+impl Call for StageKept {
+    const NAME: &'static str = FannavyStage::NAME;
+    const NEED: Need = FannavyStage::NEED;
+
+    fn call(lent: &mut Lent, output: &mut Output) -> Self {
+        FannavyStage::call(lent, output).into()
+    }
+
+    fn refused(refusal: u32) -> Self {
+        FannavyStage::refused(refusal).into()
+    }
+
+    fn refusal(&self) -> u32 {
+        self.refusal
+    }
+
+    fn written(&self) -> usize {
+        0
+    }
+
     fn text<'a>(&self, lent: &'a Lent, _: &'a Output) -> Option<&'a [u8]> {
         lent.word().get(..self.length)
     }

@@ -16,6 +16,15 @@ pub struct ProbeStep {
     pub limit_backward: usize,
 }
 
+/// The suffix stage's answer as far as the crate's stage gives it too.
+#[derive(Clone, Copy, Debug, PartialEq)]
+pub struct StageKept {
+    pub refusal: u32,
+    pub length: usize,
+    pub yes: bool,
+    pub flag: bool,
+}
+
 /// The length of the suffix stage's part, which is copied to the output; 0 on a refusal.
 #[derive(Clone, Copy, Debug, PartialEq)]
 pub struct StagePart {

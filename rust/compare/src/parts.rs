@@ -4,6 +4,8 @@
 mod characters;
 mod check;
 mod fold;
+#[cfg(feature = "oracle")]
+mod harmony;
 mod limits;
 #[cfg(feature = "oracle")]
 mod literals;
@@ -148,6 +150,12 @@ pub const PARTS: &[Part] = &[
         name: "binding",
         what: "the binding's pieces and its own joinings, told by the first letter, with the crate's marks",
         run: Run::Words(pieces::binding),
+    },
+    #[cfg(feature = "oracle")]
+    Part {
+        name: "harmony",
+        what: "the suffix stage's vowels in harmony and loan candidate, with the crate's marks and groupings",
+        run: Run::Words(harmony::run),
     },
     Part {
         name: "fold",

@@ -16,6 +16,10 @@ pub struct FannavyStage {
     pub length: usize,
     pub yes: bool,
     pub flag: bool,
+    pub harmonic: bool,
+    pub last: usize,
+    pub partner: usize,
+    pub loan: bool,
 }
 
 #[repr(C)]

@@ -63,6 +63,15 @@ pub struct Stage<'a> {
     pub yes: bool,
     /// Whether stemming may go on: false only where the plural was removed from the very end.
     pub flag: bool,
+    /// Where two vowels of the word start, in bytes from the word's start, `(last, partner)`: the last
+    /// vowel up to the end of the ending's first piece, from the word's end inward, that tests vowel
+    /// harmony, and the nearest before it that is in harmony with it. `None` where no piece tests
+    /// harmony, so always where `yes` is false; every kind tests it but `SUnUz`, `CAsInA`, `YsA` and
+    /// `Yken` of [`Kind`].
+    pub harmony: Option<(usize, usize)>,
+    /// Whether the word is a loan candidate: some vowel stands between these two. False where `harmony`
+    /// is `None`.
+    pub loan: bool,
 }
 
 /// What the postlude answers.
@@ -130,6 +139,10 @@ pub fn syllable(word: &[u8]) -> Result<bool, Refusal> {
 /// assert_eq!(stage.kept, b"ev");
 /// assert!(stage.yes && !stage.flag);
 ///
+/// let stage = fannavy::stage("kalemlar".as_bytes())?;
+/// assert_eq!(stage.harmony, Some((6, 1)));
+/// assert!(stage.loan);
+///
 /// let stage = fannavy::stage("saatler".as_bytes())?;
 /// assert_eq!(stage.kept, b"saatler");
 /// assert!(!stage.yes && stage.flag);
@@ -145,6 +158,8 @@ pub fn stage(word: &[u8]) -> Result<Stage<'_>, Refusal> {
         kept: &word[..answer.length],
         yes: answer.yes,
         flag: answer.flag,
+        harmony: answer.harmonic.then_some((answer.last, answer.partner)),
+        loan: answer.loan,
     })
 }
 
@@ -342,6 +357,26 @@ mod tests {
         ] {
             assert!(HEADER.lines().any(|other| other == line), "no {line}");
         }
+    }
+
+    #[test]
+    fn a_stage_tells_its_harmony() {
+        for (word, harmony, loan) in [
+            ("", None, false),
+            ("saatler", None, false),
+            ("arabayken", None, false),
+            ("siniz", None, false),
+            ("evler", Some((3, 0)), false),
+            ("kalemlar", Some((6, 1)), true),
+            ("kanaddır", Some((6, 3)), false),
+            // Both pieces test harmony; of three only the innermost does.
+            ("kalemmışlar", Some((11, 6)), false),
+            ("kalemmışsınızcasına", Some((6, 1)), true),
+        ] {
+            let stage = stage(word.as_bytes()).expect("a word");
+            assert_eq!((stage.harmony, stage.loan), (harmony, loan), "{word}");
+        }
+        assert_eq!(stage(b"kalemlar\xFF"), Err(Refusal::NotUtf8));
     }
 
     #[test]

@@ -1,14 +1,17 @@
 //! The Turkish module of rust-stemmers 1.2.0 as an oracle: four of its stages by themselves, its whole
-//! run, the word pass composed of three stages, and the pieces that the suffix stage removes, by its
-//! marks one by one. The crate's files are read at build time and are not part of this repository.
+//! run, the word pass composed of three stages, the pieces that the suffix stage removes, by its marks
+//! one by one, and the vowels that their harmony tests find, by its groupings. The crate's files are
+//! read at build time and are not part of this repository.
 
 include!(concat!(env!("OUT_DIR"), "/snowball.rs"));
 
+mod harmony;
 mod pieces;
 
 use snowball::algorithms::turkish;
 use std::borrow::Cow;
 
+pub use harmony::{harmony, Harmony};
 pub use pieces::{pieces, Joined, Piece, Pieces};
 pub use snowball::algorithms::turkish::{keys, noun_keys};
 pub use snowball::SnowballEnv;

@@ -1,5 +1,5 @@
--- The part of a word from limit_backward on, as the code slices it: what stands before the cursor in it is what stands behind the
--- record, and the places of an open record lie within the word and its part. Assumes nothing.
+-- The part of a word from limit_backward on, as the code slices it: it is all from there on, and the places of an open record lie within the
+-- word and its part. Assumes nothing.
 use Prim.Native.Nat.{ℕ, _-_, _≤_}
 use mathlib.Core.Path.{_≡_, ap, _∙_}
 use mathlib.Core.List.{List}
@@ -7,8 +7,7 @@ use native.Mathlib.Omega.{arith}
 use lib.ListN.{length, take, drop, length-drop}
 use lib.Seq.{take-all}
 use Rattle.utf8.specs.declared.cursor.Cursor.{Cursor}
-use Rattle.utf8.specs.Characters.{before}
-use Rattle.utf8.specs.Behind.{behind, Open}
+use Rattle.utf8.specs.Behind.{Open}
 use Rattle.utf8.proofs.Laws.Steps.{stands-within}
 
 -- the slice `&w[low..]`
@@ -24,11 +23,6 @@ pub length-partFrom : (w : List ℕ) (low : ℕ) → length (partFrom w low) ≡
 length-partFrom w low = ap length (partFrom-drop w low) ∙ length-drop low w
 
 module _ (w : List ℕ) (c : Cursor) where
-  -- before the cursor's place in the part stands what is behind the record
-  pub before-part : before (partFrom w (c .«limit_backward»)) (c .cursor - c .«limit_backward») ≡ behind w c
-  unfolding behind
-  before-part = ap (λ (p : List ℕ). before p (c .cursor - c .«limit_backward»)) (partFrom-drop w (c .«limit_backward»))
-
   -- limit_backward of an open record lies within the word
   pub low-length-le : Open w c → c .«limit_backward» ≤ length w
   low-length-le o = let within = stands-within w c (o .within) in omega (arith, within .low, within .high, within .end)

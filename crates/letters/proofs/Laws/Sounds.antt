@@ -18,12 +18,6 @@ use Rattle.letters.specs.Sounds.{vowelOf, soundOf, partners}
 
 -- ---- lists of code points ----
 
--- where two tests agree on every character, some character passes the one where some passes the other
-any-same : (f g : ℕ → Bool) (cs : List ℕ) → ((c : ℕ) → f c ≡ g c) → any f cs ≡ any g cs
-unfolding any
-any-same f g [] h = refl
-any-same f g (c ∷ cs) h = rw (h c, any-same f g cs h)
-
 -- a test that no character of a list fails passes on each of them
 has-passes : (f : ℕ → Bool) (cs : List ℕ) (c : ℕ) → any (λ x. not (f x)) cs ≡ false → has cs c ≡ true → f c ≡ true
 unfolding has any
@@ -102,11 +96,11 @@ unfolding soundOf
 soundOf-ch ch v e = ap (λ (u : Vowel). u .ch) (chosen-aVowel (vowel ch) (vowelOf ch (partnersIn partnerTable ch)) v e .1) ∙ vowelOf-ch ch (partnersIn partnerTable ch)
 
 -- and its partners are that vowel's
-pub soundOf-partners : (ch : ℕ) (v : Vowel) (cs : List ℕ) → soundOf ch ≡ AVowel v → any (partners v) cs ≡ any (partner ch) cs
+pub soundOf-partner : (ch : ℕ) (v : Vowel) (c : ℕ) → soundOf ch ≡ AVowel v → partners v c ≡ partner ch c
 unfolding soundOf
-soundOf-partners ch v cs e =
+soundOf-partner ch v c e =
     let d = chosen-aVowel (vowel ch) (vowelOf ch (partnersIn partnerTable ch)) v e in
-    ap (λ (u : Vowel). any (partners u) cs) (d .1) ∙ any-same _ _ cs (λ c. vowelOf-partner ch c (d .0))
+    ap (λ (u : Vowel). partners u c) (d .1) ∙ vowelOf-partner ch c (d .0)
 
 -- a code point that is none of the eight vowels has no vowel's sound
 pub soundOf-none : (ch : ℕ) → (ch ≡ 0x61 → ⊥) → (ch ≡ 0x65 → ⊥) → (ch ≡ 0x69 → ⊥) → (ch ≡ 0x6F → ⊥)

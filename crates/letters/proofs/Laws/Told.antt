@@ -1,16 +1,13 @@
--- What is known of harmony before a record: nothing where it was not asked for, all where it was. Assumes nothing.
+-- What is known of harmony's yes or no before a record: nothing where it was not asked for, all where it was. Assumes nothing.
 use Prim.Native.Nat.{ℕ}
-use mathlib.Core.Path.{_≡_, refl, sym, ap, ap₂, subst}
+use mathlib.Core.Path.{_≡_, refl, ap, ap₂}
 use mathlib.Core.Bool.{Bool, true, false, false≢true}
-use mathlib.Core.List.{List, [], _∷_}
+use mathlib.Core.List.{List}
 use Rattle.utf8.specs.declared.cursor.Cursor.{Cursor}
 use Rattle.utf8.specs.Behind.{behind}
-use Rattle.encoding.proofs.Laws.Booleans.{cond-both}
 use Rattle.turkish.specs.Simple.Harmony.{harmony}
 use Rattle.letters.specs.declared.harmony.Told.{Told}
-use Rattle.letters.specs.declared.seen.Seen.{Seen}
-use Rattle.letters.specs.Ends.{someEnd}
-use Rattle.letters.specs.Told.{toldAt, Hears, unasked, toldAtEnd}
+use Rattle.letters.specs.Told.{toldAt, Hears}
 
 -- what is known: whether it was asked for, and whether it holds
 abbrev told : Bool → Bool → Told
@@ -39,10 +36,3 @@ told-holds w c e = ap (λ (x : Told). x .holds) e
 pub toldAt-harmony : (w : List ℕ) (c : Cursor) {b : Bool} → b ≡ harmony (behind w c) → told true b ≡ toldAt w c
 unfolding toldAt
 toldAt-harmony w c e = ap (told true) e
-
--- what is told at the word's end is true, whether or not harmony was asked for
-pub hears-toldAtEnd : (w : List ℕ) (s : Seen) {t : Told} → t ≡ toldAtEnd w s → Hears w (s .c) t
-unfolding toldAtEnd unasked
-hears-toldAtEnd w s e =
-    let ends = someEnd (11 ∷ 9 ∷ 5 ∷ 6 ∷ 7 ∷ 3 ∷ 2 ∷ 1 ∷ []) (s .last) (s .second) (s .third) in
-    subst (Hears w (s .c)) (sym e) (cond-both (Hears w (s .c)) ends (toldAt w (s .c)) unasked (hears-told w (s .c)) (hears-unasked w (s .c)))

@@ -16,7 +16,7 @@ use Rattle.utf8.proofs.Laws.Behind.{behind-backBy, backBy-add, moveTo-backBy, o
 use Rattle.turkish.specs.Letters.{starts}
 use Rattle.turkish.specs.Simple.Harmony.{harmony}
 use Rattle.turkish.specs.Simple.Grammar.{Out, fail, took, more, after, asking, among, Joint, joining, Mark, markOf}
-use Rattle.turkish.specs.Simple.Pieces.{Trace, none, keeps, total, firstTrace, traceOut, traceOf}
+use Rattle.turkish.specs.Simple.Pieces.{Trace, none, keeps, total, firstTrace, foundBy, traceOut, traceOf}
 use Rattle.turkish.proofs.Laws.Outcome.{Gives, unfit, fits}
 use Rattle.turkish.proofs.Laws.Traces.{traceOf-none}
 use Rattle.letters.specs.declared.among.Among.{Among}
@@ -25,11 +25,14 @@ use Rattle.marks.specs.declared.marked.Marked.the-variants.{To, Fails}
 use Rattle.letters.specs.declared.passed.Passed.{Passed}
 use Rattle.letters.specs.declared.seen.Seen.{Seen}
 use Rattle.letters.specs.Passed.{passedTo, notPassed, passes}
-use Rattle.marks.specs.Reach.{leading, reach}
+use Rattle.letters.specs.declared.harmony.Accord.{Accord}
+use Rattle.letters.specs.Accord.{noAccord, accordAt, passedOn}
+use Rattle.marks.specs.Reach.{leading, leadingAccord, reach}
 use Rattle.letters.specs.Numbered.{numbered, tabled, unharmonic, keyedBy, firstOf}
 use Rattle.letters.specs.Search.{foundFrom, found}
 use Rattle.letters.specs.Seen.{Sees}
 use Rattle.letters.specs.Ends.{mayEnd}
+use Rattle.letters.proofs.Laws.Accord.{accord-passedOn}
 use Rattle.letters.proofs.Laws.Ends.{asking-fail, test-sees, markOf-unharmonic, numbered-kind}
 
 -- ---- a key found, as the grammar's ----
@@ -104,12 +107,12 @@ module _ (ks : List (List ℕ)) (joint : Joint) (w : List ℕ) (c : Cursor) {a :
 
 -- ---- a mark of a group ----
 
--- a step that moved, as the record moved and the number of the mark that fits
-reach-passes : (w : List ℕ) (c : Cursor) (m : Mark) (k : ℕ) {o : Out} {p : Passed} {d : Cursor} → Gives (λ n f. m .kind ≡ k) o → p ≡ passes w c o
-    → p .moved ≡ true → d ≡ moveTo c (p .at) → To d k ≡ reach w c (traceOut m (behind w c) o)
-unfolding passes reach passedTo notPassed traceOut total leading
-reach-passes w c m k unfit e moved to = absurd (false≢true (sym (ap (λ (x : Passed). x .moved) e) ∙ moved))
-reach-passes w c m k {d = d} (fits n is) e moved to =
+-- a step that moved, as the record moved, the number of the mark that fits and what it passes on
+reach-passes : (w : List ℕ) (c : Cursor) (m : Mark) (k : ℕ) {o : Out} {p : Passed} {d : Cursor} {t : Accord} → Gives (λ n f. m .kind ≡ k) o → p ≡ passes w c o
+    → p .moved ≡ true → d ≡ moveTo c (p .at) → t ≡ passedOn w c (foundBy (m .harmonic) (behind w c)) → To d k t ≡ reach w c (traceOut m (behind w c) o)
+unfolding passes reach passedTo notPassed traceOut total leading leadingAccord
+reach-passes w c m k unfit e moved to heard = absurd (false≢true (sym (ap (λ (x : Passed). x .moved) e) ∙ moved))
+reach-passes w c m k {d = d} (fits n is) e moved to heard =
     let there : d ≡ backBy w c (n + 0) = to ∙ ap (λ (x : Passed). moveTo c (x .at)) e ∙ moveTo-backBy w c n ∙ ap (backBy w c) (sym (add-zero n)) in
     cc
 
@@ -120,7 +123,7 @@ passes-not w c fail e m = refl
 passes-not w c (took k f) e m = absurd (false≢true (sym m ∙ ap (λ (x : Passed). x .moved) e))
 
 -- what the first takes, the group does
-reach-first : (w : List ℕ) (c : Cursor) (o q : Trace) {r : Cursor} {k : ℕ} → To r k ≡ reach w c o → To r k ≡ reach w c (firstTrace o q)
+reach-first : (w : List ℕ) (c : Cursor) (o q : Trace) {r : Cursor} {k : ℕ} {t : Accord} → To r k t ≡ reach w c o → To r k t ≡ reach w c (firstTrace o q)
 unfolding firstTrace reach
 reach-first w c none q e = let z : _≡_ {A = ℕ} 0 1 = cc in absurd (omega arith)
 reach-first w c (keeps ts f) q e = e
@@ -136,8 +139,8 @@ module _ (w : List ℕ) (c : Cursor) (k : ℕ) {p : Passed} (is : p ≡ passes w
       ∙ asking-fail (not (numbered k .harmonic) || harmony (behind w c)))
 
   -- with them it takes what they take, if it tests no harmony or harmony holds
-  pub traceOf-took : p .moved ≡ true → not (numbered k .harmonic) || harmony (behind w c) ≡ true → {d : Cursor} → d ≡ moveTo c (p .at)
-      → To d k ≡ reach w c (traceOf (numbered k) (behind w c))
+  pub traceOf-took : p .moved ≡ true → not (numbered k .harmonic) || harmony (behind w c) ≡ true → {d : Cursor} {t : Accord} → d ≡ moveTo c (p .at)
+      → t ≡ passedOn w c (foundBy (numbered k .harmonic) (behind w c)) → To d k t ≡ reach w c (traceOf (numbered k) (behind w c))
   unfolding asking traceOf
   traceOf-took m h =
       reach-passes w c (numbered k) k (numbered-kind k (behind w c)) (is ∙ ap (passes w c) (sym (markOf-unharmonic (numbered k) (behind w c) ∙ rw h))) m
@@ -161,8 +164,8 @@ module _ (w : List ℕ) (c : Cursor) (group : List ℕ) (i : ℕ) (inside : i < 
   firstOf-next e = ap (reach w c) (sym (firstOf-at ∙ rw e))
 
   -- one that fits is the group's first
-  pub firstOf-took : {r : Cursor} {k : ℕ} → To r k ≡ reach w c (traceOf (numbered (getD group i 0)) (behind w c))
-      → To r k ≡ reach w c (firstOf (drop i group) (behind w c))
+  pub firstOf-took : {r : Cursor} {k : ℕ} {t : Accord} → To r k t ≡ reach w c (traceOf (numbered (getD group i 0)) (behind w c))
+      → To r k t ≡ reach w c (firstOf (drop i group) (behind w c))
   firstOf-took e = reach-first w c _ _ e ∙ ap (reach w c) (sym firstOf-at)
 
 -- where no mark is left none fits
@@ -182,6 +185,16 @@ agrees-free cs e = rw e
 -- one that tests it agrees where harmony holds
 pub agrees-bound : {h : Bool} (cs : List ℕ) → h ≡ true → not h || harmony cs ≡ harmony cs
 agrees-bound cs e = rw e
+
+-- a mark that tests no harmony passes nothing on
+pub passes-free : (w : List ℕ) (c : Cursor) {h : Bool} → h ≡ false → noAccord ≡ passedOn w c (foundBy h (behind w c))
+unfolding foundBy passedOn
+passes-free w c e = rw e
+
+-- one that tests it passes on what it was told
+pub passes-bound : (w : List ℕ) (c : Cursor) {h : Bool} {t : Accord} → h ≡ true → t ≡ accordAt w c → t .holds ≡ true → t ≡ passedOn w c (foundBy h (behind w c))
+unfolding foundBy
+passes-bound w c e is holds = rw e (accord-passedOn w c is holds)
 
 -- a mark but yken has its keys in a table
 pub tabled-found : (w : List ℕ) (c : Cursor) {k : ℕ} {a : Among} → (k ≡ 12 → ⊥) → a ≡ found (tabled k) w c → a ≡ found (numbered k .keys) w c

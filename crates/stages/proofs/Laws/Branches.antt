@@ -24,11 +24,11 @@ use Rattle.letters.proofs.Laws.Ends.{someEnd-unfit}
 use Rattle.letters.proofs.Laws.Sees.{seen-c}
 use Rattle.marks.specs.declared.marked.Marked.{Marked}
 use Rattle.marks.specs.Reach.{reach}
-use Rattle.stages.specs.declared.trail.Trail.{Trail}
+use Rattle.stages.specs.declared.trail.Way.{Way}
 use Rattle.stages.specs.declared.trail.Tried.{Tried}
 use Rattle.stages.specs.declared.trail.Branch.{Branch}
 use Rattle.stages.specs.declared.trail.Branch.the-variants.{Fits, Unfit}
-use Rattle.stages.specs.Trail.{trailOf, cutTo, triedTo}
+use Rattle.stages.specs.Trail.{trailOf, heardAlong, wayOf, cutTo, triedTo}
 use Rattle.stages.specs.Outcome.{whole, outcomeOf, uncut, cut}
 use Rattle.stages.proofs.Laws.Trails.{Steps, steps-try, fits-unfit}
 
@@ -70,7 +70,7 @@ module _ (cs : List ℕ) where
 
 -- a person's ending tried is a step
 pub steps-person : (w : List ℕ) (c : Cursor) {p : Tried} → Open w c → p ≡ triedTo w c (firstOf (4 ∷ 5 ∷ 1 ∷ 2 ∷ 3 ∷ []) (behind w c))
-    → Steps w c (trace person (behind w c)) (p .c) (p .kind)
+    → Steps w c (trace person (behind w c)) (p .c) (p .kind) (p .told)
 steps-person w c = steps-try w c (4 ∷ 5 ∷ 1 ∷ 2 ∷ 3 ∷ []) (person-first (behind w c))
 
 -- ---- what is seen from a record ----
@@ -90,11 +90,11 @@ reach-seen w c q e is = is ∙ ap (λ (x : Cursor). reach w x (q (behind w x))) 
 -- ---- the stage ----
 
 -- a branch that is cut keeps these marks, and its flag is f
-record Cut (w : List ℕ) (c : Cursor) (o : Trace) (f : Bool) (d : Cursor) (t : Trail) : Type 0 where
+record Cut (w : List ℕ) (c : Cursor) (o : Trace) (f : Bool) (d : Cursor) (t : Way) : Type 0 where
   marks : List Taken
   keeps-is : o ≡ keeps marks f
   there : d .limit ≡ backBy w c (total marks) .cursor
-  along-is : t ≡ trailOf w c marks
+  along-is : t ≡ wayOf w c marks
 
 -- an answer that is known to leave the flag at f, and that takes some, has the flag f
 flagged-took : (o : Out) {f g : Bool} {k : ℕ} → Flagged f o → o ≡ took k g → g ≡ f
@@ -102,7 +102,7 @@ flagged-took o unfit e = let z : _≡_ {A = ℕ} 0 1 = cc in absurd (omega arith
 flagged-took o (fits k h) e = cc
 
 -- a branch whose flag is known, taken apart
-cut-fits : (w : List ℕ) (c : Cursor) (o : Trace) {f : Bool} {b : Branch} {d : Cursor} {t : Trail} → Flagged f (summed o) → b ≡ cutTo w c o → b ≡ Fits d t
+cut-fits : (w : List ℕ) (c : Cursor) (o : Trace) {f : Bool} {b : Branch} {d : Cursor} {t : Way} → Flagged f (summed o) → b ≡ cutTo w c o → b ≡ Fits d t
     → Cut w c o f d t
 unfolding cutTo deleted summed
 cut-fits w c none flag is to = fits-unfit to is
@@ -117,15 +117,15 @@ cut-unfit w c none is fails = refl
 cut-unfit w c (keeps ts f) is fails = fits-unfit is fails
 
 -- the stage's answer where a branch fits
-outcome-keeps : (w : List ℕ) {o : Trace} {f : Bool} {d : Cursor} {t : Trail} (a : Cut w (whole w) o f d t) → trace branches (chars w) ≡ keeps (a .marks) f
+outcome-keeps : (w : List ℕ) {o : Trace} {f : Bool} {d : Cursor} {t : Way} (a : Cut w (whole w) o f d t) → trace branches (chars w) ≡ keeps (a .marks) f
     → cut d t f ≡ outcomeOf w
-unfolding outcomeOf keptLength stage staged stageMarks takenOf summed cut whole
+unfolding outcomeOf keptLength stage staged stageMarks takenOf summed cut whole wayOf
 outcome-keeps w a e =
     rw (run-trace branches (chars w), e, a .there, a .along-is, backBy-back w (length w) (length w) (total (a .marks)))
 
 -- and where none does
 pub outcome-none : (w : List ℕ) → trace branches (chars w) ≡ none → uncut (length w) ≡ outcomeOf w
-unfolding outcomeOf keptLength stage staged stageMarks takenOf summed back trailOf uncut
+unfolding outcomeOf keptLength stage staged stageMarks takenOf summed back trailOf heardAlong uncut
 outcome-none w e = rw (run-trace branches (chars w), e)
 
 -- ---- at the word's end ----
@@ -161,7 +161,7 @@ module _ (w : List ℕ) {s : Seen} (is : s ≡ seenAt w (whole w)) where
     pub outcome-unfit : r ≡ Unfit → trace branches (chars w) ≡ trace b (chars w) → uncut (length w) ≡ outcomeOf w
     outcome-unfit fails left = outcome-none w (left ∙ cut-unfit w (whole w) (trace b (chars w)) (at-end b e) fails)
 
-    module _ {f : Bool} {d : Cursor} {t : Trail} (flag : Flagged f (run b (chars w))) (to : r ≡ Fits d t) where
+    module _ {f : Bool} {d : Cursor} {t : Way} (flag : Flagged f (run b (chars w))) (to : r ≡ Fits d t) where
       -- the branch that fits, taken apart
       cuts : Cut w (whole w) (trace b (chars w)) f d t
       cuts = cut-fits w (whole w) (trace b (chars w)) (rw (run-trace b (chars w)) at flag) (at-end b e) to

@@ -1,7 +1,7 @@
 -- A step of a branch: a mark, or a group tried, takes a record to another, and the marks kept from there on stand behind it. With it what
 -- a command answers by itself, and what one answers after a step. Assumes nothing.
 use Prim.Native.Nat.{ℕ}
-use mathlib.Core.Path.{_≡_, refl, sym, ap, _∙_}
+use mathlib.Core.Path.{_≡_, refl, sym, ap, ap₂, _∙_}
 use mathlib.Core.Bool.{Bool, true}
 use mathlib.Core.List.{List, [], _∷_, _++_, append-nil}
 use native.Mathlib.Nat.{add-zero}
@@ -11,18 +11,22 @@ use Rattle.utf8.specs.declared.cursor.Cursor.{Cursor}
 use Rattle.utf8.specs.Steps.{moveTo}
 use Rattle.utf8.specs.Behind.{behind, backBy, deleted, Open}
 use Rattle.utf8.proofs.Laws.Behind.{behind-backBy, backBy-add, backBy-zero, open-backBy, open-deleted}
+use Rattle.turkish.specs.Simple.Harmony.{Found, nowhere, at}
 use Rattle.turkish.specs.Simple.Grammar.{Out, fail, took, Mark, markOf}
 use Rattle.turkish.specs.Simple.Pieces.{Taken, Trace, none, keeps, total, moreTrace, afterTrace, firstTrace, traceOut, traceOf}
 use Rattle.turkish.proofs.Laws.Traces.{total-append}
 use Rattle.letters.specs.Numbered.{numbered, firstOf}
 use Rattle.marks.specs.declared.marked.Marked.{Marked}
 use Rattle.marks.specs.declared.marked.Marked.the-variants.{To, Fails}
-use Rattle.marks.specs.Reach.{leading, reach}
+use Rattle.letters.specs.declared.harmony.Accord.{Accord}
+use Rattle.letters.specs.Accord.{noAccord, accordOf, passedOn, orAccord}
+use Rattle.marks.specs.Reach.{leading, leadingAccord, reach}
 use Rattle.stages.specs.declared.trail.Trail.{Trail}
+use Rattle.stages.specs.declared.trail.Way.{Way}
 use Rattle.stages.specs.declared.trail.Tried.{Tried}
 use Rattle.stages.specs.declared.trail.Branch.{Branch}
 use Rattle.stages.specs.declared.trail.Branch.the-variants.{Fits, Unfit}
-use Rattle.stages.specs.Trail.{noTrail, behindTrail, trailOf, along, cutTo, triedTo}
+use Rattle.stages.specs.Trail.{behindTrail, trailOf, heardAlong, wayOf, noWay, behindWay, along, cutTo, triedTo}
 
 -- ---- one mark ----
 
@@ -51,54 +55,55 @@ one-group (k ∷ ks) cs = one-first (one-out (numbered k) cs (markOf (numbered k
 
 -- ---- a step ----
 
--- an answer that takes record c to record d, and behind whose number the marks kept from d on stand; number 0 is none
-pub record Steps (w : List ℕ) (c : Cursor) (o : Trace) (d : Cursor) (k : ℕ) : Type 0 where
+-- an answer that takes record c to record d, and behind whose number and finding what is kept from d on stands; number 0 is none
+pub record Steps (w : List ℕ) (c : Cursor) (o : Trace) (d : Cursor) (k : ℕ) (h : Accord) : Type 0 where
   marks : List Taken
   flag : Bool
   keeps-is : o ≡ keeps marks flag
   there : d ≡ backBy w c (total marks)
-  goes-on : (ts : List Taken) → behindTrail k (d .cursor) (trailOf w d ts) ≡ trailOf w c (marks ++ ts)
+  goes-on : (ts : List Taken) → behindWay k (d .cursor) h (wayOf w d ts) ≡ wayOf w c (marks ++ ts)
 
 -- one mark taken is a step
-steps-taken : (w : List ℕ) (c : Cursor) (t : Taken) (f : Bool) {d : Cursor} {k : ℕ} → d ≡ backBy w c (total (t ∷ [])) → k ≡ t .kind
-    → Steps w c (keeps (t ∷ []) f) d k
-unfolding total trailOf
-steps-taken w c t f d k =
+steps-taken : (w : List ℕ) (c : Cursor) (t : Taken) (f : Bool) {d : Cursor} {k : ℕ} {h : Accord} → d ≡ backBy w c (total (t ∷ [])) → k ≡ t .kind
+    → h ≡ passedOn w c (t .found) → Steps w c (keeps (t ∷ []) f) d k h
+unfolding total wayOf trailOf heardAlong behindWay
+steps-taken w c t f d k h =
     let there = d ∙ ap (backBy w c) (add-zero (t .size)) in
-    record { marks = t ∷ []; flag = f; keeps-is = refl; there = d; goes-on = λ ts. rw (there, k) }
+    record { marks = t ∷ []; flag = f; keeps-is = refl; there = d; goes-on = λ ts. rw (there, k, h) }
 
 -- no answer both reaches and fails
-to-fails : {A : Type 0} {d : Cursor} {k : ℕ} {r : Marked} → r ≡ To d k → r ≡ Fails → A
+to-fails : {A : Type 0} {d : Cursor} {k : ℕ} {h : Accord} {r : Marked} → r ≡ To d k h → r ≡ Fails → A
 to-fails to fails = let z : _≡_ {A = ℕ} 0 1 = cc in absurd (omega arith)
 
 -- an answer of one mark that reaches a record is a step to it
-steps-one : (w : List ℕ) (c : Cursor) {o : Trace} {r : Marked} {d : Cursor} {k : ℕ} → One o → r ≡ reach w c o → r ≡ To d k → Steps w c o d k
-unfolding reach leading
+steps-one : (w : List ℕ) (c : Cursor) {o : Trace} {r : Marked} {d : Cursor} {k : ℕ} {h : Accord} → One o → r ≡ reach w c o → r ≡ To d k h → Steps w c o d k h
+unfolding reach leading leadingAccord
 steps-one w c failing is to = to-fails to is
-steps-one w c (single t f) is to = steps-taken w c t f (cc) (cc)
+steps-one w c (single t f) is to = steps-taken w c t f (cc) (cc) (cc)
 
 -- so is a mark that does
-pub steps-mark : (w : List ℕ) (c : Cursor) (m : Mark) {r : Marked} {d : Cursor} {k : ℕ} → r ≡ reach w c (traceOf m (behind w c)) → r ≡ To d k
-    → Steps w c (traceOf m (behind w c)) d k
+pub steps-mark : (w : List ℕ) (c : Cursor) (m : Mark) {r : Marked} {d : Cursor} {k : ℕ} {h : Accord} → r ≡ reach w c (traceOf m (behind w c)) → r ≡ To d k h
+    → Steps w c (traceOf m (behind w c)) d k h
 unfolding traceOf
 steps-mark w c m = steps-one w c (one-out m (behind w c) (markOf m (behind w c)))
 
 -- and a group, whichever way it is written
-pub steps-group : (w : List ℕ) (c : Cursor) (ks : List ℕ) {o : Trace} {r : Marked} {d : Cursor} {k : ℕ} → firstOf ks (behind w c) ≡ o
-    → r ≡ reach w c (firstOf ks (behind w c)) → r ≡ To d k → Steps w c o d k
+pub steps-group : (w : List ℕ) (c : Cursor) (ks : List ℕ) {o : Trace} {r : Marked} {d : Cursor} {k : ℕ} {h : Accord} → firstOf ks (behind w c) ≡ o
+    → r ≡ reach w c (firstOf ks (behind w c)) → r ≡ To d k h → Steps w c o d k h
 steps-group w c ks same is to = rw same at (steps-one w c (one-group ks (behind w c)) is to)
 
 -- what is tried is a step to where it leaves the record
 steps-tried : (w : List ℕ) (c : Cursor) {o : Trace} {p : Tried} → One o → Open w c → p ≡ triedTo w c o
-    → Steps w c (firstTrace o (keeps [] true)) (p .c) (p .kind)
-unfolding triedTo firstTrace behindTrail leading total
+    → Steps w c (firstTrace o (keeps [] true)) (p .c) (p .kind) (p .told)
+unfolding triedTo firstTrace behindWay behindTrail wayOf noAccord orAccord leading leadingAccord total
 steps-tried w c failing opens is =
     rw is (record { marks = []; flag = true; keeps-is = refl; there = sym (backBy-zero w c opens); goes-on = λ ts. refl })
-steps-tried w c (single t f) opens is = steps-taken w c t f (ap (λ (x : Tried). x .c) is) (ap (λ (x : Tried). x .kind) is)
+steps-tried w c (single t f) opens is =
+    steps-taken w c t f (ap (λ (x : Tried). x .c) is) (ap (λ (x : Tried). x .kind) is) (ap (λ (x : Tried). x .told) is)
 
 -- so is a group tried, whichever way it is written
 pub steps-try : (w : List ℕ) (c : Cursor) (ks : List ℕ) {o : Trace} {p : Tried} → firstTrace (firstOf ks (behind w c)) (keeps [] true) ≡ o → Open w c
-    → p ≡ triedTo w c (firstOf ks (behind w c)) → Steps w c o (p .c) (p .kind)
+    → p ≡ triedTo w c (firstOf ks (behind w c)) → Steps w c o (p .c) (p .kind) (p .told)
 steps-try w c ks same opens is = rw same at (steps-tried w c (one-group ks (behind w c)) opens is)
 
 -- ---- what a command answers ----
@@ -110,22 +115,23 @@ reach-fails w c none is fails = refl
 reach-fails w c (keeps ts f) is fails = to-fails is fails
 
 -- what is tried leaves the record where it is if it fails
-pub tried-fails : (w : List ℕ) (c : Cursor) (o : Trace) {r : Marked} → r ≡ reach w c o → r ≡ Fails → record { c = c; kind = 0 } ≡ triedTo w c o
+pub tried-fails : (w : List ℕ) (c : Cursor) (o : Trace) {r : Marked} → r ≡ reach w c o → r ≡ Fails → record { c = c; kind = 0; told = noAccord } ≡ triedTo w c o
 unfolding triedTo
 tried-fails w c o is fails = sym (ap (triedTo w c) (reach-fails w c o is fails))
 
 -- and at the one that it reaches if it fits
-pub tried-to : (w : List ℕ) (c : Cursor) (o : Trace) {r : Marked} {d : Cursor} {k : ℕ} → r ≡ reach w c o → r ≡ To d k → record { c = d; kind = k } ≡ triedTo w c o
+pub tried-to : (w : List ℕ) (c : Cursor) (o : Trace) {r : Marked} {d : Cursor} {k : ℕ} {h : Accord} → r ≡ reach w c o → r ≡ To d k h
+    → record { c = d; kind = k; told = h } ≡ triedTo w c o
 unfolding reach triedTo
 tried-to w c none is to = to-fails to is
 tried-to w c (keeps ts f) is to = cc
 
 -- equal records and marks make equal answers
-fits-same : {d e : Cursor} {t u : Trail} → d ≡ e → t ≡ u → Fits d t ≡ Fits e u
+fits-same : {d e : Cursor} {t u : Way} → d ≡ e → t ≡ u → Fits d t ≡ Fits e u
 fits-same d t = cc
 
 -- no answer both fits and does not
-pub fits-unfit : {A : Type 0} {d : Cursor} {t : Trail} {b : Branch} → b ≡ Fits d t → b ≡ Unfit → A
+pub fits-unfit : {A : Type 0} {d : Cursor} {t : Way} {b : Branch} → b ≡ Fits d t → b ≡ Unfit → A
 fits-unfit fits unfit = let z : _≡_ {A = ℕ} 0 1 = cc in absurd (omega arith)
 
 -- one that does not fit keeps nothing
@@ -145,16 +151,16 @@ unfolding cutTo
 cut-none w c o e = sym (ap (cutTo w c) e)
 
 -- a command that fits, fits before any other
-first-along : (w : List ℕ) (c : Cursor) (o q : Trace) {d : Cursor} {t : Trail} → Fits d t ≡ along w c o → Fits d t ≡ along w c (firstTrace o q)
+first-along : (w : List ℕ) (c : Cursor) (o q : Trace) {d : Cursor} {t : Way} → Fits d t ≡ along w c o → Fits d t ≡ along w c (firstTrace o q)
 unfolding along firstTrace
 first-along w c none q is = fits-unfit refl is
 first-along w c (keeps ts f) q is = is
 
 -- one that may fail and does leaves the record where it is
-stays-along : (w : List ℕ) (c : Cursor) (o : Trace) → Open w c → o ≡ none → Fits c noTrail ≡ along w c (firstTrace o (keeps [] true))
-unfolding along firstTrace trailOf total
+stays-along : (w : List ℕ) (c : Cursor) (o : Trace) → Open w c → o ≡ none → Fits c noWay ≡ along w c (firstTrace o (keeps [] true))
+unfolding along firstTrace wayOf noWay trailOf heardAlong total
 stays-along w c o opens e =
-    ap (λ (x : Cursor). Fits x noTrail) (sym (backBy-zero w c opens)) ∙ sym (ap (λ (x : Trace). along w c (firstTrace x (keeps [] true))) e)
+    ap (λ (x : Cursor). Fits x noWay) (sym (backBy-zero w c opens)) ∙ sym (ap (λ (x : Trace). along w c (firstTrace x (keeps [] true))) e)
 
 -- ---- a deletion ----
 
@@ -170,7 +176,7 @@ cutOff-along w c none = refl
 cutOff-along w c (keeps ts f) = refl
 
 -- a command that fits, and what follows from where it leads deleted
-cut-along : (w : List ℕ) (c : Cursor) (o : Trace) {d e : Cursor} {t : Trail} → Fits d t ≡ along w c o → e ≡ deleted d → Fits e t ≡ cutTo w c o
+cut-along : (w : List ℕ) (c : Cursor) (o : Trace) {d e : Cursor} {t : Way} → Fits d t ≡ along w c o → e ≡ deleted d → Fits e t ≡ cutTo w c o
 unfolding cutOff
 cut-along w c o {t = t} is e = ap (λ (x : Cursor). Fits x t) e ∙ ap cutOff is ∙ cutOff-along w c o
 
@@ -181,24 +187,37 @@ unfolding trailOf backBy moveTo
 trailOf-limit w c n [] = refl
 trailOf-limit w c n (t ∷ ts) = ap (behindTrail (t .kind) (backBy w c (t .size) .cursor)) (trailOf-limit w (backBy w c (t .size)) n ts)
 
+-- nor to what they found
+heardAlong-limit : (w : List ℕ) (c : Cursor) (n : ℕ) (ts : List Taken)
+    → heardAlong w (record { cursor = c .cursor; limit = n; «limit_backward» = c .«limit_backward» }) ts ≡ heardAlong w c ts
+unfolding heardAlong backBy moveTo
+heardAlong-limit w c n [] = refl
+heardAlong-limit w c n (t ∷ ts) = ap₂ orAccord (here (t .found)) (heardAlong-limit w (backBy w c (t .size)) n ts)
+  where
+    here : (f : Found) → passedOn w (record { cursor = c .cursor; limit = n; «limit_backward» = c .«limit_backward» }) f ≡ passedOn w c f
+    here nowhere = unfold passedOn in refl
+    here (at l p) = unfold passedOn accordOf backBy moveTo behind in refl
+
 -- so a command is cut alike after a deletion
 cutTo-deleted : (w : List ℕ) (c : Cursor) (o : Trace) → cutTo w (deleted c) o ≡ cutTo w c o
-unfolding cutTo deleted backBy moveTo
+unfolding cutTo deleted backBy moveTo wayOf
 cutTo-deleted w c none = refl
-cutTo-deleted w c (keeps ts f) = ap (Fits (deleted (backBy w c (total ts)))) (trailOf-limit w c (c .cursor) ts)
+cutTo-deleted w c (keeps ts f) =
+    ap₂ (λ (t : Trail) (h : Accord). Fits (deleted (backBy w c (total ts))) (record { heard = h; trail = t }))
+    (trailOf-limit w c (c .cursor) ts) (heardAlong-limit w c (c .cursor) ts)
 
 -- ---- what it answers after a step ----
 
 -- an answer behind one more mark
-behindBranch : ℕ → ℕ → Branch → Branch
-behindBranch k at (Fits c t) = Fits c (behindTrail k at t)
-behindBranch k at Unfit = Unfit
+behindBranch : ℕ → ℕ → Accord → Branch → Branch
+behindBranch k from h (Fits c t) = Fits c (behindWay k from h t)
+behindBranch k from h Unfit = Unfit
 
 -- the deletion may come before or after
-cutOff-behind : (k at : ℕ) (b : Branch) → cutOff (behindBranch k at b) ≡ behindBranch k at (cutOff b)
+cutOff-behind : (k from : ℕ) (h : Accord) (b : Branch) → cutOff (behindBranch k from h b) ≡ behindBranch k from h (cutOff b)
 unfolding cutOff behindBranch
-cutOff-behind k at (Fits c t) = refl
-cutOff-behind k at Unfit = refl
+cutOff-behind k from h (Fits c t) = refl
+cutOff-behind k from h Unfit = refl
 
 -- where the first of two keeps nothing, nor do both
 pub after-none : (o : Trace) (q : ℕ → Trace) → o ≡ none → afterTrace o q ≡ none
@@ -209,7 +228,7 @@ after-none o q e = ap (λ (x : Trace). afterTrace x q) e
 abbrev pub thenTry : List ℕ → Cursor → Trace → (List ℕ → Trace) → Trace
 thenTry w c o q = afterTrace o (λ k. firstTrace (q (drop k (behind w c))) (keeps [] true))
 
-module _ (w : List ℕ) (c : Cursor) {o : Trace} {d : Cursor} {k : ℕ} (s : Steps w c o d k) where
+module _ (w : List ℕ) (c : Cursor) {o : Trace} {d : Cursor} {k : ℕ} {h : Accord} (s : Steps w c o d k h) where
   -- a step leaves an open record open
   pub open-step : Open w c → Open w d
   open-step opens = rw (s .there) (open-backBy w c (total (s .marks)) opens)
@@ -219,17 +238,17 @@ module _ (w : List ℕ) (c : Cursor) {o : Trace} {d : Cursor} {k : ℕ} (s : Ste
   open-cut e opens = rw e (open-deleted w d (open-step opens))
 
   -- what it answers by itself
-  pub along-step : {t : Trail} → t ≡ behindTrail k (d .cursor) noTrail → Fits d t ≡ along w c o
-  unfolding along trailOf
+  pub along-step : {t : Way} → t ≡ behindWay k (d .cursor) h noWay → Fits d t ≡ along w c o
+  unfolding along wayOf noWay trailOf heardAlong
   along-step is =
-      fits-same (s .there) (is ∙ s .goes-on [] ∙ ap (trailOf w c) (append-nil (s .marks))) ∙ sym (ap (along w c) (s .keeps-is))
+      fits-same (s .there) (is ∙ s .goes-on [] ∙ ap (wayOf w c) (append-nil (s .marks))) ∙ sym (ap (along w c) (s .keeps-is))
 
   -- and with all from there on deleted
-  pub cut-step : {e : Cursor} {t : Trail} → e ≡ deleted d → t ≡ behindTrail k (d .cursor) noTrail → Fits e t ≡ cutTo w c o
+  pub cut-step : {e : Cursor} {t : Way} → e ≡ deleted d → t ≡ behindWay k (d .cursor) h noWay → Fits e t ≡ cutTo w c o
   cut-step e t = cut-along w c o (along-step t) e
 
   -- an answer from where it leads
-  along-more : (x : Trace) → behindBranch k (d .cursor) (along w d x) ≡ along w c (moreTrace (s .marks) (s .flag) x)
+  along-more : (x : Trace) → behindBranch k (d .cursor) h (along w d x) ≡ along w c (moreTrace (s .marks) (s .flag) x)
   unfolding behindBranch along moreTrace
   along-more none = refl
   along-more (keeps us g) =
@@ -239,40 +258,40 @@ module _ (w : List ℕ) (c : Cursor) {o : Trace} {d : Cursor} {k : ℕ} (s : Ste
 
   module _ (q : List ℕ → Trace) where
     -- a command goes on from where the step leads
-    along-after : behindBranch k (d .cursor) (along w d (q (behind w d))) ≡ along w c (afterTrace o (λ n. q (drop n (behind w c))))
+    along-after : behindBranch k (d .cursor) h (along w d (q (behind w d))) ≡ along w c (afterTrace o (λ n. q (drop n (behind w c))))
     unfolding afterTrace
     along-after =
         let n = total (s .marks) in
-        ap (λ (cs : List ℕ). behindBranch k (d .cursor) (along w d (q cs))) (ap (behind w) (s .there) ∙ behind-backBy w c n)
+        ap (λ (cs : List ℕ). behindBranch k (d .cursor) h (along w d (q cs))) (ap (behind w) (s .there) ∙ behind-backBy w c n)
         ∙ along-more (q (drop n (behind w c)))
         ∙ sym (ap (λ (x : Trace). along w c (afterTrace x (λ j. q (drop j (behind w c))))) (s .keeps-is))
 
     -- where it keeps nothing, nor do both
     pub then-none : q (behind w d) ≡ none → afterTrace o (λ n. q (drop n (behind w c))) ≡ none
     unfolding along behindBranch
-    then-none e = along-unfit w c _ along-after (ap (λ (x : Trace). behindBranch k (d .cursor) (along w d x)) e)
+    then-none e = along-unfit w c _ along-after (ap (λ (x : Trace). behindBranch k (d .cursor) h (along w d x)) e)
 
     -- where it fits, its marks stand behind the step's
-    pub then-along : {e : Cursor} {t u : Trail} → Fits e t ≡ along w d (q (behind w d)) → u ≡ behindTrail k (d .cursor) t
+    pub then-along : {e : Cursor} {t u : Way} → Fits e t ≡ along w d (q (behind w d)) → u ≡ behindWay k (d .cursor) h t
         → Fits e u ≡ along w c (afterTrace o (λ n. q (drop n (behind w c))))
     unfolding behindBranch
-    then-along {e} is u = ap (Fits e) u ∙ ap (behindBranch k (d .cursor)) is ∙ along-after
+    then-along {e} is u = ap (Fits e) u ∙ ap (behindBranch k (d .cursor) h) is ∙ along-after
 
     -- and cut from where it leads
-    cut-after : {e : Cursor} {t u : Trail} → Fits e t ≡ cutTo w d (q (behind w d)) → u ≡ behindTrail k (d .cursor) t
+    cut-after : {e : Cursor} {t u : Way} → Fits e t ≡ cutTo w d (q (behind w d)) → u ≡ behindWay k (d .cursor) h t
         → Fits e u ≡ cutTo w c (afterTrace o (λ n. q (drop n (behind w c))))
     unfolding behindBranch
     cut-after {e} is u =
-        ap (Fits e) u ∙ ap (behindBranch k (d .cursor)) (is ∙ sym (cutOff-along w d (q (behind w d))))
-        ∙ sym (cutOff-behind k (d .cursor) (along w d (q (behind w d)))) ∙ ap cutOff along-after ∙ cutOff-along w c _
+        ap (Fits e) u ∙ ap (behindBranch k (d .cursor) h) (is ∙ sym (cutOff-along w d (q (behind w d))))
+        ∙ sym (cutOff-behind k (d .cursor) h (along w d (q (behind w d)))) ∙ ap cutOff along-after ∙ cutOff-along w c _
 
     -- all from where both lead deleted
-    pub then-cut : {e f : Cursor} {t u : Trail} → Fits e t ≡ along w d (q (behind w d)) → f ≡ deleted e → u ≡ behindTrail k (d .cursor) t
+    pub then-cut : {e f : Cursor} {t u : Way} → Fits e t ≡ along w d (q (behind w d)) → f ≡ deleted e → u ≡ behindWay k (d .cursor) h t
         → Fits f u ≡ cutTo w c (afterTrace o (λ n. q (drop n (behind w c))))
     then-cut is f u = cut-after (cut-along w d (q (behind w d)) is f) u
 
     -- and so where all from the step on was deleted before
-    pub then-deleted : {e f g : Cursor} {t u : Trail} → e ≡ deleted d → Fits f t ≡ along w e (q (behind w e)) → g ≡ deleted f → u ≡ behindTrail k (d .cursor) t
+    pub then-deleted : {e f g : Cursor} {t u : Way} → e ≡ deleted d → Fits f t ≡ along w e (q (behind w e)) → g ≡ deleted f → u ≡ behindWay k (d .cursor) h t
         → Fits g u ≡ cutTo w c (afterTrace o (λ n. q (drop n (behind w c))))
     unfolding behind deleted
     then-deleted e is g u =
@@ -281,12 +300,12 @@ module _ (w : List ℕ) (c : Cursor) {o : Trace} {d : Cursor} {k : ℕ} (s : Ste
 
   module _ (q : List ℕ → Trace) {e : Cursor} (gone : e ≡ deleted d) where
     -- a command that may fail after the step's deletion: where it fits
-    pub try-cut : {f g : Cursor} {t u : Trail} → Fits f t ≡ along w e (q (behind w e)) → g ≡ deleted f → u ≡ behindTrail k (d .cursor) t
+    pub try-cut : {f g : Cursor} {t u : Way} → Fits f t ≡ along w e (q (behind w e)) → g ≡ deleted f → u ≡ behindWay k (d .cursor) h t
         → Fits g u ≡ cutTo w c (thenTry w c o q)
     try-cut is = then-deleted (λ cs. firstTrace (q cs) (keeps [] true)) gone (first-along w e (q (behind w e)) (keeps [] true) is)
 
     -- and where it keeps nothing
-    pub try-none : Open w c → q (behind w e) ≡ none → {u : Trail} → u ≡ behindTrail k (d .cursor) noTrail → Fits e u ≡ cutTo w c (thenTry w c o q)
+    pub try-none : Open w c → q (behind w e) ≡ none → {u : Way} → u ≡ behindWay k (d .cursor) h noWay → Fits e u ≡ cutTo w c (thenTry w c o q)
     unfolding deleted
     try-none opens fails =
         then-deleted (λ cs. firstTrace (q cs) (keeps [] true)) gone (stays-along w e (q (behind w e)) (open-cut gone opens) fails)

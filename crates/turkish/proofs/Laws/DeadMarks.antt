@@ -7,7 +7,7 @@ use mathlib.Core.List.{List, [], _∷_, _++_}
 use lib.ListN.{length, drop}
 use Rattle.turkish.specs.Letters.{text, fromEnd, any, has, starts}
 use Rattle.turkish.specs.Vowels.{vowels, vowel, lastVowel, beforeLastVowel}
-use Rattle.turkish.specs.Simple.Harmony.{partnerTable, partnersIn, partner, harmony}
+use Rattle.turkish.specs.Simple.Harmony.{partnerTable, partnersIn, partner, harmonyFound, isFound, harmony}
 use Rattle.turkish.specs.Simple.Grammar.{Out, fail, took, more, after, asking, among, optional, joining, markOf}
 use Rattle.turkish.specs.Simple.Marks.{unjoined, marked}
 use Rattle.turkish.specs.Simple.NounMarks.{byS, lettersU, sU, lArI, DA, ndA}
@@ -51,7 +51,7 @@ ndA-behind-DA cs e = go (harmony cs) e
 -- leri and ları end in i and ı, in harmony with the vowel before them, which is the second character back as sU's joint asks
 pub lArI-behind-sU : (cs : List ℕ) → markOf sU cs ≡ fail → markOf lArI cs ≡ fail
 unfolding markOf sU lArI marked lettersU byS unjoined joining optional asking among after more starts fromEnd text has any vowel vowels lastVowel beforeLastVowel
-    harmony partner partnersIn partnerTable
+    harmony harmonyFound isFound partner partnersIn partnerTable
 lArI-behind-sU cs e =
     neither-fits (fromEnd "leri") (fromEnd "ları") cs (λ k. took 0 true)
     (not-begun (markOf sU) (fromEnd "leri") cs (λ rest. refl) e) (not-begun (markOf sU) (fromEnd "ları") cs (λ rest. refl) e)

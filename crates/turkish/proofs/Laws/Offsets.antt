@@ -3,14 +3,15 @@
 use Prim.Native.Nat.{ℕ, suc, _+_, _-_, _≤_, _<_}
 use mathlib.Core.Path.{_≡_, refl, sym, ap, _∙_}
 use mathlib.Core.Bool.{Bool, true, cond}
-use mathlib.Core.List.{List, [], _∷_, _++_, reverse, reverse-append, reverse-cons}
+use mathlib.Core.List.{List, [], _∷_, _++_, append-assoc, reverse, reverse-append, reverse-cons}
 use native.Mathlib.Nat.{add-zero}
 use native.Mathlib.Omega.{arith}
 use lib.ListN.{length, take, drop, getD, length-append, length-drop, length-reverse, take-append-drop}
-use lib.Seq.{take-add, take-at, length-take-le, split-at, append-snoc, getD-at, getD-append-add, getD-drop}
+use lib.Seq.{take-add, take-at, drop-at, length-take-le, split-at, append-snoc, getD-at, getD-append-add, getD-drop}
 use lib.Dec.{eqb}
 use borrow.Author.Tests.{ne-eqb}
 use Rattle.encoding.specs.Encoding.{encode, encodeAll}
+use Rattle.encoding.proofs.Laws.Booleans.{lt-or-le}
 use Rattle.encoding.proofs.Laws.Encoding.{encode-elim}
 use Rattle.encoding.proofs.Laws.Decoding.{length-encode-pos}
 use Rattle.utf8.specs.Characters.{back}
@@ -31,6 +32,20 @@ module _ {A : Type 0} where
   take-reverse k l =
       let whole : reverse l ≡ reverse (drop k l) ++ reverse (take k l) = ap reverse (sym (take-append-drop k l)) ∙ reverse-append (take k l) (drop k l) in
       ap (take (length l - k)) whole ∙ take-at (reverse (drop k l)) (reverse (take k l)) (length l - k) (length-reverse (drop k l) ∙ length-drop k l)
+
+  -- a part of a list in reverse is, in reverse, a part of the list
+  pub part-reverse : (i j : ℕ) (l : List A) → i + j ≤ length l → take j (drop (length l - (i + j)) (reverse l)) ≡ reverse (take j (drop i l))
+  part-reverse i j l h =
+      let d = drop i l in
+      let part = reverse (take j d) in
+      let before = reverse (drop j d) in
+      let behind = reverse (take i l) in
+      let parts : reverse (take i l ++ (take j d ++ drop j d)) ≡ before ++ (part ++ behind) = simp (reverse-append, append-assoc) in
+      let whole : reverse l ≡ before ++ (part ++ behind) =
+      ap reverse (sym (take-append-drop i l) ∙ ap (λ (r : List A). take i l ++ r) (sym (take-append-drop j d))) ∙ parts in
+      let left : length before ≡ length l - (i + j) = omega (arith, length-reverse (drop j d), length-drop j d, length-drop i l) in
+      let size : length part ≡ j = omega (arith, length-reverse (take j d), length-take-le j d (omega (arith, length-drop i l))) in
+      rw (whole, drop-at before (part ++ behind) (length l - (i + j)) left, take-at part behind j size)
 
   -- what has n before it in the reverse has n behind it in the list
   pub getD-reverse : (l : List A) (n : ℕ) (d : A) → n < length l → getD (reverse l) n d ≡ getD l (length l - (n + 1)) d
@@ -81,6 +96,12 @@ offset-mono w m n h k =
     let t : take n ds ≡ take m ds ++ take (n - m) (drop m ds) = ap (λ (i : ℕ). take i ds) e ∙ take-add m (n - m) ds in
     let p : 0 < length (encodeAll (take (n - m) (drop m ds))) = encodeAll-pos (take (n - m) (drop m ds)) (omega arith) in
     rw (t, encodeAll-append, length-append) (omega arith)
+
+-- one that is no earlier has no fewer
+pub offset-le : (w : List ℕ) (m n : ℕ) → m ≤ n → n ≤ length (chars w) → offset w m ≤ offset w n
+offset-le w m n h k =
+    lt-or-le m n (λ l. omega (arith, offset-mono w m n l k))
+    (λ g. let e : m ≡ n = omega arith in let d : offset w m ≡ offset w n = ap (offset w) e in omega arith)
 
 -- ---- the character at a byte ----
 

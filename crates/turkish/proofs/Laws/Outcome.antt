@@ -32,6 +32,10 @@ pub post-all : {P : ℕ → Bool → Type 0} (o : Out) → ((k : ℕ) (f : Bool)
 post-all fail h = unfit
 post-all (took k f) h = fits k (h k f)
 
+-- what P says of an answer that does not fail
+pub post-took : {P : ℕ → Bool → Type 0} {k : ℕ} {f : Bool} → Gives P (took k f) → P k f
+post-took (fits k p) = p
+
 -- what P says of the answer, Q says too
 pub post-map : {P Q : ℕ → Bool → Type 0} {o : Out} → ((k : ℕ) (f : Bool) → P k f → Q k f) → Gives P o → Gives Q o
 post-map h unfit = unfit

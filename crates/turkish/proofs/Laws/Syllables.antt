@@ -2,7 +2,7 @@
 -- Assumes nothing.
 use Prim.Native.Nat.{ℕ}
 use mathlib.Core.Path.{_≡_, refl, sym, ap, ap₂, _∙_}
-use mathlib.Core.Bool.{Bool, true, false, cond, not, _&&_, _||_, true≢false, false≢true, or-assoc}
+use mathlib.Core.Bool.{Bool, true, false, cond, not, _&&_, _||_, true≢false, false≢true}
 use mathlib.Core.List.{List, [], _∷_, _++_}
 use mathlib.Mathlib.Data.Bool.Basic.{eq-false-of-not-eq-true, or-eq-false-eq-eq-false-and-eq-false as or-no}
 use lib.ListN.{length, drop}
@@ -15,7 +15,7 @@ use Rattle.turkish.specs.Simple.Harmony.{partner, harmony, moreThanOneSy
 use Rattle.turkish.specs.Simple.Grammar.{Out, fail, more, after, first, asking, among, Joint, optional, joining, markOf, Command, mark, _then_, _or_, nothing, unset, try, run}
 use Rattle.turkish.specs.Simple.Marks.{unjoined, byY, marked, yUm, sUn, yUz, sUnUz, lAr, nUz, DUr, cAsInA, yDU, ysA, ymUs, yken}
 use Rattle.turkish.specs.Simple.Stage.{person, branch1, branch2, branch3, branch4, branch5, branch6, branches, staged, stage}
-use Rattle.turkish.proofs.Laws.Tests.{every}
+use Rattle.turkish.proofs.Laws.Tests.{every, any-append}
 use Rattle.turkish.proofs.Laws.Harmony.{harmony-any}
 use Rattle.turkish.proofs.Laws.Vowels.{partner-vowel}
 
@@ -43,12 +43,6 @@ starts-split [] cs e = refl
 starts-split (k ∷ ks) [] e = absurd (false≢true e)
 starts-split (k ∷ ks) (c ∷ cs) e =
     ap₂ _∷_ (eqb-true k c (and-left (eqb k c) (starts ks cs) e)) (starts-split ks cs (and-right (eqb k c) (starts ks cs) e))
-
--- a character of two texts joined is one of either
-pub any-append : (f : ℕ → Bool) (cs ds : List ℕ) → any f (cs ++ ds) ≡ (any f cs || any f ds)
-unfolding any
-any-append f [] ds = refl
-any-append f (c ∷ cs) ds = rw (any-append f cs ds) (sym (or-assoc (f c) (any f cs) (any f ds)))
 
 -- two vowels in two texts joined stand both in the first, one in each or both in the second
 pub moreThanOneSyllable-append : (cs ds : List ℕ)

@@ -1,9 +1,9 @@
--- The members of a list that all pass one test, the characters of which some passes one, and a test for equality both ways round.
--- Assumes nothing.
+-- The members of a list that all pass one test, the characters of which some passes one, a test for equality both ways round, and tests
+-- that answer alike. Assumes nothing.
 use Prim.Native.Nat.{ℕ, zero, suc}
 use mathlib.Core.Path.{_≡_, refl, sym, ap, _∙_}
-use mathlib.Core.Bool.{Bool, true, false, _&&_, _||_, false≢true}
-use mathlib.Core.List.{List, [], _∷_, List·Memᴰ, List·Memᴰ·head, List·Memᴰ·tail}
+use mathlib.Core.Bool.{Bool, true, false, cond, not, _&&_, _||_, or-assoc, or-comm, or-false, false≢true}
+use mathlib.Core.List.{List, [], _∷_, _++_, reverse, reverse-cons, List·Memᴰ, List·Memᴰ·head, List·Memᴰ·tail}
 use lib.ListN.{getD}
 use lib.Dec.{eqb}
 use borrow.Author.Tests.{eqb-true, eqb-false, eq-eqb, ne-eqb}
@@ -17,6 +17,18 @@ eqb-comm a b = go (eqb a b) refl
     go : (t : Bool) → eqb a b ≡ t → t ≡ eqb b a
     go true e = sym (eq-eqb b a (sym (eqb-true a b e)))
     go false e = sym (ne-eqb b a (λ p. eqb-false a b e (sym p)))
+
+-- two tests answer alike
+unfoldable pub agrees : Bool → Bool → Bool
+agrees a b = cond a b (not b)
+
+-- so their answers are equal
+pub agrees-equal : (a b : Bool) → agrees a b ≡ true → a ≡ b
+unfolding agrees
+agrees-equal true true e = refl
+agrees-equal true false e = sym e
+agrees-equal false true e = e
+agrees-equal false false e = refl
 
 module _ {A : Type 0} where
   -- every member passes
@@ -54,6 +66,18 @@ module _ (f : ℕ → Bool) where
   pub any-none : {l : List ℕ} → l ≡ [] → false ≡ any f l
   unfolding any
   any-none e = rw e
+
+-- one of two texts joined is one of either
+pub any-append : (f : ℕ → Bool) (cs ds : List ℕ) → any f (cs ++ ds) ≡ (any f cs || any f ds)
+unfolding any
+any-append f [] ds = refl
+any-append f (c ∷ cs) ds = rw (any-append f cs ds) (sym (or-assoc (f c) (any f cs) (any f ds)))
+
+-- one that passes a test does so in either direction
+pub any-reverse : (f : ℕ → Bool) (cs : List ℕ) → any f (reverse cs) ≡ any f cs
+unfolding any
+any-reverse f [] = refl
+any-reverse f (c ∷ cs) = rw (reverse-cons, any-append, any-reverse f cs, or-false) (or-comm (any f cs) (f c))
 
 -- where none is x, the first one is not, and none of the others is
 pub has-none : (x c : ℕ) (cs : List ℕ) → has (c ∷ cs) x ≡ false → (c ≡ x → ⊥) × (has cs x ≡ false)

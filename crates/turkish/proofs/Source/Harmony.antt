@@ -11,34 +11,17 @@ use lib.Dec.{eqb}
 use borrow.Author.Tests.{eqb-true}
 use Rattle.turkish.specs.Letters.{text, fromEnd, any, has, starts}
 use Rattle.turkish.specs.Vowels.{vowels, vowel, lastVowel, beforeLastVowel}
-use Rattle.turkish.specs.Simple.Harmony.{partnerTable, partnersIn, partner, harmony}
-use Rattle.turkish.specs.Simple.Grammar.{Out, fail, took, more, after, first, optional}
+use Rattle.turkish.specs.Simple.Harmony.{partnerTable, partnersIn, partner, toFirst, harmony}
+use Rattle.turkish.specs.Simple.Grammar.{Out, fail, more, after, first, optional}
 use Rattle.turkish.specs.Snowball.{isIn, isLeft, backward, letters, Command, _then_, _or_, test, not, goto, next, literal, grouping}
 use Rattle.turkish.specs.Source.{vowel1, vowel2, vowel3, vowel4, vowel5, vowel6, check-vowel-harmony, mark-suffix-with-optional-y-consonant}
 use Rattle.turkish.specs.Source as Source
-use Rattle.turkish.proofs.Laws.Harmony.{harmony-any}
+use Rattle.turkish.proofs.Laws.Harmony.{harmony-any, beforeLastVowel-none, lastVowel-vowel}
 use Rattle.turkish.proofs.Laws.Outcome.{first-fail}
 use Rattle.turkish.proofs.Laws.Tests.{eqb-comm}
-use Rattle.turkish.proofs.Source.Means.{Means, means-define, means-as, means-then, means-or, means-test, means-not, means-next, means-literal, means-grouping, means-goto}
-use Rattle.turkish.proofs.Source.Means.{takeIf, peeked, peeked-more, denied, sought}
-use Rattle.turkish.proofs.Source.LastVowel.{beforeLastVowel-none, lastVowel-vowel, means-test-goto-vowel}
-
--- ---- a walk to a character of a grouping ----
-
--- the walk of goto: nothing is taken where a character of the grouping stands
-unfoldable pub walk : List ℕ → List ℕ → Out
-walk g cs = sought (λ cs. peeked (takeIf (isIn g cs) 1)) cs
-
--- it succeeds where one stands anywhere ahead
-peeked-walk : (g cs : List ℕ) → peeked (walk g cs) ≡ takeIf (any (has g) cs) 0
-unfolding walk sought isIn takeIf peeked first any
-peeked-walk g [] = refl
-peeked-walk g (c ∷ cs) = go (has g c) (peeked-more 1 true (walk g cs) ∙ peeked-walk g cs)
-  where
-    go : (t : Bool) → peeked (more 1 true (walk g cs)) ≡ takeIf (any (has g) cs) 0
-        → peeked (first (peeked (cond t (took 1 true) fail)) (more 1 true (walk g cs))) ≡ cond (t || any (has g) cs) (took 0 true) fail
-    go true r = refl
-    go false r = r
+use Rattle.turkish.proofs.Source.Means.{Means, means-define, means-as, means-then, means-or, means-test, means-not, means-next, means-literal, means-grouping}
+use Rattle.turkish.proofs.Source.Means.{takeIf, peeked, denied}
+use Rattle.turkish.proofs.Source.LastVowel.{walk, means-walk, walk-toFirst, means-test-goto-vowel}
 
 -- ---- harmony ----
 
@@ -68,45 +51,58 @@ partners cs =
     first (partnerAhead "a" vowel1 cs) (first (partnerAhead "e" vowel2 cs) (first (partnerAhead "ı" vowel3 cs) (first (partnerAhead "i" vowel4 cs)
     (first (partnerAhead "o" vowel5 cs) (first (partnerAhead "ö" vowel6 cs) (first (partnerAhead "u" vowel5 cs) (partnerAhead "ü" vowel6 cs)))))))
 
--- the one of them that begins with the vowel tests that a character of its grouping stands behind it
-partner-there : (g cs : List ℕ) → peeked (more 1 true (walk g cs)) ≡ takeIf (any (has g) cs) 0
-partner-there g cs = peeked-more 1 true (walk g cs) ∙ peeked-walk g cs
+-- where the one of them that begins with the vowel fails, the others fail
+partner-else : (g cs : List ℕ) → first (more 1 true (walk g cs)) fail ≡ takeIf (any (has g) cs) (toFirst (has g) cs)
+partner-else g cs = first-fail (more 1 true (walk g cs)) ∙ walk-toFirst g cs
 
--- and where it fails, the others fail
-partner-else : (g cs : List ℕ) → peeked (first (more 1 true (walk g cs)) fail) ≡ takeIf (any (has g) cs) 0
-partner-else g cs = ap peeked (first-fail (more 1 true (walk g cs))) ∙ partner-there g cs
-
--- so at a vowel they test that one of its partners stands behind it
-partners-vowel : (cs : List ℕ) (c : ℕ) → vowel c ≡ true → peeked (partners (c ∷ cs)) ≡ takeIf (any (partner c) cs) 0
+-- so at a vowel they go as far as its first partner behind it
+pub partners-vowel : (cs : List ℕ) (c : ℕ) → vowel c ≡ true → partners (c ∷ cs) ≡ takeIf (any (partner c) cs) (toFirst (partner c) cs)
 unfolding vowel vowels partners partnerAhead letters fromEnd text starts takeIf after first partner partnersIn partnerTable
 partners-vowel cs c h =
-    each-has {P = λ c. peeked (partners (c ∷ cs)) ≡ takeIf (any (partner c) cs) 0} c
+    each-has {P = λ c. partners (c ∷ cs) ≡ takeIf (any (partner c) cs) (toFirst (partner c) cs)} c
     (partner-else (text vowel1) cs ⊹ partner-else (text vowel2) cs ⊹ partner-else (text vowel3) cs ⊹ partner-else (text vowel4) cs
-    ⊹ partner-else (text vowel5) cs ⊹ partner-else (text vowel6) cs ⊹ partner-else (text vowel5) cs ⊹ partner-there (text vowel6) cs ⊹ none) h
+    ⊹ partner-else (text vowel5) cs ⊹ partner-else (text vowel6) cs ⊹ partner-else (text vowel5) cs ⊹ walk-toFirst (text vowel6) cs ⊹ none) h
 
--- and behind a walk to the last vowel, that there is harmony
+-- and behind a walk to the last vowel they test that there is harmony
 partners-last : (cs : List ℕ) → cond (any vowel cs) (peeked (partners (lastVowel cs ∷ beforeLastVowel cs))) fail ≡ takeIf (harmony cs) 0
-unfolding takeIf any
+unfolding takeIf peeked any
 partners-last cs = rw (harmony-any cs) (go (any vowel cs) refl)
   where
+    looked : (b : Bool) (n : ℕ) → peeked (takeIf b n) ≡ takeIf b 0
+    looked true n = refl
+    looked false n = refl
+
     go : (t : Bool) → any vowel cs ≡ t
         → cond t (peeked (partners (lastVowel cs ∷ beforeLastVowel cs))) fail ≡ takeIf (any (partner (lastVowel cs)) (beforeLastVowel cs)) 0
-    go true e = partners-vowel (beforeLastVowel cs) (lastVowel cs) (lastVowel-vowel cs e)
+    go true e =
+        let some = any (partner (lastVowel cs)) (beforeLastVowel cs) in
+        ap peeked (partners-vowel (beforeLastVowel cs) (lastVowel cs) (lastVowel-vowel cs e)) ∙ looked some (toFirst (partner (lastVowel cs)) (beforeLastVowel cs))
     go false e = rw (beforeLastVowel-none cs e)
 
 -- a line of the source, from 116 to 123
-alternative : (v g : String) → Means backward (literal v then goto (grouping g)) (partnerAhead v g)
-unfolding partnerAhead walk
-alternative v g = means-then (means-literal v) (means-goto (means-grouping g))
+abbrev pub line : String → String → Command
+line v g = literal v then goto (grouping g)
+
+-- and all eight
+abbrev pub lines : Command
+lines = line "a" vowel1 or line "e" vowel2 or line "ı" vowel3 or line "i" vowel4 or line "o" vowel5 or line "ö" vowel6 or line "u" vowel5 or line "ü" vowel6
+
+-- each means a vowel and a walk to one of its partners
+line-means : (v g : String) → Means backward (line v g) (partnerAhead v g)
+unfolding partnerAhead
+line-means v g = means-then (means-literal v) (means-walk g)
+
+-- and all eight the first of them that does not fail
+pub lines-mean : Means backward lines partners
+unfolding partners
+lines-mean =
+    means-or (line-means "a" vowel1) (means-or (line-means "e" vowel2) (means-or (line-means "ı" vowel3) (means-or (line-means "i" vowel4)
+    (means-or (line-means "o" vowel5) (means-or (line-means "ö" vowel6) (means-or (line-means "u" vowel5) (line-means "ü" vowel6)))))))
 
 -- check_vowel_harmony takes nothing and succeeds where there is harmony
 pub harmony-means : Means backward check-vowel-harmony (λ cs. takeIf (harmony cs) 0)
-unfolding check-vowel-harmony partners
-harmony-means =
-    let lines =
-    means-or (alternative "a" vowel1) (means-or (alternative "e" vowel2) (means-or (alternative "ı" vowel3) (means-or (alternative "i" vowel4)
-    (means-or (alternative "o" vowel5) (means-or (alternative "ö" vowel6) (means-or (alternative "u" vowel5) (alternative "ü" vowel6))))))) in
-    means-define _ (means-as (means-test-goto-vowel lines) partners-last)
+unfolding check-vowel-harmony
+harmony-means = means-define _ (means-as (means-test-goto-vowel lines-mean) partners-last)
 
 -- ---- an optional letter ----
 

@@ -1,8 +1,9 @@
 -- Each of the twelve mark routines of the source keeps itself, as one piece, with the joint that the simple form reads off the text: the
--- optional y's routine took a y exactly where the first letter of the piece is one, since no key begins with a y. Assumes nothing.
+-- optional y's routine took a y exactly where the first letter of the piece is one, since no key begins with a y. With it goes what the
+-- simple form's harmony finds, where the mark tests it. Assumes nothing.
 use Prim.Native.Nat.{ℕ, suc, _+_, _-_}
 use Prim.Native.String.{String}
-use mathlib.Core.Path.{_≡_, refl, sym, ap, ap₂, _∙_}
+use mathlib.Core.Path.{_≡_, refl, sym, ap, _∙_}
 use mathlib.Core.Bool.{Bool, true, false, cond, not, or-false, false≢true}
 use mathlib.Core.List.{List, [], _∷_, map}
 use native.Mathlib.Omega.{arith}
@@ -13,29 +14,29 @@ use borrow.Author.Tests.{eqb-true, not-true, ltb-true, ltb-false, lt-ltb, le-ltb
 use Rattle.encoding.proofs.Laws.Booleans.{and-left, and-right}
 use Rattle.utf8.specs.Steps.{same}
 use Rattle.turkish.specs.Letters.{text, fromEnd, any, has, starts}
-use Rattle.turkish.specs.Snowball.{State, ahead, place, moveTo, Result, done, failed, backward, letters, Command, define, _then_, run}
+use Rattle.turkish.specs.Snowball.{State, ahead, place, moveTo, Result, done, backward, letters, Command, define, _then_, run}
 use Rattle.turkish.specs.Snowball as Snowball
 use Rattle.turkish.specs.Source.{A-12, A-13, A-14, A-15, A-16, A-17, A-18, A-19, A-20, A-21, A-22, check-vowel-harmony, mark-suffix-with-optional-y-consonant, mark-yUm}
 use Rattle.turkish.specs.Source.{mark-sUn, mark-yUz, mark-sUnUz, mark-lAr, mark-nUz, mark-DUr, mark-cAsInA, mark-yDU, mark-ysA, mark-ymUs-, mark-yken}
 use Rattle.turkish.specs.Answers.{succeeded}
-use Rattle.turkish.specs.Pieces.{kindNames, numberFrom, kindOf, Joined, alone, withY, afterVowel, Kept, Reading, blank, orJoined, readThen, readAfter, jointOf, oneMark, readIn}
+use Rattle.turkish.specs.Pieces.{kindNames, numberFrom, kindOf, withY, afterVowel, Reading, blank, orJoined, readThen, readAfter, jointOf, heardBy, oneMark, readIn}
 use Rattle.turkish.specs.Pieces as Pieces
-use Rattle.turkish.specs.Simple.Harmony.{harmony}
+use Rattle.turkish.specs.Simple.Harmony.{harmonyFound, harmony}
 use Rattle.turkish.specs.Simple.Grammar.{Out, fail, took, after, asking, among, Joint, joining, Mark, markOf}
 use Rattle.turkish.specs.Simple.Marks.{unjoined, byY, marked, yUm, sUn, yUz, sUnUz, lAr, nUz, DUr, cAsInA, yDU, ysA, ymUs, yken}
 use Rattle.turkish.specs.Simple.NounMarks.{lettersU, possessives, sU, lArI, nU, nUn, yA, nA, DA, ndA, DAn, ndAn, ylA, ki, ncA}
 use Rattle.turkish.specs.Simple.Tables.{Table, tables}
-use Rattle.turkish.specs.Simple.Pieces.{joinedBy, traceOut, traceOf, located}
+use Rattle.turkish.specs.Simple.Pieces.{joinedBy, foundBy, takenBy, traceOut, traceOf, heardAt, located}
 use Rattle.turkish.specs.Simple.Postlude.{hardenings, hardKeys}
-use Rattle.turkish.proofs.Laws.Outcome.{Gives, Post, unfit, fits, post-map, post-both, post-asking, post-more, post-joining}
+use Rattle.turkish.proofs.Laws.Outcome.{Gives, Post, unfit, fits, post-all, post-map, post-both, post-asking, post-more, post-joining}
 use Rattle.turkish.proofs.Laws.Tests.{every, every-getD}
 use Rattle.turkish.proofs.Laws.Traces.{summed-mark}
 use Rattle.turkish.proofs.Tables.{apart, apart-at}
-use Rattle.turkish.proofs.Source.Means.{Means, settled, placed, settled-done, ahead-on, moved-none, means-as, means-literal, takeIf}
-use Rattle.turkish.proofs.Source.Harmony.{harmony-means}
+use Rattle.turkish.proofs.Source.Means.{Means, settled, placed, settled-done, ahead-on, means-as, means-literal, takeIf}
 use Rattle.turkish.proofs.Source.Marks.{among-means, byY-means}
 use Rattle.turkish.proofs.Source.Marks.{yUm-means, sUn-means, yUz-means, sUnUz-means, lAr-means, nUz-means, DUr-means, cAsInA-means, yDU-means, ysA-means, ymUs-means, yken-means}
 use Rattle.turkish.proofs.Source.Keeps.{Shows, Keeps, place-on}
+use Rattle.turkish.proofs.Source.Stops.{readAfter-done, harmony-done, harmony-stops, heardBy-stops}
 
 -- ---- no key begins with a y ----
 
@@ -97,91 +98,80 @@ byY-joined k cs u =
     let taken : getD cs (k + 1 - 1) 0 ≡ c = ap (λ (n : ℕ). getD cs n 0) last ∙ sym (getD-drop k cs 0 0) ∙ ap (λ (l : List ℕ). getD l 0 0) e in
     (rw (none, u), λ h. rw (taken, sym (or-false (eqb c 0x79)) ∙ h))
 
--- the optional y's routine joins with a y where it takes one
+-- the optional y's routine joins with a y where it takes one, and stops nowhere
 byY-joint : (self : State → Result) (s : State)
-    → Post (λ j. Pieces.reading backward self mark-suffix-with-optional-y-consonant s .joined ≡ cond (ltb 0 j) withY afterVowel) (joining byY (ahead s))
+    → Post (λ j. Pieces.reading backward self mark-suffix-with-optional-y-consonant s ≡ record { joined = cond (ltb 0 j) withY afterVowel; stops = []; kept = [] })
+    (joining byY (ahead s))
 unfolding mark-suffix-with-optional-y-consonant run Pieces.reading readIn jointOf same text placed moveTo
 byY-joint self s = go (joining byY (ahead s)) _ _ (byY-means .on-state self s)
   where
     go : (o : Out) (r : Result) (a : Reading) → settled (s .cursor) r ≡ placed s o
-        → Post (λ j. readIn "mark_suffix_with_optional_y_consonant" s r a .joined ≡ cond (ltb 0 j) withY afterVowel) o
+        → Post (λ j. readIn "mark_suffix_with_optional_y_consonant" s r a ≡ record { joined = cond (ltb 0 j) withY afterVowel; stops = []; kept = [] }) o
     go fail r a e = unfit
     go (took j f) r a e = fits j (rw (settled-done (s .cursor) r _ e, ltb-on (s .cursor) j))
 
--- ---- what a mark's commands join by ----
+-- ---- what a mark's commands are seen to do ----
 
--- in any state the commands of a mark find the joint that the simple form reads off what the mark took
-record Joins (p : Command) (m : Mark) : Type 0 where
-  on-state : (self : State → Result) (s : State)
-      → Gives (λ k f. Pieces.reading backward self p s .joined ≡ joinedBy (m .joint .asked) k (ahead s)) (markOf m (ahead s))
+-- a reading tells of a mark that took k characters: it has the joint that the simple form reads off these, and what harmony found was heard
+abbrev Tells : Mark → State → ℕ → Reading → Type 0
+Tells m s k a = (a .joined ≡ joinedBy (m .joint .asked) k (ahead s)) × (heardBy (a .stops) ≡ heardAt (place s) (foundBy (m .harmonic) (ahead s)))
 
--- a key alone has none
-bare : (n : ℕ) (ks : List String) → Joins (Snowball.among ks) (marked n false ks unjoined)
-unfolding Pieces.reading blank joinedBy unjoined marked
-bare n ks = record { on-state = λ self s. all (markOf (marked n false ks unjoined) (ahead s)) }
-  where
-    all : (o : Out) → Post (λ k. alone ≡ alone) o
-    all fail = unfit
-    all (took k f) = fits k refl
+-- in any state the commands of a mark tell of what it took
+record Told (p : Command) (m : Mark) : Type 0 where
+  on-state : (self : State → Result) (s : State) → Gives (λ k f. Tells m s k (Pieces.reading backward self p s)) (markOf m (ahead s))
 
--- behind a command that keeps nothing the joint is the next one's
-joined-after : (r : Result) (t : State) (a : Reading) (b : State → Reading) → r ≡ done t → a ≡ blank → readAfter r a b .joined ≡ b t .joined
-unfolding readAfter readThen orJoined blank
-joined-after r t a b e h = rw (e, h)
+-- a key alone has no joint and stops nowhere
+bare : (n : ℕ) (ks : List String) → Told (Snowball.among ks) (marked n false ks unjoined)
+unfolding Pieces.reading blank joinedBy foundBy heardBy heardAt unjoined marked
+bare n ks = record { on-state = λ self s. post-all (markOf (marked n false ks unjoined) (ahead s)) (λ k f. (refl, refl)) }
 
--- check_vowel_harmony keeps nothing
-harmony-blank : (self : State → Result) (s : State) → Pieces.reading backward self check-vowel-harmony s ≡ blank
-unfolding check-vowel-harmony run Pieces.reading readIn kindOf numberFrom kindNames same text
-harmony-blank self s = go (run backward self check-vowel-harmony s)
-  where
-    go : (r : Result) → readIn "check_vowel_harmony" s r blank ≡ blank
-    go (done t) = refl
-    go (failed t) = refl
-
--- so with harmony the joint is that of the rest
+-- with harmony the joint is that of the rest, and harmony's stops come first
 harmonic : {p : Command} (n : ℕ) (j : Joint) (ks : List String)
-    → Joins p (marked n false ks j) → Joins (check-vowel-harmony then p) (marked n true ks j)
-unfolding Pieces.reading markOf marked asking placed takeIf
+    → Told p (marked n false ks j) → Told (check-vowel-harmony then p) (marked n true ks j)
+unfolding Pieces.reading readThen orJoined markOf marked asking foundBy heardAt
 harmonic {p} n j ks x =
-    record { on-state = λ self s. post-asking (harmony (ahead s)) (λ h. post-map (λ k f e. behind self s h ∙ e) (x .on-state self s)) }
+    record { on-state = λ self s. post-asking (harmony (ahead s)) (λ h. post-map (λ k f e. tells self s k h e) (x .on-state self s)) }
   where
-    behind : (self : State → Result) (s : State) → harmony (ahead s) ≡ true
-        → Pieces.reading backward self (check-vowel-harmony then p) s .joined ≡ Pieces.reading backward self p s .joined
-    behind self s h =
-        let there = harmony-means .on-state self s ∙ ap (λ (b : Bool). placed s (takeIf b 0)) h ∙ moved-none s in
-        joined-after _ s _ _ (settled-done (s .cursor) _ s there) (harmony-blank self s)
+    tells : (self : State → Result) (s : State) (k : ℕ) → harmony (ahead s) ≡ true → Tells (marked n false ks j) s k (Pieces.reading backward self p s)
+        → Tells (marked n true ks j) s k (Pieces.reading backward self (check-vowel-harmony then p) s)
+    tells self s k h e =
+        let b = Pieces.reading backward self p in
+        let seen = readAfter-done _ s _ b (harmony-done self s h) ∙ ap (λ (a : Reading). readThen a (b s)) (harmony-stops self s h) in
+        let found = heardBy-stops (place s) (harmonyFound (ahead s)) (b s .stops) (e .1) in
+        (ap (λ (a : Reading). a .joined) seen ∙ e .0, ap (λ (a : Reading). heardBy (a .stops)) seen ∙ found)
 
--- what reads a key and keeps nothing, with an optional y behind it, has the optional y's
+-- what reads a key and keeps nothing, with an optional y behind it, has the optional y's joint
 joined-by : {p : Command} (n : ℕ) (ks : List String) → ((self : State → Result) (s : State) → Pieces.reading backward self p s ≡ blank)
     → Means backward p (among (map fromEnd ks)) → every yless (map fromEnd ks) ≡ true
-    → Joins (p then mark-suffix-with-optional-y-consonant) (marked n false ks byY)
-unfolding Pieces.reading markOf byY marked asking after placed
+    → Told (p then mark-suffix-with-optional-y-consonant) (marked n false ks byY)
+unfolding Pieces.reading readThen orJoined blank markOf byY marked asking after placed foundBy heardBy heardAt
 joined-by {p} n ks x y u =
     record { on-state = λ self s. go self s (among (map fromEnd ks) (ahead s)) (run backward self p s) (y .on-state self s) (among-yless (map fromEnd ks) (ahead s) u) }
   where
     go : (self : State → Result) (s : State) (o : Out) (r : Result) → settled (s .cursor) r ≡ placed s o
         → Post (λ k. eqb (getD (ahead s) (k - 1) 0) 0x79 ≡ false) o
-        → Post (λ k. readAfter r (Pieces.reading backward self p s) (Pieces.reading backward self mark-suffix-with-optional-y-consonant) .joined ≡ joinedBy true k (ahead s))
+        → Post (λ k. Tells (marked n false ks byY) s k (readAfter r (Pieces.reading backward self p s) (Pieces.reading backward self mark-suffix-with-optional-y-consonant)))
         (after o (λ k. joining byY (drop k (ahead s))))
     go self s o r e unfit = unfit
     go self s o r e (fits k {f} h) =
         let t = moveTo s (s .cursor + k) in
-        let found = joined-after r t _ _ (settled-done (s .cursor) r t e) (x self s) in
+        let b = Pieces.reading backward self mark-suffix-with-optional-y-consonant in
+        let behind = readAfter-done r t _ b (settled-done (s .cursor) r t e) ∙ ap (λ (a : Reading). readThen a (b t)) (x self s) in
         let rest = rw (ahead-on s k) at (byY-joint self t) in
         let read = byY-joined k (ahead s) h in
-        post-more k f (λ j g e. found ∙ e .0 ∙ sym (e .1)) (post-both rest read)
+        post-more k f (λ j g e. let seen = behind ∙ e .0 in (ap (λ (a : Reading). a .joined) seen ∙ sym (e .1), ap (λ (a : Reading). heardBy (a .stops)) seen)) (post-both rest read)
 
 -- so have the keys of a table
 joined : (n : ℕ) (ks : List String) → apart (map fromEnd ks) ≡ true → every yless (map fromEnd ks) ≡ true
-    → Joins (Snowball.among ks then mark-suffix-with-optional-y-consonant) (marked n false ks byY)
+    → Told (Snowball.among ks then mark-suffix-with-optional-y-consonant) (marked n false ks byY)
 unfolding Pieces.reading
 joined n ks a u = joined-by n ks (λ self s. refl) (among-means ks a) u
 
 -- ---- the marks ----
 
--- a routine that is a mark by its name keeps itself, where it takes what the mark takes and its commands find the mark's joint
+-- a routine that is a mark by its name keeps itself, where it takes what the mark takes and its commands tell of that
 mark-keeps : {n : String} {p : Command} {m : Mark} → Means backward (define n p) (markOf m)
-    → ((s t : State) (a : Reading) → readIn n s (done t) a ≡ oneMark (m .kind) s t a) → Joins p m → Keeps (define n p) (traceOf m)
+    → ((s t : State) (a : Reading) → readIn n s (done t) a ≡ oneMark (m .kind) s t a) → Told p m → Keeps (define n p) (traceOf m)
 unfolding run Pieces.reading traceOf traceOut Shows placed succeeded oneMark located
 mark-keeps {n} {p} {m} x y z =
     record {
@@ -190,11 +180,11 @@ mark-keeps {n} {p} {m} x y z =
     }
   where
     go : (s : State) (o : Out) (r : Result) (a : Reading) → settled (s .cursor) r ≡ placed s o
-        → Gives (λ k f. a .joined ≡ joinedBy (m .joint .asked) k (ahead s)) o → Shows s (traceOut m (ahead s) o) r (readIn n s r a)
+        → Gives (λ k f. Tells m s k a) o → Shows s (traceOut m (ahead s) o) r (readIn n s r a)
     go s o r a e unfit = e
     go s o r a e (fits k {f} h) =
         let t = moveTo s (s .cursor + k) in
-        let piece = ap₂ {C = List Kept} (λ (j : Joined) (i : ℕ). record { kind = m .kind; joined = j; from = place s; to = i } ∷ []) h (place-on s k) in
+        let piece : oneMark (m .kind) s t a .kept ≡ located (place s) (takenBy m (ahead s) k ∷ []) = rw (h .0, h .1, place-on s k) in
         rw (settled-done (s .cursor) r t e) (refl, ap (λ (b : Reading). b .kept) (y s t a) ∙ piece)
 
 -- one a mark, in the order of the tables, whose place in the list tells what is known of their keys

@@ -18,8 +18,9 @@ use Rattle.turkish.specs.Vowels.{vowels, vowel, lastVowel, beforeLastVow
 use Rattle.turkish.specs.Simple.Grammar.{Out, fail, first}
 use Rattle.turkish.specs.Simple.Postlude.{gained, appends, appendU, hardenings, hardIn, hard, harden}
 use Rattle.turkish.proofs.Laws.Tests.{eqb-comm}
+use Rattle.turkish.proofs.Laws.Harmony.{lastVowel-none}
 use Rattle.turkish.proofs.Source.Means.{placed, peeked, takeIf, means-or, means-test, means-literal}
-use Rattle.turkish.proofs.Source.LastVowel.{lastVowel-none, means-test-goto-vowel}
+use Rattle.turkish.proofs.Source.LastVowel.{means-test-goto-vowel}
 use Rattle.turkish.proofs.Source.Settled.{carriedOut-settled, Does, Asks, does-define, does-behind, does-insert, does-insert-or}
 
 -- ---- letters ----

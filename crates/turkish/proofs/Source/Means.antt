@@ -187,6 +187,12 @@ means-not {d} {p} {f} x = record { on-state = λ self s. not-result s (run d sel
 unfoldable pub takeIf : Bool → ℕ → Out
 takeIf b n = cond b (took n true) fail
 
+-- with one before them they are one more
+pub more-takeIf : (b : Bool) (n : ℕ) → more 1 true (takeIf b n) ≡ takeIf b (suc n)
+unfolding more takeIf
+more-takeIf true n = let e : 1 + n ≡ suc n = omega arith in ap (λ (k : ℕ). took k true) e
+more-takeIf false n = refl
+
 -- so many are passed, or the state stays
 read-result : (s : State) (b : Bool) (n : ℕ) → settled (s .cursor) (readIf b n s) ≡ placed s (takeIf b n)
 unfolding settled placed readIf takeIf moveTo

@@ -2,7 +2,7 @@
 -- end, a vowel stands before the last one. With the law of its command `atleast`. Assumes nothing.
 use Prim.Native.Nat.{ℕ, zero, suc, _+_, _-_, _≤_}
 use mathlib.Core.Path.{_≡_, refl, sym, ap, _∙_}
-use mathlib.Core.Bool.{Bool, true, false, cond, _&&_, _||_, or-comm, or-false}
+use mathlib.Core.Bool.{Bool, true, false, cond, _&&_, _||_}
 use mathlib.Core.List.{List, [], _∷_, reverse, reverse-cons, reverse-reverse}
 use native.Mathlib.Omega.{arith}
 use lib.ListN.{length, drop}
@@ -11,14 +11,16 @@ use borrow.Author.Tests.{ne-eqb}
 use Rattle.encoding.proofs.Laws.Booleans.{cond-cases, cond-both}
 use Rattle.turkish.specs.Letters.{text, any}
 use Rattle.turkish.specs.Vowels.{vowels, vowel, beforeLastVowel}
-use Rattle.turkish.specs.Simple.Harmony.{moreThanOneSyllable}
+use Rattle.turkish.specs.Simple.Harmony.{toFirst, moreThanOneSyllable}
 use Rattle.turkish.specs.Simple.Grammar.{Out, fail, took, more, first}
 use Rattle.turkish.specs.Snowball.{State, ahead, moveTo, Result, done, failed, isIn, oneTurn, Direction, forward, Command, atLeast, atleast, enough, run}
 use Rattle.turkish.specs.Source.{vowel as vowelLetters, more-than-one-syllable-word}
 use Rattle.turkish.specs.Answers.{entered, called, succeeded, syllableCheck}
-use Rattle.turkish.proofs.Laws.Syllables.{any-append, moreThanOneSyllable-append}
+use Rattle.turkish.proofs.Laws.Tests.{any-reverse}
+use Rattle.turkish.proofs.Laws.Harmony.{drop-toVowel, before-vowel}
+use Rattle.turkish.proofs.Laws.Syllables.{moreThanOneSyllable-append}
 use Rattle.turkish.proofs.Source.Means.{means-define, settled, succeeded-settled, placed, Means, done-failed, done-state, failed-state, ahead-on, moved-none, settled-on}
-use Rattle.turkish.proofs.Source.Means.{takeIf, peeked, peeked-more, sought, means-test, means-grouping, means-gopast}
+use Rattle.turkish.proofs.Source.Means.{takeIf, more-takeIf, peeked, peeked-more, sought, means-test, means-grouping, means-gopast}
 
 -- ---- atleast ----
 
@@ -68,36 +70,20 @@ means-atleast {d} {p} {f} n x = record { on-state = λ self s. repeated-result (
 
 -- ---- the next vowel ----
 
--- the characters up to a vowel, the vowel with them; all where there is none
-overVowel : List ℕ → ℕ
-overVowel [] = 0
-overVowel (c ∷ cs) = cond (vowel c) 1 (suc (overVowel cs))
-
--- behind them stands what stands behind the first vowel
-drop-overVowel : (cs : List ℕ) → drop (overVowel cs) cs ≡ beforeLastVowel cs
-unfolding overVowel beforeLastVowel
-drop-overVowel [] = refl
-drop-overVowel (c ∷ cs) = go (vowel c) (drop-overVowel cs)
-  where
-    go : (t : Bool) → drop (overVowel cs) cs ≡ beforeLastVowel cs → drop (cond t 1 (suc (overVowel cs))) (c ∷ cs) ≡ cond t cs (beforeLastVowel cs)
-    go true e = refl
-    go false e = e
-
--- they are what `gopast vowel` takes
+-- what `gopast vowel` takes
 vowelAhead : List ℕ → Out
 vowelAhead = sought (λ cs. takeIf (isIn (text vowelLetters) cs) 1)
 
--- where there is a vowel, as far as the next one goes
-vowelAhead-takes : (cs : List ℕ) → vowelAhead cs ≡ takeIf (any vowel cs) (overVowel cs)
-unfolding vowelAhead sought isIn takeIf any overVowel first more vowel vowels
+-- where there is a vowel, the characters up to it, and with it
+vowelAhead-takes : (cs : List ℕ) → vowelAhead cs ≡ takeIf (any vowel cs) (toFirst vowel cs)
+unfolding vowelAhead sought isIn takeIf any toFirst first more vowel vowels
 vowelAhead-takes [] = refl
 vowelAhead-takes (c ∷ cs) = go (vowel c) (any vowel cs) (vowelAhead-takes cs)
   where
-    go : (t b : Bool) → vowelAhead cs ≡ takeIf b (overVowel cs)
-        → first (takeIf t 1) (more 1 true (vowelAhead cs)) ≡ takeIf (t || b) (cond t 1 (suc (overVowel cs)))
+    go : (t b : Bool) → vowelAhead cs ≡ takeIf b (toFirst vowel cs)
+        → first (takeIf t 1) (more 1 true (vowelAhead cs)) ≡ takeIf (t || b) (suc (cond t 0 (toFirst vowel cs)))
     go true b e = refl
-    go false true e = let n : 1 + overVowel cs ≡ suc (overVowel cs) = omega arith in ap (more 1 true) e ∙ ap (λ (k : ℕ). took k true) n
-    go false false e = ap (more 1 true) e
+    go false b e = ap (more 1 true) e ∙ more-takeIf b (toFirst vowel cs)
 
 -- what stands behind the first vowel is shorter
 length-beforeLastVowel : (cs : List ℕ) (n : ℕ) → length cs ≤ suc n → length (beforeLastVowel cs) ≤ n
@@ -136,8 +122,8 @@ unfolding repeated
 repeated-step n wanted cs =
     let g : ℕ → Out = λ k. repeated n (wanted - 1) vowelAhead (drop k cs) in
     ap (λ (o : Out). peeked (turn wanted o g)) (vowelAhead-takes cs)
-    ∙ peeked-turn wanted (overVowel cs) (any vowel cs) g
-    ∙ ap (λ (ds : List ℕ). cond (any vowel cs) (peeked (repeated n (wanted - 1) vowelAhead ds)) (takeIf (eqb wanted 0) 0)) (drop-overVowel cs)
+    ∙ peeked-turn wanted (toFirst vowel cs) (any vowel cs) g
+    ∙ ap (λ (ds : List ℕ). cond (any vowel cs) (peeked (repeated n (wanted - 1) vowelAhead ds)) (takeIf (eqb wanted 0) 0)) (drop-toVowel cs)
 
 -- and all its turns succeed where there are as many vowels as wanted
 repeated-often : (n wanted : ℕ) (cs : List ℕ) → length cs ≤ n → peeked (repeated (suc n) wanted vowelAhead cs) ≡ takeIf (often wanted cs) 0
@@ -164,16 +150,6 @@ moreThanOneSyllable-cons c cs = go (vowel c)
     go true = refl
     go false = refl
 
--- where two vowels are, one is
-moreThanOneSyllable-any : (cs : List ℕ) → moreThanOneSyllable cs ≡ true → any vowel cs ≡ true
-unfolding moreThanOneSyllable beforeLastVowel any
-moreThanOneSyllable-any [] h = h
-moreThanOneSyllable-any (c ∷ cs) h = go (vowel c) (any vowel cs) (moreThanOneSyllable cs) (sym (moreThanOneSyllable-cons c cs) ∙ h) (moreThanOneSyllable-any cs)
-  where
-    go : (t a m : Bool) → cond t a m ≡ true → (m ≡ true → a ≡ true) → t || a ≡ true
-    go true a m h r = refl
-    go false a m h r = r h
-
 -- one character is not two vowels
 moreThanOneSyllable-one : (c : ℕ) → moreThanOneSyllable (c ∷ []) ≡ false
 unfolding moreThanOneSyllable beforeLastVowel any
@@ -182,7 +158,7 @@ moreThanOneSyllable-one c = cond-both (λ cs. any vowel cs ≡ false) (vowel c) 
 -- two vowels are a vowel before the last one
 often-two : (cs : List ℕ) → often 2 cs ≡ moreThanOneSyllable cs
 unfolding often moreThanOneSyllable
-often-two cs = go (any vowel cs) (moreThanOneSyllable cs) (moreThanOneSyllable-any cs)
+often-two cs = go (any vowel cs) (moreThanOneSyllable cs) (before-vowel vowel cs)
   where
     go : (a m : Bool) → (m ≡ true → a ≡ true) → a && (m && true) ≡ m
     go true true h = refl
@@ -190,19 +166,13 @@ often-two cs = go (any vowel cs) (moreThanOneSyllable cs) (moreThanOneSyllable-a
     go false true h = h refl
     go false false h = refl
 
--- a character that passes a test does so in either direction
-any-reverse : (f : ℕ → Bool) (cs : List ℕ) → any f (reverse cs) ≡ any f cs
-unfolding any
-any-reverse f [] = refl
-any-reverse f (c ∷ cs) = rw (reverse-cons, any-append, any-reverse f cs, or-false) (or-comm (any f cs) (f c))
-
 -- two vowels are two in either direction
 moreThanOneSyllable-reverse : (cs : List ℕ) → moreThanOneSyllable (reverse cs) ≡ moreThanOneSyllable cs
 unfolding any
 moreThanOneSyllable-reverse [] = refl
 moreThanOneSyllable-reverse (c ∷ cs) =
     rw (reverse-cons, moreThanOneSyllable-append, moreThanOneSyllable-one, moreThanOneSyllable-cons, moreThanOneSyllable-reverse cs, any-reverse vowel cs)
-    (go (vowel c) (any vowel cs) (moreThanOneSyllable cs) (moreThanOneSyllable-any cs))
+    (go (vowel c) (any vowel cs) (moreThanOneSyllable cs) (unfold moreThanOneSyllable in before-vowel vowel cs))
   where
     go : (t a m : Bool) → (m ≡ true → a ≡ true) → m || cond a (t || false) false ≡ cond t a m
     go true true true h = refl

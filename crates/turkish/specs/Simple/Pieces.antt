@@ -1,19 +1,22 @@
--- The marks that a command of the simple form keeps (document 02, request 1): an interpreter beside `run`, with lists of marks where that
--- has their sum. Assumes nothing.
+-- The marks that a command of the simple form keeps (document 02, requests 1 and 5): an interpreter beside `run`, with lists of marks
+-- where that has their sum. Assumes nothing.
 use Prim.Native.Nat.{ℕ, _+_, _-_}
 use mathlib.Core.Bool.{Bool, true, false, cond, _&&_}
 use mathlib.Core.List.{List, [], _∷_, _++_}
 use lib.ListN.{drop, getD}
 use lib.Dec.{eqb}
+use Rattle.turkish.specs.Heard.{Heard, unheard, heard}
 use Rattle.turkish.specs.Pieces.{Joined, alone, withY, afterVowel, Kept}
+use Rattle.turkish.specs.Simple.Harmony.{Found, nowhere, at, harmonyFound}
 use Rattle.turkish.specs.Simple.Grammar.{Out, fail, took, Mark, markOf, Command, mark, _then_, _or_, nothing, unset}
 use Rattle.turkish.specs.Simple.Stage.{branches}
 
--- a mark that took some characters: its number, how many, and how it joined
+-- a mark that took some characters: its number, how many, how it joined, and what its harmony test found
 pub record Taken : Type 0 where
   pub kind : ℕ
   pub size : ℕ
   pub joined : Joined
+  pub found : Found
 
 -- a command's answer: it fails, or keeps these marks, in order of running, and leaves the flag so
 pub data Trace : Type 0 where
@@ -45,9 +48,13 @@ firstTrace (keeps ts f) q = keeps ts f
 unfoldable pub joinedBy : Bool → ℕ → List ℕ → Joined
 joinedBy joins k cs = cond joins (cond (eqb (getD cs (k - 1) 0) 0x79) withY afterVowel) alone
 
+-- nothing is found by a mark that does not test harmony
+unfoldable pub foundBy : Bool → List ℕ → Found
+foundBy harmonic cs = cond harmonic (harmonyFound cs) nowhere
+
 -- a mark that took k of these characters
 abbrev pub takenBy : Mark → List ℕ → ℕ → Taken
-takenBy m cs k = record { kind = m .kind; size = k; joined = joinedBy (m .joint .asked) k cs }
+takenBy m cs k = record { kind = m .kind; size = k; joined = joinedBy (m .joint .asked) k cs; found = foundBy (m .harmonic) cs }
 
 unfoldable pub traceOut : Mark → List ℕ → Out → Trace
 traceOut m cs fail = none
@@ -80,9 +87,14 @@ takenOf (keeps ts f) = ts
 unfoldable pub stageMarks : List ℕ → List Taken
 stageMarks cs = takenOf (trace branches cs)
 
+-- what was found, from place n on
+unfoldable pub heardAt : ℕ → Found → Heard
+heardAt n nowhere = unheard
+heardAt n (at last partner) = heard (n - last) (n - partner)
+
 -- a mark entered at place n, with the places between which it stands
 abbrev pub keptAt : ℕ → Taken → Kept
-keptAt n t = record { kind = t .kind; joined = t .joined; from = n; to = n - t .size }
+keptAt n t = record { kind = t .kind; joined = t .joined; heard = heardAt n (t .found); from = n; to = n - t .size }
 
 -- the marks one behind the other, from place n inward
 unfoldable pub located : ℕ → List Taken → List Kept

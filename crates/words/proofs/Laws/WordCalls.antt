@@ -18,6 +18,7 @@ use Rattle.turkish.proofs.Source.Calls.{suffixStage-yes, suffixStage-flag, syll
 use Rattle.turkish.proofs.Sizes.{stageText-kept, stageText-length}
 use Rattle.stages.specs.declared.stage.Outcome.{Outcome}
 use Rattle.stages.specs.Outcome.{outcomeOf}
+use Rattle.stages.proofs.Laws.Heard.{outcome-hearing}
 
 module _ (w : List ℕ) (n : ℕ) (e : n ≡ refusal w) where
   -- a number means that the word is not accepted
@@ -55,16 +56,30 @@ module _ (w : List ℕ) (n : ℕ) (e : n ≡ refusal w) where
   unfolding stagePart outcomeOf
   stagePart-given z s q = rw (accepted-yes z, q, stageText-kept w (accepted-yes z))
 
-  -- a refused stage gives its number, length 0, no, and false for the flag
-  pub stageCall-refused : (n ≡ 0 → ⊥) → _≡_ {A = StageAnswer} (record { refusal = n; length = 0; yes = false; flag = false }) (stageCall w)
+  -- a refused stage gives its number, and 0 and no elsewhere
+  pub stageCall-refused : (n ≡ 0 → ⊥)
+      → _≡_ {A = StageAnswer} (record { refusal = n; length = 0; yes = false; flag = false; harmonic = false; last = 0; partner = 0; loan = false }) (stageCall w)
   unfolding stageCall
   stageCall-refused h = rw (accepted-no h, ← e)
 
-  -- any other the length kept, yes or no, and the flag
+  -- any other the length kept, yes or no, the flag, and what it heard
   pub stageCall-given : n ≡ 0 → (s : Outcome) → s ≡ outcomeOf w
-      → _≡_ {A = StageAnswer} (record { refusal = 0; length = s .kept; yes = s .yes; flag = s .flag }) (stageCall w)
-  unfolding stageCall outcomeOf
-  stageCall-given z s q = rw (accepted-yes z, q, stageText-length w (accepted-yes z), suffixStage-yes (chars w), suffixStage-flag (chars w))
+      → _≡_ {A = StageAnswer} (record {
+        refusal = 0;
+        length = s .kept;
+        yes = s .yes;
+        flag = s .flag;
+        harmonic = s .harmonic;
+        last = s .last;
+        partner = s .partner;
+        loan = s .loan;
+      }) (stageCall w)
+  unfolding stageCall
+  stageCall-given z s q =
+      let a = accepted-yes z in
+      let h = outcome-hearing w a in
+      rw (a, q, h .harmonic, h .last, h .partner, h .loan)
+      (unfold outcomeOf in rw (stageText-length w a, suffixStage-yes (chars w), suffixStage-flag (chars w)))
 
 -- the text kept is within the word
 pub kept-le : (w : List ℕ) (s : Outcome) → s ≡ outcomeOf w → s .kept ≤ length w

@@ -2,7 +2,7 @@
 
 use crate::calls::Call;
 use crate::desk::Desk;
-use crate::ffi::{FannavyPass, FannavyPostlude, FannavyStage, FannavySyllable, StagePart};
+use crate::ffi::{FannavyPass, FannavyPostlude, FannavySyllable, StageKept, StagePart};
 use crate::lent::Lent;
 use crate::report::{Difference, Report};
 use crate::share::{share_out, Stop};
@@ -22,7 +22,7 @@ pub fn syllable(words: &Words, report: &mut Report) -> Result<(), Difference> {
 pub fn stage(words: &Words, report: &mut Report) -> Result<(), Difference> {
     on_words(words, report, |word| {
         let rust = oracle::stem_nominal_verb_suffixes(word);
-        let answer = FannavyStage {
+        let answer = StageKept {
             refusal: 0,
             length: rust.text.len(),
             yes: rust.yes,

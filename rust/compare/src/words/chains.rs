@@ -126,4 +126,22 @@ mod tests {
         // Six kinds stand alone, six join in two ways.
         assert_eq!(joints.len(), 6 + 6 * 2);
     }
+
+    #[cfg(feature = "oracle")]
+    #[test]
+    fn every_partner_is_found_near_and_past_another_vowel() {
+        let endings = [forms(&LAR), forms(&DUR)].concat();
+        let mut pairs = BTreeSet::new();
+        let _: Result<(), ()> = letters::each(2, &mut |front| {
+            for ending in &endings {
+                let word = format!("{front}{ending}");
+                let letter = |place: usize| word[place..].chars().next();
+                let found = oracle::harmony(&word, &oracle::pieces(&word).list);
+                pairs.extend(found.map(|h| (letter(h.last), letter(h.partner), h.loan)));
+            }
+            Ok(())
+        });
+        // a and e have four partners, the other vowels of the keys two.
+        assert_eq!(pairs.len(), 2 * (2 * 4 + 4 * 2));
+    }
 }

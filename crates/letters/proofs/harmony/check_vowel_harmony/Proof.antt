@@ -1,30 +1,32 @@
--- `letters::harmony::check_vowel_harmony` meets its contract. The first loop's invariant: harmony holds of what is left to walk where it
--- holds of all of it; the second's: what is left has a partner of the vowel where harmony holds. The measure is the place. Assumes nothing.
+-- `letters::harmony::check_vowel_harmony` meets its contract. The first loop's invariant: what is found from here on is what is found from
+-- c on; the second's: what is sought from here on, with what was skipped so far, is what is found from c on, and v is the vowel with its
+-- partners. The measure is the place. Assumes nothing.
 use Prim.Native.Nat.{_≤_}
-use mathlib.Core.Path.{_≡_, refl, sym, _∙_}
+use mathlib.Core.Path.{_≡_, refl, sym, ap, _∙_}
 use native.Mathlib.Omega.{arith}
 use borrow.Author.Needs.{needs}
-use Rattle.utf8.specs.Characters.{before}
-use Rattle.turkish.specs.Letters.{any}
-use Rattle.turkish.specs.Simple.Harmony.{harmony}
-use Rattle.letters.specs.Sounds.{partners}
-use Rattle.letters.proofs.Laws.Sounds.{soundOf-noVowel, soundOf-aVowel, soundOf-partners}
-use Rattle.turkish.proofs.Laws.Tests.{any-skips, any-stops, any-none}
-use Rattle.letters.proofs.Laws.Walk.{lastWidth-bounds, before-charAt, before-start, harmony-skips, harmony-stops, harmony-none}
+use borrow.Author.Tests.{not-true, not-false}
+use Rattle.turkish.specs.Simple.Harmony.{partner}
+use Rattle.letters.specs.declared.vowel.Sound.the-variants.{AVowel}
+use Rattle.letters.specs.Sounds.{soundOf}
+use Rattle.letters.specs.Accord.{discord, concord, accordBefore}
+use Rattle.letters.proofs.Laws.Sounds.{soundOf-noVowel, soundOf-aVowel, soundOf-ch, soundOf-partner}
+use Rattle.letters.proofs.Laws.Walk.{lastWidth-bounds, before-charAt}
+use Rattle.letters.proofs.Laws.Found.{seeks, seeks-skips, seeks-passes, seeks-stops, seeks-none, partner-no, accordBefore-skips, accordBefore-stops, accordBefore-none}
 use Rattle.letters.proofs.harmony.check_vowel_harmony.Statement.{statement}
 use Rattle.letters.proofs.harmony.check_vowel_harmony.Tie as tie
 
 abbrev Inv-goto : tie.InvT-goto
-Inv-goto w c at₀ at = (at ≤ c) × (harmony (before w at) ≡ harmony (before w c))
+Inv-goto w c at₀ at = (at ≤ c) × (accordBefore w at ≡ accordBefore w c)
 
 abbrev μ-goto : tie.MeasureT-goto
 μ-goto w c at₀ at = at
 
 abbrev Inv-goto2 : tie.InvT-goto2
-Inv-goto2 w c at₀ v at = (at ≤ c) × (any (partners v) (before w at) ≡ harmony (before w c))
+Inv-goto2 w c at₀ v last skipped₀ at skipped = (at ≤ c) × (soundOf (v .ch) ≡ AVowel v) × (seeks (partner (v .ch)) w last skipped at ≡ accordBefore w c)
 
 abbrev μ-goto2 : tie.MeasureT-goto2
-μ-goto2 w c at₀ v at = at
+μ-goto2 w c at₀ v last skipped₀ at skipped = at
 
 -- ---- to the last vowel ----
 
@@ -32,7 +34,8 @@ goto-holds : tie.Need-goto-holds Inv-goto μ-goto Inv-goto2 μ-goto2
 goto-holds c = (omega arith, refl)
 
 returns : tie.Need-returns Inv-goto μ-goto Inv-goto2 μ-goto2
-returns c = harmony-none (before-start _ _ (c .if1 .taken)) ∙ c .before .goto .inv .1
+unfolding discord
+returns c = accordBefore-none _ _ (c .if1 .taken) ∙ c .before .goto .inv .1
 
 last-width-requires : tie.Need-last-width-requires Inv-goto μ-goto Inv-goto2 μ-goto2
 last-width-requires c κs = search needs
@@ -62,7 +65,7 @@ goto-again c =
     let turn = c .before .before .before .before in
     let step = before-charAt _ _ _ _ (turn .before .if1 .left) (turn .last-width .ensures) (c .before .before .before .char-at .ensures) in
     let other = soundOf-noVowel _ (sym (c .before .before .of .ensures) ∙ c .enum-told .given .1) in
-    (omega arith, harmony-skips step other ∙ turn .before .before .goto .inv .1)
+    (omega arith, accordBefore-skips _ _ _ _ (turn .last-width .ensures) step other ∙ turn .before .before .goto .inv .1)
 
 -- ---- to one of its partners ----
 
@@ -72,7 +75,13 @@ goto2-holds c =
     let turn = read .before in
     let step = before-charAt _ _ _ _ (turn .before .if1 .left) (turn .last-width .ensures) (read .char-at .ensures) in
     let sound = sym (c .before .before .before .of .ensures) ∙ c .before .v .given .1 in
-    (omega arith, soundOf-partners _ _ _ sound ∙ harmony-stops step (soundOf-aVowel _ _ sound) ∙ turn .before .before .goto .inv .1)
+    let is = soundOf-ch _ _ sound in
+    let stops = accordBefore-stops _ _ _ _ (turn .last-width .ensures) step is (soundOf-aVowel _ _ sound) in
+    (omega arith, ap soundOf is ∙ sound, stops ∙ turn .before .before .goto .inv .1)
+
+returns-2 : tie.Need-returns-2 Inv-goto μ-goto Inv-goto2 μ-goto2
+unfolding discord
+returns-2 c = seeks-none _ _ _ _ _ (c .if2 .taken) ∙ c .before .goto2 .inv .2
 
 last-width-requires-2 : tie.Need-last-width-requires-2 Inv-goto μ-goto Inv-goto2 μ-goto2
 last-width-requires-2 c κs = search needs
@@ -83,8 +92,8 @@ sub-at-2 c = omega (arith, lastWidth-bounds _ _ _ (c .before .if2 .left) (c .las
 char-at-requires-2 : tie.Need-char-at-requires-2 Inv-goto μ-goto Inv-goto2 μ-goto2
 char-at-requires-2 c κs = omega (arith, lastWidth-bounds _ _ _ (c .before .if2 .left) (c .last-width2 .ensures))
 
-has-partner-requires : tie.Need-has-partner-requires Inv-goto μ-goto Inv-goto2 μ-goto2
-has-partner-requires c κs = search needs
+is-vowel-requires : tie.Need-is-vowel-requires Inv-goto μ-goto Inv-goto2 μ-goto2
+is-vowel-requires c κs = search needs
 
 goto2-less : tie.Need-goto2-less Inv-goto μ-goto Inv-goto2 μ-goto2
 goto2-less c =
@@ -94,19 +103,36 @@ goto2-less c =
 goto2-again : tie.Need-goto2-again Inv-goto μ-goto Inv-goto2 μ-goto2
 goto2-again c =
     let turn = c .before .before .before in
+    let l = turn .before .before .goto2 in
     let step = before-charAt _ _ _ _ (turn .before .if2 .left) (turn .last-width2 .ensures) (c .before .before .char-at2 .ensures) in
-    let other = sym (c .before .has-partner .ensures) ∙ c .if3 .left in
-    (omega arith, any-skips _ step other ∙ turn .before .before .goto2 .inv .1)
+    let none = sym (c .before .is-vowel .ensures) ∙ not-true _ (c .if3 .taken) in
+    (omega arith, l .inv .1, seeks-skips _ _ _ _ _ _ _ (turn .last-width2 .ensures) step (partner-no _ _ none) none ∙ l .inv .2)
 
-returns-2 : tie.Need-returns-2 Inv-goto μ-goto Inv-goto2 μ-goto2
-returns-2 c = any-none _ (before-start _ _ (c .if2 .taken)) ∙ c .before .goto2 .inv .1
+has-partner-requires : tie.Need-has-partner-requires Inv-goto μ-goto Inv-goto2 μ-goto2
+has-partner-requires c κs = search needs
+
+goto2-less-2 : tie.Need-goto2-less-2 Inv-goto μ-goto Inv-goto2 μ-goto2
+goto2-less-2 c =
+    let turn = c .before .before .before .before .before in
+    omega (arith, lastWidth-bounds _ _ _ (turn .before .if2 .left) (turn .last-width2 .ensures))
+
+goto2-again-2 : tie.Need-goto2-again-2 Inv-goto μ-goto Inv-goto2 μ-goto2
+goto2-again-2 c =
+    let turn = c .before .before .before .before .before in
+    let l = turn .before .before .goto2 in
+    let step = before-charAt _ _ _ _ (turn .before .if2 .left) (turn .last-width2 .ensures) (c .before .before .before .before .char-at2 .ensures) in
+    let some = sym (c .before .before .before .is-vowel .ensures) ∙ not-false _ (c .before .before .if3 .left) in
+    let other = sym (soundOf-partner _ _ _ (l .inv .1)) ∙ sym (c .before .has-partner .ensures) ∙ c .if4 .left in
+    (omega arith, l .inv .1, seeks-passes _ _ _ _ _ _ _ (turn .last-width2 .ensures) step other some ∙ l .inv .2)
 
 returns-3 : tie.Need-returns-3 Inv-goto μ-goto Inv-goto2 μ-goto2
+unfolding concord
 returns-3 c =
-    let turn = c .before .before .before in
-    let step = before-charAt _ _ _ _ (turn .before .if2 .left) (turn .last-width2 .ensures) (c .before .before .char-at2 .ensures) in
-    let is = sym (c .before .has-partner .ensures) ∙ c .if3 .taken in
-    any-stops _ step is ∙ turn .before .before .goto2 .inv .1
+    let turn = c .before .before .before .before .before in
+    let l = turn .before .before .goto2 in
+    let step = before-charAt _ _ _ _ (turn .before .if2 .left) (turn .last-width2 .ensures) (c .before .before .before .before .char-at2 .ensures) in
+    let is = sym (soundOf-partner _ _ _ (l .inv .1)) ∙ sym (c .before .has-partner .ensures) ∙ c .if4 .taken in
+    seeks-stops _ _ _ _ _ _ _ (turn .last-width2 .ensures) step is ∙ l .inv .2
 
 pub check-vowel-harmony-spec : {M : Type 1} → statement M
 check-vowel-harmony-spec =
@@ -127,11 +153,14 @@ check-vowel-harmony-spec =
     goto-less
     goto-again
     goto2-holds
+    returns-2
     last-width-requires-2
     sub-at-2
     char-at-requires-2
-    has-partner-requires
+    is-vowel-requires
     goto2-less
     goto2-again
-    returns-2
+    has-partner-requires
+    goto2-less-2
+    goto2-again-2
     returns-3)

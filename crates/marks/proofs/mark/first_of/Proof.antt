@@ -8,18 +8,18 @@ use lib.ListN.{length, drop}
 use borrow.Author.Needs.{needs}
 use borrow.Author.Tests.{not-true, not-false}
 use Rattle.utf8.specs.Behind.{behind}
-use Rattle.letters.specs.Told.{Hears}
+use Rattle.letters.specs.Accord.{noAccord, Listens}
 use Rattle.letters.specs.Numbered.{firstOf}
 use Rattle.marks.specs.Reach.{reach}
-use Rattle.letters.proofs.Laws.Told.{hears-told, told-holds}
+use Rattle.letters.proofs.Laws.Accord.{listens-accord, accord-holds}
 use Rattle.letters.proofs.Laws.Ends.{traceOf-unfit}
-use Rattle.marks.proofs.Laws.Marks.{traceOf-not, traceOf-took, traceOf-discord, firstOf-next, firstOf-took, firstOf-end, mayEnd-sees, agrees-free, agrees-bound}
+use Rattle.marks.proofs.Laws.Marks.{traceOf-not, traceOf-took, traceOf-discord, firstOf-next, firstOf-took, firstOf-end, mayEnd-sees, agrees-free, agrees-bound, passes-free, passes-bound}
 use Rattle.marks.proofs.mark.first_of.Statement.{statement}
 use Rattle.marks.proofs.mark.first_of.Tie as tie
 
 abbrev Inv-loop : tie.InvT-loop
 Inv-loop w s group t₀ i₀ t i =
-    (i ≤ length group) × (Hears w (s .c) t) × (reach w (s .c) (firstOf (drop i group) (behind w (s .c))) ≡ reach w (s .c) (firstOf group (behind w (s .c))))
+    (i ≤ length group) × (Listens w (s .c) t) × (reach w (s .c) (firstOf (drop i group) (behind w (s .c))) ≡ reach w (s .c) (firstOf group (behind w (s .c))))
 
 abbrev μ-loop : tie.MeasureT-loop
 μ-loop w s group t₀ i₀ t i = length group - i
@@ -47,16 +47,18 @@ loop-again-2 c =
     (omega arith, l .inv .1, firstOf-next _ _ _ (l .i) (t .loop-test .taken) fails ∙ l .inv .2)
 
 returns : tie.Need-returns Inv-loop μ-loop
+unfolding noAccord
 returns c =
     let i = c .before .before .before in
     let m = i .before .before in
     let t = m .before .before .before .before in
     let l = t .before .loop in
     let free = sym (c .before .before .is-harmonic .ensures) ∙ not-true _ (c .before .if3 .taken) in
-    firstOf-took _ _ _ (l .i) (t .loop-test .taken) (traceOf-took _ _ _ (m .mark .ensures) (not-false _ (i .if2 .left)) (agrees-free _ free) (c .moved-to .ensures)) ∙ l .inv .2
+    let fits = traceOf-took _ _ _ (m .mark .ensures) (not-false _ (i .if2 .left)) (agrees-free _ free) (c .moved-to .ensures) (passes-free _ _ free) in
+    firstOf-took _ _ _ (l .i) (t .loop-test .taken) fits ∙ l .inv .2
 
-hear-requires : tie.Need-hear-requires Inv-loop μ-loop
-hear-requires c κs =
+listen-requires : tie.Need-listen-requires Inv-loop μ-loop
+listen-requires c κs =
     let t = c .before .before .before .before .before .before .before .before in
     (t .before .before .before .before .pre .0 .opens, t .before .loop .inv .1)
 
@@ -68,8 +70,11 @@ returns-2 c =
     let t = m .before .before .before .before in
     let l = t .before .loop in
     let bound = sym (h .before .before .is-harmonic .ensures) ∙ not-false _ (h .before .if3 .left) in
-    let holds = sym (told-holds _ _ (h .hear .ensures)) ∙ c .before .if4 .taken in
-    firstOf-took _ _ _ (l .i) (t .loop-test .taken) (traceOf-took _ _ _ (m .mark .ensures) (not-false _ (i .if2 .left)) (agrees-bound _ bound ∙ holds) (c .moved-to2 .ensures)) ∙ l .inv .2
+    let yes = c .before .if4 .taken in
+    let holds = sym (accord-holds _ _ (h .listen .ensures)) ∙ yes in
+    let heard = passes-bound _ _ bound (h .listen .ensures) yes in
+    let fits = traceOf-took _ _ _ (m .mark .ensures) (not-false _ (i .if2 .left)) (agrees-bound _ bound ∙ holds) (c .moved-to2 .ensures) heard in
+    firstOf-took _ _ _ (l .i) (t .loop-test .taken) fits ∙ l .inv .2
 
 loop-again-3 : tie.Need-loop-again-3 Inv-loop μ-loop
 loop-again-3 c =
@@ -78,9 +83,9 @@ loop-again-3 c =
     let t = m .before .before .before .before in
     let l = t .before .loop in
     let bound = sym (h .before .before .is-harmonic .ensures) ∙ not-false _ (h .before .if3 .left) in
-    let discord = sym (told-holds _ _ (h .hear .ensures)) ∙ c .if4 .left in
+    let discord = sym (accord-holds _ _ (h .listen .ensures)) ∙ c .if4 .left in
     let fails = traceOf-discord _ _ _ (m .mark .ensures) (agrees-bound _ bound ∙ discord) in
-    (omega arith, subst (Hears _ _) (sym (h .hear .ensures)) (hears-told _ _), firstOf-next _ _ _ (l .i) (t .loop-test .taken) fails ∙ l .inv .2)
+    (omega arith, subst (Listens _ _) (sym (h .listen .ensures)) (listens-accord _ _), firstOf-next _ _ _ (l .i) (t .loop-test .taken) fails ∙ l .inv .2)
 
 returns-3 : tie.Need-returns-3 Inv-loop μ-loop
 returns-3 c = let l = c .before .loop in firstOf-end _ _ _ (l .i) (c .loop-test .left) ∙ l .inv .2
@@ -90,4 +95,4 @@ first-of-spec =
     tie.close
     (tie.spec Inv-loop μ-loop loop-holds (λ c. search needs) (λ c. search needs) (λ c. search needs) (λ c κs. search needs)
     (λ c. omega arith) loop-again mark-requires (λ c. omega arith) loop-again-2 (λ c κs. search needs) (λ c κs. search needs) returns
-    hear-requires (λ c κs. search needs) returns-2 (λ c. omega arith) loop-again-3 returns-3)
+    listen-requires (λ c κs. search needs) returns-2 (λ c. omega arith) loop-again-3 returns-3)

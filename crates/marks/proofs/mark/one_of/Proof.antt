@@ -2,10 +2,11 @@
 -- take. In each answer m is the place behind the mark, i behind the test of its answer, and h behind harmony. Assumes nothing.
 use mathlib.Core.Path.{sym, ap, _∙_}
 use borrow.Author.Tests.{not-true, not-false}
+use Rattle.letters.specs.Accord.{noAccord}
 use Rattle.marks.specs.Reach.{reach}
-use Rattle.letters.proofs.Laws.Told.{told-holds}
+use Rattle.letters.proofs.Laws.Accord.{accord-holds}
 use Rattle.letters.proofs.Laws.Ends.{traceOf-unfit}
-use Rattle.marks.proofs.Laws.Marks.{traceOf-not, traceOf-took, traceOf-discord, mayEnd-sees, agrees-free, agrees-bound}
+use Rattle.marks.proofs.Laws.Marks.{traceOf-not, traceOf-took, traceOf-discord, mayEnd-sees, agrees-free, agrees-bound, passes-free, passes-bound}
 use borrow.Author.Needs.{needs}
 use Rattle.marks.proofs.mark.one_of.Statement.{statement}
 use Rattle.marks.proofs.mark.one_of.Tie as tie
@@ -24,11 +25,12 @@ returns-2 c =
     sym (ap (reach _ _) (traceOf-not _ _ _ (m .mark .ensures) (not-true _ (c .if2 .taken))))
 
 returns-3 : tie.Need-returns-3
+unfolding noAccord
 returns-3 c =
     let i = c .before .before .before in
     let m = i .before .before in
     let free = sym (c .before .before .is-harmonic .ensures) ∙ not-true _ (c .before .if3 .taken) in
-    traceOf-took _ _ _ (m .mark .ensures) (not-false _ (i .if2 .left)) (agrees-free _ free) (c .moved-to .ensures)
+    traceOf-took _ _ _ (m .mark .ensures) (not-false _ (i .if2 .left)) (agrees-free _ free) (c .moved-to .ensures) (passes-free _ _ free)
 
 returns-4 : tie.Need-returns-4
 unfolding reach
@@ -36,7 +38,7 @@ returns-4 c =
     let h = c .before .before in
     let m = h .before .before .before .before .before in
     let bound = sym (h .before .before .is-harmonic .ensures) ∙ not-false _ (h .before .if3 .left) in
-    let discord = sym (told-holds _ _ (h .hear .ensures)) ∙ not-true _ (c .if4 .taken) in
+    let discord = sym (accord-holds _ _ (h .listen .ensures)) ∙ not-true _ (c .if4 .taken) in
     sym (ap (reach _ _) (traceOf-discord _ _ _ (m .mark .ensures) (agrees-bound _ bound ∙ discord)))
 
 returns-5 : tie.Need-returns-5
@@ -45,8 +47,10 @@ returns-5 c =
     let i = h .before .before .before in
     let m = i .before .before in
     let bound = sym (h .before .before .is-harmonic .ensures) ∙ not-false _ (h .before .if3 .left) in
-    let holds = sym (told-holds _ _ (h .hear .ensures)) ∙ not-false _ (c .before .if4 .left) in
+    let yes = not-false _ (c .before .if4 .left) in
+    let holds = sym (accord-holds _ _ (h .listen .ensures)) ∙ yes in
     traceOf-took _ _ _ (m .mark .ensures) (not-false _ (i .if2 .left)) (agrees-bound _ bound ∙ holds) (c .moved-to2 .ensures)
+    (passes-bound _ _ bound (h .listen .ensures) yes)
 
 pub one-of-spec : {M : Type 1} → statement M
 one-of-spec =

@@ -10,8 +10,9 @@ use Rattle.turkish.specs.Simple.Pieces.{traceOf, trace}
 use Rattle.turkish.specs.Simple.Stage.{branch5}
 use Rattle.letters.specs.Numbered.{numbered}
 use Rattle.letters.proofs.Laws.Sees.{sees-made}
-use Rattle.letters.proofs.Laws.Told.{hears-unasked}
-use Rattle.stages.specs.Trail.{noStop, noTrail}
+use Rattle.letters.proofs.Laws.Accord.{listens-unasked}
+use Rattle.letters.specs.Accord.{noAccord}
+use Rattle.stages.specs.Trail.{noStop, noTrail, noWay}
 use Rattle.stages.proofs.Laws.Trails.{steps-mark, steps-group, reach-fails, cut-none, after-none, open-cut, along-step, try-cut, try-none}
 use Rattle.stages.proofs.Laws.Branches.{someEnd-sees, reach-seen, group-four}
 use Rattle.stages.proofs.stage.fifth_branch.Statement.{statement}
@@ -40,10 +41,10 @@ look-back-requires c κs =
     open-cut _ _ step (c .deleted .ensures) (g .before .before .before .before .before .pre .0 .opens)
 
 one-of-requires : tie.Need-one-of-requires
-one-of-requires c κs = (sees-made _ _ (c .look-back .ensures) (look-back-requires (c .before) κs), hears-unasked _ (c .look-back .result .c))
+one-of-requires c κs = (sees-made _ _ (c .look-back .ensures) (look-back-requires (c .before) κs), listens-unasked _ (c .look-back .result .c))
 
 returns-3 : tie.Need-returns-3
-unfolding trace try branch5 numbered noTrail noStop
+unfolding trace try branch5 numbered noWay noTrail noStop noAccord
 returns-3 c =
     let m = c .before .before .before in
     let e = m .before .before in
@@ -55,7 +56,7 @@ returns-3 c =
     (reach-fails _ _ _ is (c .before .enum-told2 .given .1)) (c .behind .ensures)
 
 returns-4 : tie.Need-returns-4
-unfolding trace try branch5 numbered noTrail noStop
+unfolding trace try branch5 numbered noWay noTrail noStop noAccord
 returns-4 c =
     let f = c .before .before .before .before in
     let m = f .before .before in

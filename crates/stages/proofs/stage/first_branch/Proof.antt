@@ -5,7 +5,8 @@ use borrow.Author.Tests.{not-true}
 use borrow.Author.Needs.{needs}
 use Rattle.turkish.specs.Simple.Stage.{branch1}
 use Rattle.letters.specs.Numbered.{numbered}
-use Rattle.stages.specs.Trail.{noStop, noTrail}
+use Rattle.letters.specs.Accord.{noAccord}
+use Rattle.stages.specs.Trail.{noStop, noTrail, noWay}
 use Rattle.stages.proofs.Laws.Trails.{steps-group, reach-fails, cut-none, cut-step}
 use Rattle.stages.proofs.Laws.Branches.{someEnd-sees, group-four}
 use Rattle.stages.proofs.stage.first_branch.Statement.{statement}
@@ -26,7 +27,7 @@ unfolding branch1 numbered
 returns-2 c = cut-none _ _ _ (sym (group-four _ 11 9 10 12) ∙ reach-fails _ _ _ (c .before .before .first-of .ensures) (c .enum-told .given .1))
 
 returns-3 : tie.Need-returns-3
-unfolding branch1 numbered noTrail noStop
+unfolding branch1 numbered noWay noTrail noStop noAccord
 returns-3 c =
     let a = c .before .before .before in
     let step = steps-group _ _ _ (group-four _ 11 9 10 12) (a .before .before .first-of .ensures) (a .c .given .1) in

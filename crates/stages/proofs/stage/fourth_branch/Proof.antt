@@ -9,8 +9,9 @@ use Rattle.turkish.specs.Simple.Pieces.{trace}
 use Rattle.turkish.specs.Simple.Stage.{branch4}
 use Rattle.letters.specs.Numbered.{numbered, firstOf}
 use Rattle.letters.proofs.Laws.Sees.{sees-made}
-use Rattle.letters.proofs.Laws.Told.{hears-unasked}
-use Rattle.stages.specs.Trail.{noStop, noTrail}
+use Rattle.letters.proofs.Laws.Accord.{listens-unasked}
+use Rattle.letters.specs.Accord.{noAccord}
+use Rattle.stages.specs.Trail.{noStop, noTrail, noWay}
 use Rattle.stages.proofs.Laws.Trails.{steps-mark, steps-group, reach-fails, cut-none, after-none, open-step, along-step, then-none, then-cut}
 use Rattle.stages.proofs.Laws.Branches.{reach-seen, group-two}
 use Rattle.stages.proofs.stage.fourth_branch.Statement.{statement}
@@ -33,7 +34,7 @@ look-back-requires c κs =
 first-of-requires : tie.Need-first-of-requires
 first-of-requires c κs =
     let s = c .before in
-    (sees-made _ _ (s .look-back .ensures) (look-back-requires (s .before) (s .look-back .lifetimes)), hears-unasked _ (s .look-back .result .c))
+    (sees-made _ _ (s .look-back .ensures) (look-back-requires (s .before) (s .look-back .lifetimes)), listens-unasked _ (s .look-back .result .c))
 
 returns-2 : tie.Need-returns-2
 unfolding trace branch4 numbered
@@ -46,7 +47,7 @@ returns-2 c =
     cut-none _ _ _ (then-none _ _ step (trace (mark yDU or mark ysA)) (sym (group-two _ 9 10) ∙ reach-fails _ _ _ is (c .enum-told2 .given .1)))
 
 returns-3 : tie.Need-returns-3
-unfolding trace branch4 numbered noTrail noStop
+unfolding trace branch4 numbered noWay noTrail noStop noAccord
 returns-3 c =
     let d = c .before .before .before .before in
     let g = d .before .before in

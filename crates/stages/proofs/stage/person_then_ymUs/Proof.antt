@@ -4,8 +4,9 @@ use Rattle.turkish.specs.Simple.Marks.{ymUs}
 use Rattle.turkish.specs.Simple.Pieces.{traceOf, trace}
 use Rattle.letters.specs.Numbered.{numbered}
 use Rattle.letters.proofs.Laws.Sees.{sees-made}
-use Rattle.letters.proofs.Laws.Told.{hears-unasked}
-use Rattle.stages.specs.Trail.{noStop, noTrail}
+use Rattle.letters.proofs.Laws.Accord.{listens-unasked}
+use Rattle.letters.specs.Accord.{noAccord}
+use Rattle.stages.specs.Trail.{noStop, noTrail, noWay}
 use Rattle.stages.proofs.Laws.Trails.{steps-mark, reach-fails, along-none, open-step, along-step, then-none, then-along}
 use Rattle.stages.proofs.Laws.Branches.{steps-person, reach-seen}
 use borrow.Author.Needs.{needs}
@@ -22,7 +23,7 @@ look-back-requires c κs =
     open-step _ _ (steps-person _ _ (s .pre) (p .try-of .ensures)) (s .pre)
 
 one-of-requires : tie.Need-one-of-requires
-one-of-requires c κs = (sees-made _ _ (c .look-back .ensures) (look-back-requires (c .before) κs), hears-unasked _ (c .look-back .result .c))
+one-of-requires c κs = (sees-made _ _ (c .look-back .ensures) (look-back-requires (c .before) κs), listens-unasked _ (c .look-back .result .c))
 
 returns : tie.Need-returns
 unfolding trace numbered
@@ -34,7 +35,7 @@ returns c =
     along-none _ _ _ (then-none _ _ step (traceOf ymUs) (reach-fails _ _ _ is (c .enum-told .given .1)))
 
 returns-2 : tie.Need-returns-2
-unfolding trace numbered noTrail noStop
+unfolding trace numbered noWay noTrail noStop noAccord
 returns-2 c =
     let e = c .before .before .before in
     let m = e .before .before in

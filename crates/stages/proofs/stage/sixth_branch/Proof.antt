@@ -7,7 +7,8 @@ use Rattle.turkish.specs.Simple.Marks.{DUr, ymUs}
 use Rattle.turkish.specs.Simple.Pieces.{trace}
 use Rattle.turkish.specs.Simple.Stage.{person, branch6}
 use Rattle.letters.specs.Numbered.{numbered}
-use Rattle.stages.specs.Trail.{noStop, noTrail}
+use Rattle.letters.specs.Accord.{noAccord}
+use Rattle.stages.specs.Trail.{noStop, noTrail, noWay}
 use Rattle.stages.proofs.Laws.Trails.{steps-mark, reach-fails, along-unfit, cut-none, after-none, open-cut, try-cut, try-none}
 use Rattle.stages.proofs.stage.sixth_branch.Statement.{statement}
 use Rattle.stages.proofs.stage.sixth_branch.Tie as tie
@@ -27,7 +28,7 @@ person-then-ymUs-requires c κs =
     open-cut _ _ (steps-mark _ _ DUr (m .one-of .ensures) (a .c .given .1)) (c .deleted .ensures) (m .before .before .pre .0 .opens)
 
 returns-2 : tie.Need-returns-2
-unfolding trace try branch6 numbered noTrail noStop
+unfolding trace try branch6 numbered noWay noTrail noStop noAccord
 returns-2 c =
     let p = c .before .before .before in
     let a = p .before .before .before in

@@ -12,7 +12,7 @@ use Rattle.turkish.specs.Calls.{chars}
 use Rattle.turkish.proofs.Laws.Flag.{branch1-keeps, branch2-keeps, branch3-lowers, branch4-keeps, branch5-keeps, branch6-keeps}
 use Rattle.letters.specs.Seen.{seenAt}
 use Rattle.letters.proofs.Laws.Sees.{sees-made}
-use Rattle.letters.proofs.Laws.Told.{hears-toldAtEnd}
+use Rattle.letters.proofs.Laws.Accord.{listens-atEnd}
 use Rattle.letters.proofs.Laws.Ends.{branches-unfit}
 use Rattle.stages.specs.Outcome.{whole}
 use Rattle.stages.proofs.Laws.Branches.{open-whole, someEnd-whole, branch-unfit, outcome-none, outcome-unfit, outcome-last, outcome-cut}
@@ -105,7 +105,7 @@ told-at-end-requires : tie.Need-told-at-end-requires
 told-at-end-requires c κs = let s = c .before .before in sees-made (word s) (whole (word s)) (ended s) (open-whole (word s))
 
 first-branch-requires : tie.Need-first-branch-requires
-first-branch-requires c κs = (told-at-end-requires (c .before) κs, hears-toldAtEnd (word (end c)) _ (c .told-at-end .ensures))
+first-branch-requires c κs = (told-at-end-requires (c .before) κs, listens-atEnd (word (end c)) _ (c .told-at-end .ensures))
 
 returns-2 : tie.Need-returns-2
 returns-2 c =

@@ -9,7 +9,8 @@ use Rattle.turkish.specs.Simple.Marks.{lAr, DUr, yDU, ysA, ymUs}
 use Rattle.turkish.specs.Simple.Pieces.{Trace, keeps, firstTrace, trace}
 use Rattle.turkish.specs.Simple.Stage.{branch3}
 use Rattle.letters.specs.Numbered.{numbered}
-use Rattle.stages.specs.Trail.{noStop, noTrail}
+use Rattle.letters.specs.Accord.{noAccord}
+use Rattle.stages.specs.Trail.{noStop, noTrail, noWay}
 use Rattle.stages.proofs.Laws.Trails.{steps-mark, steps-try, reach-fails, cut-none, after-none, open-cut, along-step, then-deleted}
 use Rattle.stages.proofs.Laws.Branches.{cut-unset, group-four}
 use Rattle.stages.proofs.stage.third_branch.Statement.{statement}
@@ -30,7 +31,7 @@ try-of-requires c κs =
     open-cut _ _ (steps-mark _ _ lAr (m .one-of .ensures) (a .c .given .1)) (c .before .deleted .ensures) (m .before .before .pre .0 .opens)
 
 returns-2 : tie.Need-returns-2
-unfolding trace try branch3 numbered noTrail noStop
+unfolding trace try branch3 numbered noWay noTrail noStop noAccord
 returns-2 c =
     let p = c .before .before .before .before in
     let e = p .before .before in

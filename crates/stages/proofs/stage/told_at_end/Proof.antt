@@ -3,23 +3,23 @@ use mathlib.Core.Path.{sym, _∙_}
 use denote.Ref.{now}
 use borrow.Author.Needs.{needs}
 use borrow.Author.Tests.{not-true, not-false}
-use Rattle.letters.specs.Told.{unasked, toldAtEnd}
-use Rattle.letters.proofs.Laws.Told.{hears-unasked}
+use Rattle.letters.specs.Accord.{noAccord, accordAtEnd}
+use Rattle.letters.proofs.Laws.Accord.{listens-unasked}
 use Rattle.stages.proofs.stage.told_at_end.Statement.{statement}
 use Rattle.stages.proofs.stage.told_at_end.Tie as tie
 
 returns : tie.Need-returns
-unfolding toldAtEnd unasked
+unfolding accordAtEnd noAccord
 returns c = let silent = sym (c .before .ends-harmonic .ensures) ∙ not-true _ (c .if1 .taken) in sym (rw silent)
 
-hear-requires : tie.Need-hear-requires
-hear-requires c κs =
-    let s = c .before .before .before in (s .pre .opens, hears-unasked (now (s .args .w)) (s .args .s .c))
+listen-requires : tie.Need-listen-requires
+listen-requires c κs =
+    let s = c .before .before .before in (s .pre .opens, listens-unasked (now (s .args .w)) (s .args .s .c))
 
 returns-2 : tie.Need-returns-2
-unfolding toldAtEnd
-returns-2 c = let asked = sym (c .before .before .ends-harmonic .ensures) ∙ not-false _ (c .before .if1 .left) in c .hear .ensures ∙ sym (rw asked)
+unfolding accordAtEnd
+returns-2 c = let asked = sym (c .before .before .ends-harmonic .ensures) ∙ not-false _ (c .before .if1 .left) in c .listen .ensures ∙ sym (rw asked)
 
 pub told-at-end-spec : {M : Type 1} → statement M
 told-at-end-spec = tie.close
-    (tie.spec (λ c κs. search needs) returns hear-requires returns-2)
+    (tie.spec (λ c κs. search needs) returns listen-requires returns-2)

@@ -1,8 +1,9 @@
 -- `stages::stage::try_of` meets its contract: the group is tried from what is seen before the record. Assumes nothing.
 use denote.Ref.{now}
+use Rattle.letters.specs.Accord.{noAccord}
 use Rattle.letters.specs.Numbered.{firstOf}
 use Rattle.letters.proofs.Laws.Sees.{sees-made}
-use Rattle.letters.proofs.Laws.Told.{hears-unasked}
+use Rattle.letters.proofs.Laws.Accord.{listens-unasked}
 use Rattle.stages.proofs.Laws.Trails.{tried-fails, tried-to}
 use Rattle.stages.proofs.Laws.Branches.{reach-seen}
 use borrow.Author.Needs.{needs}
@@ -13,9 +14,10 @@ look-back-requires : tie.Need-look-back-requires
 look-back-requires c κs = c .before .before .pre
 
 first-of-requires : tie.Need-first-of-requires
-first-of-requires c κs = (sees-made _ _ (c .look-back .ensures) (c .before .before .before .pre), hears-unasked _ (c .look-back .result .c))
+first-of-requires c κs = (sees-made _ _ (c .look-back .ensures) (c .before .before .before .pre), listens-unasked _ (c .look-back .result .c))
 
 returns : tie.Need-returns
+unfolding noAccord
 returns c =
     let b = c .before .before in
     let group = now (b .before .before .before .before .args .group) in

@@ -1,0 +1,83 @@
+-- What is known of harmony before a record with what it found: nothing where it was not asked for, all where it was. Assumes nothing.
+use Prim.Native.Nat.{ℕ, _+_, _-_}
+use mathlib.Core.Path.{_≡_, refl, sym, ap, subst, _∙_}
+use mathlib.Core.Bool.{true, false, false≢true}
+use mathlib.Core.List.{List, [], _∷_}
+use lib.ListN.{drop}
+use Rattle.utf8.specs.declared.cursor.Cursor.{Cursor}
+use Rattle.utf8.specs.Characters.{before}
+use Rattle.utf8.specs.Steps.{moveTo}
+use Rattle.utf8.specs.Behind.{behind, backBy}
+use Rattle.encoding.proofs.Laws.Booleans.{cond-both}
+use Rattle.turkish.specs.Simple.Harmony.{Found, nowhere, at, harmonyFound, isFound, harmony}
+use Rattle.letters.specs.declared.harmony.Accord.{Accord}
+use Rattle.letters.specs.declared.seen.Seen.{Seen}
+use Rattle.letters.specs.Ends.{someEnd}
+use Rattle.letters.specs.Accord.{noAccord, discord, concord, accordFrom, accordBefore, accordOf, accordAt, Listens, passedOn, accordAtEnd}
+use Rattle.letters.proofs.Laws.Part.{partFrom, partFrom-drop}
+
+-- where harmony was not asked for, nothing is claimed
+pub listens-unasked : (w : List ℕ) (c : Cursor) → Listens w c (record { last = 0; partner = 0; asked = false; holds = false; skipped = false })
+listens-unasked w c = record { heard = λ e. absurd (false≢true e) }
+
+-- what is told at a record holds there
+pub listens-accord : (w : List ℕ) (c : Cursor) → Listens w c (accordAt w c)
+listens-accord w c = record { heard = λ e. refl }
+
+-- what was asked for is what is told at the record
+pub listens-asked : (w : List ℕ) (c : Cursor) (t : Accord) → Listens w c t → t .asked ≡ true → t ≡ accordAt w c
+listens-asked w c t h e = h .heard e
+
+-- its yes or no is harmony's
+pub accord-holds : (w : List ℕ) (c : Cursor) {t : Accord} → t ≡ accordAt w c → t .holds ≡ harmony (behind w c)
+unfolding accordAt harmony
+accord-holds w c e = ap (λ (x : Accord). x .holds) e ∙ go (harmonyFound (behind w c))
+  where
+    go : (f : Found) → accordOf w c f .holds ≡ isFound f
+    go nowhere = unfold accordOf isFound discord in refl
+    go (at l p) = unfold accordOf isFound concord in refl
+
+-- where it is a yes, it is what a mark that tests harmony passes on
+pub accord-passedOn : (w : List ℕ) (c : Cursor) {t : Accord} → t ≡ accordAt w c → t .holds ≡ true → t ≡ passedOn w c (harmonyFound (behind w c))
+unfolding accordAt
+accord-passedOn w c {t} e h = e ∙ go (harmonyFound (behind w c)) (sym (ap (λ (x : Accord). x .holds) e) ∙ h)
+  where
+    go : (f : Found) → accordOf w c f .holds ≡ true → accordOf w c f ≡ passedOn w c f
+    go nowhere q = unfold accordOf discord in absurd (false≢true q)
+    go (at l p) q = unfold passedOn in refl
+
+-- what is found in the part of the word from limit_backward on
+module _ (w : List ℕ) (c : Cursor) {t : Accord} (is : t ≡ accordBefore (partFrom w (c .«limit_backward»)) (c .cursor - c .«limit_backward»)) where
+  abbrev pub low : ℕ
+  low = c .«limit_backward»
+
+  -- the part is all from there on
+  there : t ≡ accordBefore (drop low w) (c .cursor - low)
+  there = is ∙ ap (λ (p : List ℕ). accordBefore p (c .cursor - low)) (partFrom-drop w low)
+
+  -- a no is what is told at the record
+  pub part-discord : t .holds ≡ false → t ≡ accordAt w c
+  unfolding accordAt accordBefore behind
+  part-discord h = there ∙ go (harmonyFound (before (drop low w) (c .cursor - low))) (sym (ap (λ (x : Accord). x .holds) there) ∙ h)
+    where
+      go : (f : Found) → accordFrom (drop low w) (c .cursor - low) f .holds ≡ false → accordFrom (drop low w) (c .cursor - low) f ≡ accordOf w c f
+      go nowhere q = unfold accordFrom accordOf in refl
+      go (at l p) q = unfold accordFrom concord in absurd (false≢true (sym q))
+
+  -- and so is a yes, with its places that much further on
+  pub part-concord : t .holds ≡ true → concord (low + t .last) (low + t .partner) (t .skipped) ≡ accordAt w c
+  unfolding accordAt accordBefore behind
+  part-concord h =
+      rw there (go (harmonyFound (before (drop low w) (c .cursor - low))) (sym (ap (λ (x : Accord). x .holds) there) ∙ h))
+    where
+      go : (f : Found) → let u = accordFrom (drop low w) (c .cursor - low) f in u .holds ≡ true
+          → concord (low + u .last) (low + u .partner) (u .skipped) ≡ accordOf w c f
+      go nowhere q = unfold accordFrom discord in absurd (false≢true q)
+      go (at l p) q = unfold accordFrom accordOf concord backBy moveTo behind in refl
+
+-- what is told at the word's end is true, whether or not harmony was asked for
+pub listens-atEnd : (w : List ℕ) (s : Seen) {t : Accord} → t ≡ accordAtEnd w s → Listens w (s .c) t
+unfolding accordAtEnd noAccord
+listens-atEnd w s e =
+    let ends = someEnd (11 ∷ 9 ∷ 5 ∷ 6 ∷ 7 ∷ 3 ∷ 2 ∷ 1 ∷ []) (s .last) (s .second) (s .third) in
+    subst (Listens w (s .c)) (sym e) (cond-both (Listens w (s .c)) ends (accordAt w (s .c)) noAccord (listens-accord w (s .c)) (listens-unasked w (s .c)))

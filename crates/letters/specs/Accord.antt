@@ -1,0 +1,56 @@
+-- What is known of harmony before a record with what it found, as the code holds it. Assumes nothing.
+use Prim.Native.Nat.{ℕ}
+use mathlib.Core.Path.{_≡_}
+use mathlib.Core.Bool.{Bool, true, false, cond}
+use mathlib.Core.List.{List, [], _∷_}
+use Rattle.utf8.specs.declared.cursor.Cursor.{Cursor}
+use Rattle.utf8.specs.Characters.{before, back}
+use Rattle.utf8.specs.Behind.{behind, backBy}
+use Rattle.turkish.specs.Simple.Harmony.{Found, nowhere, at, harmonyFound, skipsVowel}
+use Rattle.letters.specs.declared.harmony.Accord.{Accord}
+use Rattle.letters.specs.declared.seen.Seen.{Seen}
+use Rattle.letters.specs.Ends.{someEnd}
+
+-- harmony not asked for, and harmony that does not hold
+unfoldable pub noAccord : Accord
+noAccord = record { last = 0; partner = 0; asked = false; holds = false; skipped = false }
+
+unfoldable pub discord : Accord
+discord = record { last = 0; partner = 0; asked = true; holds = false; skipped = false }
+
+-- harmony that holds, with the two places
+unfoldable pub concord : ℕ → ℕ → Bool → Accord
+concord last partner skipped = record { last = last; partner = partner; asked = true; holds = true; skipped = skipped }
+
+-- what is found from a place on, and from a record on
+unfoldable pub accordFrom : List ℕ → ℕ → Found → Accord
+accordFrom w c nowhere = discord
+accordFrom w c (at last partner) = concord (back w c last) (back w c partner) (skipsVowel (before w c) last partner)
+
+unfoldable pub accordBefore : List ℕ → ℕ → Accord
+accordBefore w c = accordFrom w c (harmonyFound (before w c))
+
+unfoldable pub accordOf : List ℕ → Cursor → Found → Accord
+accordOf w c nowhere = discord
+accordOf w c (at last partner) = concord (backBy w c last .cursor) (backBy w c partner .cursor) (skipsVowel (behind w c) last partner)
+
+-- harmony asked for
+unfoldable pub accordAt : List ℕ → Cursor → Accord
+accordAt w c = accordOf w c (harmonyFound (behind w c))
+
+-- where it was asked for, it is known
+pub record Listens (w : List ℕ) (c : Cursor) (t : Accord) : Type 0 where
+  pub heard : t .asked ≡ true → t ≡ accordAt w c
+
+-- what a mark that fits passes on of what its harmony test found; one that tests none has nothing
+unfoldable pub passedOn : List ℕ → Cursor → Found → Accord
+passedOn w c nowhere = noAccord
+passedOn w c (at last partner) = accordOf w c (at last partner)
+
+-- the first of two that was asked for
+unfoldable pub orAccord : Accord → Accord → Accord
+orAccord t u = cond (t .asked) t u
+
+-- at the word's end it is asked for where the last letters are those of a mark that tests it
+unfoldable pub accordAtEnd : List ℕ → Seen → Accord
+accordAtEnd w s = cond (someEnd (11 ∷ 9 ∷ 5 ∷ 6 ∷ 7 ∷ 3 ∷ 2 ∷ 1 ∷ []) (s .last) (s .second) (s .third)) (accordAt w (s .c)) noAccord
