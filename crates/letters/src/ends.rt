@@ -63,6 +63,27 @@ pub fn ends_fifth(a: u32, b: u32, c: u32) -> bool
     may_end(4, a, b, c) | (may_end(3, a, b, c) | (may_end(2, a, b, c) | may_end(1, a, b, c)))
 }
 
+// Of some mark of a person's ending: lAr, or one of those.
+pub fn ends_person(a: u32, b: u32, c: u32) -> bool
+    ensures { λ r. ⌜ r ≡ someEnd (5 ∷ 4 ∷ 3 ∷ 2 ∷ 1 ∷ []) a b c ⌝ }
+{
+    may_end(5, a, b, c) | ends_fifth(a, b, c)
+}
+
+// Of some mark that may follow lAr: DUr, yDU, ysA, ymUs_.
+pub fn ends_after_lAr(a: u32, b: u32, c: u32) -> bool
+    ensures { λ r. ⌜ r ≡ someEnd (7 ∷ 9 ∷ 10 ∷ 11 ∷ []) a b c ⌝ }
+{
+    may_end(7, a, b, c) | (may_end(9, a, b, c) | (may_end(10, a, b, c) | may_end(11, a, b, c)))
+}
+
+// Of some mark that must follow nUz: yDU, ysA.
+pub fn ends_after_nUz(a: u32, b: u32, c: u32) -> bool
+    ensures { λ r. ⌜ r ≡ someEnd (9 ∷ 10 ∷ []) a b c ⌝ }
+{
+    may_end(9, a, b, c) | may_end(10, a, b, c)
+}
+
 // Of some mark with which a branch begins and that tests harmony.
 pub fn ends_harmonic(a: u32, b: u32, c: u32) -> bool
     ensures { λ r. ⌜ r ≡ someEnd (11 ∷ 9 ∷ 5 ∷ 6 ∷ 7 ∷ 3 ∷ 2 ∷ 1 ∷ []) a b c ⌝ }

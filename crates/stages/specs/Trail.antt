@@ -8,11 +8,9 @@ use Rattle.utf8.specs.Behind.{backBy, deleted}
 use Rattle.turkish.specs.Simple.Pieces.{Taken, Trace, none, keeps, total}
 use Rattle.letters.specs.declared.harmony.Accord.{Accord}
 use Rattle.letters.specs.Accord.{noAccord, passedOn, orAccord}
-use Rattle.marks.specs.Reach.{leading, leadingAccord}
 use Rattle.stages.specs.declared.trail.Stop.{Stop}
 use Rattle.stages.specs.declared.trail.Trail.{Trail}
 use Rattle.stages.specs.declared.trail.Way.{Way}
-use Rattle.stages.specs.declared.trail.Tried.{Tried}
 use Rattle.stages.specs.declared.trail.Branch.{Branch}
 use Rattle.stages.specs.declared.trail.Branch.the-variants.{Fits, Unfit}
 
@@ -39,15 +37,15 @@ heardAlong w c (t ∷ ts) = orAccord (passedOn w c (t .found)) (heardAlong w (ba
 
 -- both
 unfoldable pub wayOf : List ℕ → Cursor → List Taken → Way
-wayOf w c ts = record { heard = heardAlong w c ts; trail = trailOf w c ts }
+wayOf w c ts = record { trail = trailOf w c ts; heard = heardAlong w c ts }
 
 -- neither
 unfoldable pub noWay : Way
-noWay = record { heard = noAccord; trail = noTrail }
+noWay = record { trail = noTrail; heard = noAccord }
 
 -- both behind one more mark and what that one found
 unfoldable pub behindWay : ℕ → ℕ → Accord → Way → Way
-behindWay k at told y = record { heard = orAccord told (y .heard); trail = behindTrail k at (y .trail) }
+behindWay k at told y = record { trail = behindTrail k at (y .trail); heard = orAccord told (y .heard) }
 
 -- a branch's answer: the record moved back over all that it takes
 unfoldable pub along : List ℕ → Cursor → Trace → Branch
@@ -58,8 +56,3 @@ along w c (keeps ts f) = Fits (backBy w c (total ts)) (wayOf w c ts)
 unfoldable pub cutTo : List ℕ → Cursor → Trace → Branch
 cutTo w c none = Unfit
 cutTo w c (keeps ts f) = Fits (deleted (backBy w c (total ts))) (wayOf w c ts)
-
--- a group tried: the record moved back where a mark fits, and the record itself where none does
-unfoldable pub triedTo : List ℕ → Cursor → Trace → Tried
-triedTo w c none = record { c = c; kind = 0; told = noAccord }
-triedTo w c (keeps ts f) = record { c = backBy w c (total ts); kind = leading ts; told = leadingAccord w c ts }

@@ -3,7 +3,6 @@
 // ends at the limit.
 use crate::trail::Branch;
 use crate::trail::Trail;
-use crate::trail::Tried;
 use crate::trail::Way;
 use letters::ends;
 use letters::harmony;
@@ -22,7 +21,7 @@ ghost use Rattle.turkish.specs.Simple.Stage.{person, branch1, branch2, branch3,
 ghost use Rattle.letters.specs.Seen.{Sees};
 ghost use Rattle.letters.specs.Accord.{Listens, accordAtEnd};
 ghost use Rattle.letters.specs.Numbered.{firstOf};
-ghost use Rattle.stages.specs.Trail.{along, cutTo, triedTo};
+ghost use Rattle.stages.specs.Trail.{along, cutTo};
 ghost use Rattle.stages.specs.Outcome.{outcomeOf, uncut, cut};
 
 // The place before which the text kept stands, whether an ending was removed, and the flag; whether a mark kept tests harmony, for the first
@@ -89,30 +88,22 @@ const AFTER_NUZ: [u32; 2] = [mark::YDU, mark::YSA];
 // A person's ending without lAr (line 325).
 const PERSON_ALONE: [u32; 4] = [mark::SUNUZ, mark::YUZ, mark::SUN, mark::YUM];
 
-// The record moved back over the first mark of a group that fits before it; the record itself where none does.
-fn try_of(w: &[u8], c: Cursor, group: &[u32]) -> Tried
-    requires { ⌜ Open (now w) c ⌝ }
-    ensures { λ r. ⌜ r ≡ triedTo (now (w .entry)) c (firstOf (now (group .entry)) (behind (now (w .entry)) c)) ⌝ }
-{
-    let Marked::To(d, kind, told) = mark::first_of(w, seen::look_back(w, c), Accord::UNASKED, group)
-    else {
-        return Tried {
-            c,
-            kind: 0,
-            told: Accord::UNASKED,
-        };
-    };
-    Tried { c: d, kind, told }
-}
-
 // A person's ending or nothing, then ymUs_ (lines 316 and 327).
 fn person_then_ymUs(w: &[u8], c: Cursor) -> Branch
     requires { ⌜ Open (now w) c ⌝ }
     ensures { λ r. ⌜ r ≡ along (now (w .entry)) c (trace (person then mark ymUs) (behind (now (w .entry)) c)) ⌝ }
 {
-    let p = try_of(w, c, &PERSON);
-    let d = p.c;
-    let Marked::To(e, kind, told) = mark::one_of(
+    let s = seen::look_back(w, c);
+    if !ends::ends_person(s.last, s.second, s.third) {
+        let Marked::To(e, kind, told) = mark::one_of(w, s, Accord::UNASKED, mark::YMUS) else {
+            return Branch::Unfit;
+        };
+        return Branch::Fits(e, Way::NONE.behind(kind, e.cursor, told));
+    }
+    let Marked::To(d, kind, told) = mark::first_of(w, s, Accord::UNASKED, &PERSON) else {
+        return Branch::Unfit;
+    };
+    let Marked::To(e, next, heard) = mark::one_of(
         w,
         seen::look_back(w, d),
         Accord::UNASKED,
@@ -123,8 +114,8 @@ fn person_then_ymUs(w: &[u8], c: Cursor) -> Branch
     Branch::Fits(
         e,
         Way::NONE
-            .behind(kind, e.cursor, told)
-            .behind(p.kind, d.cursor, p.told),
+            .behind(next, e.cursor, heard)
+            .behind(kind, d.cursor, told),
     )
 }
 
@@ -167,12 +158,18 @@ fn third_branch(w: &[u8], s: Seen, t: Accord) -> Branch
     let Marked::To(c, kind, told) = mark::one_of(w, s, t, mark::LAR) else {
         return Branch::Unfit;
     };
-    let p = try_of(w, c.deleted(), &AFTER_LAR);
-    let d = p.c;
+    let d = c.deleted();
+    let before = seen::look_back(w, d);
+    if !ends::ends_after_lAr(before.last, before.second, before.third) {
+        return Branch::Fits(d, Way::NONE.behind(kind, c.cursor, told));
+    }
+    let Marked::To(e, next, heard) = mark::first_of(w, before, Accord::UNASKED, &AFTER_LAR) else {
+        return Branch::Fits(d, Way::NONE.behind(kind, c.cursor, told));
+    };
     Branch::Fits(
-        d.deleted(),
+        e.deleted(),
         Way::NONE
-            .behind(p.kind, d.cursor, p.told)
+            .behind(next, e.cursor, heard)
             .behind(kind, c.cursor, told),
     )
 }
@@ -186,12 +183,11 @@ fn fourth_branch(w: &[u8], s: Seen, t: Accord) -> Branch
     let Marked::To(c, kind, told) = mark::one_of(w, s, t, mark::NUZ) else {
         return Branch::Unfit;
     };
-    let Marked::To(d, next, heard) = mark::first_of(
-        w,
-        seen::look_back(w, c),
-        Accord::UNASKED,
-        &AFTER_NUZ,
-    ) else {
+    let before = seen::look_back(w, c);
+    if !ends::ends_after_nUz(before.last, before.second, before.third) {
+        return Branch::Unfit;
+    }
+    let Marked::To(d, next, heard) = mark::first_of(w, before, Accord::UNASKED, &AFTER_NUZ) else {
         return Branch::Unfit;
     };
     Branch::Fits(

@@ -48,25 +48,25 @@ impl Trail {
 
 // What a branch keeps on its way: its marks, and what the first of them found that tests harmony.
 pub struct Way {
-    pub heard: Accord,
     pub trail: Trail,
+    pub heard: Accord,
 }
 
 impl Way {
     pub const NONE: Way = Way {
-        heard: Accord::UNASKED,
         trail: Trail::NONE,
+        heard: Accord::UNASKED,
     };
 
-    // The same behind one mark that was kept before, and what that one found; number 0 is none, and has found nothing.
+    // The same behind one mark that was kept before, and what that one found.
     pub fn behind(self, kind: u32, at: usize, told: Accord) -> Way
         ensures { λ r. ⌜ r ≡ behindWay kind at told self ⌝ }
     {
         let t = self.trail;
         let h = self.heard;
         Way {
-            heard: told.or_else(h),
             trail: t.behind(kind, at),
+            heard: told.or_else(h),
         }
     }
 }
@@ -75,11 +75,4 @@ impl Way {
 pub enum Branch {
     Fits(Cursor, Way),
     Unfit,
-}
-
-// A mark of a group tried: the record moved back, the mark's number and what it found, or the record as it was and 0.
-pub struct Tried {
-    pub c: Cursor,
-    pub kind: u32,
-    pub told: Accord,
 }

@@ -1,10 +1,11 @@
 -- The last letters of the marks' keys: text that does not end as a mark's keys may has none of them at its end, so the mark fails there,
--- so does a group whose marks all fail, and so does the stage. Which marks test harmony, what a mark is without, and that a mark which fits
--- has its own number. Assumes nothing.
+-- so does a group whose marks all fail, and so does the stage. A person's ending and ymUs_ never end alike. Which marks test harmony, what a
+-- mark is without, and that a mark which fits has its own number. Assumes nothing.
 use Prim.Native.Nat.{ℕ, zero, suc}
+use Prim.Native.Char.{code}
 use mathlib.Core.Path.{_≡_, refl, sym, ap, _∙_}
 use mathlib.Core.Logic.{_⊎_, inl, inr, ⊎-elim}
-use mathlib.Core.Bool.{Bool, true, false, cond, not, _||_, false≢true, or-assoc}
+use mathlib.Core.Bool.{Bool, true, false, cond, not, _&&_, _||_, false≢true, or-assoc}
 use mathlib.Core.List.{List, [], _∷_, _++_}
 use mathlib.Mathlib.Data.Bool.Basic.{or-eq-false-eq-eq-false-and-eq-false as or-no}
 use lib.ListN.{getD}
@@ -145,6 +146,15 @@ module _ (a b c : ℕ) where
   someEnd-some ks (j ∷ js) h e =
       rw (someEnd-each ks j (and-left (has ks j) (every (has ks) js) h) e)
       (someEnd-some ks js (and-right (has ks j) (every (has ks) js) h) e)
+
+  -- what ends as a person's ending may does not end as ymUs_ may
+  pub person-not-ymUs : someEnd (5 ∷ 4 ∷ 3 ∷ 2 ∷ 1 ∷ []) a b c ≡ true → mayEnd 11 a b c ≡ false
+  unfolding someEnd any mayEnd
+  person-not-ymUs e = go (eqb a (code "ş")) refl
+    where
+      go : (t : Bool) → eqb a (code "ş") ≡ t → t && (isU b && eqb c (code "m")) ≡ false
+      go true is = absurd (false≢true (rw (eqb-true a (code "ş") is) at e))
+      go false is = refl
 
   -- two groups one after the other
   someEnd-append : (ks js : List ℕ) → someEnd (ks ++ js) a b c ≡ someEnd ks a b c || someEnd js a b c

@@ -5,32 +5,36 @@ use mathlib.Core.Path.{_≡_, refl, sym, ap, _∙_}
 use mathlib.Core.Bool.{Bool, true, false}
 use mathlib.Core.List.{List, [], _∷_, append-nil}
 use native.Mathlib.Omega.{arith}
-use lib.ListN.{length, getD}
+use lib.ListN.{length, drop, getD}
 use Rattle.utf8.specs.declared.cursor.Cursor.{Cursor}
 use Rattle.utf8.specs.Characters.{back}
 use Rattle.utf8.specs.Behind.{behind, backBy, deleted, Open}
 use Rattle.utf8.proofs.Laws.Behind.{behind-before, backBy-back, open-start}
-use Rattle.turkish.specs.Simple.Grammar.{Out, took, Command, mark, _or_, run}
+use Rattle.turkish.specs.Letters.{any, has}
+use Rattle.turkish.specs.Simple.Grammar.{Out, took, Command, mark, _then_, _or_, run}
+use Rattle.turkish.specs.Simple.Marks.{ymUs}
 use Rattle.turkish.specs.Simple.Stage.{person, branches, staged, stage, keptLength}
-use Rattle.turkish.specs.Simple.Pieces.{Taken, Trace, none, keeps, total, moreTrace, afterTrace, firstTrace, trace, summed, takenOf, stageMarks}
+use Rattle.turkish.specs.Simple.Pieces.{Taken, Trace, none, keeps, total, moreTrace, afterTrace, firstTrace, traceOf, trace, summed, takenOf, stageMarks}
 use Rattle.turkish.specs.Calls.{chars}
+use Rattle.turkish.proofs.Laws.Tests.{every}
 use Rattle.turkish.proofs.Laws.Outcome.{Flagged, unfit, fits}
 use Rattle.turkish.proofs.Laws.Traces.{first-none, run-trace}
+use Rattle.letters.specs.declared.harmony.Accord.{Accord}
 use Rattle.letters.specs.declared.seen.Seen.{Seen}
-use Rattle.letters.specs.Seen.{seenAt, Sees}
+use Rattle.letters.specs.Seen.{seenAt}
 use Rattle.letters.specs.Ends.{someEnd}
 use Rattle.letters.specs.Numbered.{numbered, firstOf}
-use Rattle.letters.proofs.Laws.Ends.{someEnd-unfit}
+use Rattle.letters.proofs.Laws.Ends.{traceOf-unfit, someEnd-unfit, someEnd-some, person-not-ymUs}
 use Rattle.letters.proofs.Laws.Sees.{seen-c}
 use Rattle.marks.specs.declared.marked.Marked.{Marked}
+use Rattle.marks.specs.declared.marked.Marked.the-variants.{To}
 use Rattle.marks.specs.Reach.{reach}
 use Rattle.stages.specs.declared.trail.Way.{Way}
-use Rattle.stages.specs.declared.trail.Tried.{Tried}
 use Rattle.stages.specs.declared.trail.Branch.{Branch}
 use Rattle.stages.specs.declared.trail.Branch.the-variants.{Fits, Unfit}
-use Rattle.stages.specs.Trail.{trailOf, heardAlong, wayOf, cutTo, triedTo}
+use Rattle.stages.specs.Trail.{trailOf, heardAlong, wayOf, cutTo}
 use Rattle.stages.specs.Outcome.{whole, outcomeOf, uncut, cut}
-use Rattle.stages.proofs.Laws.Trails.{Steps, steps-try, fits-unfit}
+use Rattle.stages.proofs.Laws.Trails.{Steps, steps-group, first-step, fits-unfit}
 
 -- `unset` after the second of two commands cuts no more
 pub cut-unset : (w : List ℕ) (c : Cursor) (o : Trace) (q : ℕ → Trace)
@@ -68,19 +72,48 @@ module _ (cs : List ℕ) where
   unfolding trace person firstOf numbered
   person-first = simp (first-assoc, first-none)
 
--- a person's ending tried is a step
-pub steps-person : (w : List ℕ) (c : Cursor) {p : Tried} → Open w c → p ≡ triedTo w c (firstOf (4 ∷ 5 ∷ 1 ∷ 2 ∷ 3 ∷ []) (behind w c))
-    → Steps w c (trace person (behind w c)) (p .c) (p .kind) (p .told)
-steps-person w c = steps-try w c (4 ∷ 5 ∷ 1 ∷ 2 ∷ 3 ∷ []) (person-first (behind w c))
+  -- where no person's ending fits, ymUs_ stands alone
+  person-absent : firstOf (4 ∷ 5 ∷ 1 ∷ 2 ∷ 3 ∷ []) cs ≡ none → trace (person then mark ymUs) cs ≡ traceOf ymUs cs
+  unfolding trace afterTrace firstTrace total
+  person-absent fails =
+      ap (λ (o : Trace). afterTrace o (λ k. traceOf ymUs (drop k cs)))
+      (sym person-first ∙ ap (λ (o : Trace). firstTrace o (keeps [] true)) fails)
+      ∙ go (traceOf ymUs cs)
+    where
+      go : (o : Trace) → moreTrace [] true o ≡ o
+      go none = unfold moreTrace in refl
+      go (keeps us g) = unfold moreTrace in refl
+
+-- a person's ending that fits is a step
+pub steps-person : (w : List ℕ) (c : Cursor) {r : Marked} {d : Cursor} {k : ℕ} {h : Accord} → r ≡ reach w c (firstOf (4 ∷ 5 ∷ 1 ∷ 2 ∷ 3 ∷ []) (behind w c))
+    → r ≡ To d k h → Steps w c (trace person (behind w c)) d k h
+steps-person w c is to = rw (person-first (behind w c)) at (first-step w c (steps-group w c (4 ∷ 5 ∷ 1 ∷ 2 ∷ 3 ∷ []) refl is to) (keeps [] true))
 
 -- ---- what is seen from a record ----
 
--- what the last letters seen rule out of a group
-pub someEnd-sees : (w : List ℕ) (s : Seen) → Sees w s → (ks : List ℕ) {b : Bool} → b ≡ someEnd ks (s .last) (s .second) (s .third) → b ≡ false
-    → firstOf ks (behind w (s .c)) ≡ none
-unfolding seenAt
-someEnd-sees w s sees ks e fails =
-    someEnd-unfit ks (behind w (s .c)) (sym (ap (λ (x : Seen). someEnd ks (x .last) (x .second) (x .third)) (sees .is)) ∙ sym e ∙ fails)
+module _ (w : List ℕ) (c : Cursor) {s : Seen} (is : s ≡ seenAt w c) where
+  -- what is asked of the last letters seen is asked of those behind the record
+  ends-seen : (ks : List ℕ) {b : Bool} → b ≡ someEnd ks (s .last) (s .second) (s .third)
+      → someEnd ks (getD (behind w c) 0 0) (getD (behind w c) 1 0) (getD (behind w c) 2 0) ≡ b
+  unfolding seenAt
+  ends-seen ks e = sym (e ∙ ap (λ (x : Seen). someEnd ks (x .last) (x .second) (x .third)) is)
+
+  -- what they rule out of a group
+  pub someEnd-seen : (ks : List ℕ) {b : Bool} → b ≡ someEnd ks (s .last) (s .second) (s .third) → b ≡ false → firstOf ks (behind w c) ≡ none
+  someEnd-seen ks e fails = someEnd-unfit ks (behind w c) (ends-seen ks e ∙ fails)
+
+  module _ {b : Bool} (e : b ≡ someEnd (5 ∷ 4 ∷ 3 ∷ 2 ∷ 1 ∷ []) (s .last) (s .second) (s .third)) where
+    -- where they rule out a person's ending, ymUs_ stands alone
+    pub person-none : b ≡ false → trace (person then mark ymUs) (behind w c) ≡ traceOf ymUs (behind w c)
+    unfolding has any every
+    person-none fails =
+        person-absent (behind w c)
+        (someEnd-unfit _ _ (someEnd-some _ _ _ (5 ∷ 4 ∷ 3 ∷ 2 ∷ 1 ∷ []) (4 ∷ 5 ∷ 1 ∷ 2 ∷ 3 ∷ []) refl (ends-seen _ e ∙ fails)))
+
+    -- where they are those of one, and none fits, nor does ymUs_
+    pub person-unfit : b ≡ true → firstOf (4 ∷ 5 ∷ 1 ∷ 2 ∷ 3 ∷ []) (behind w c) ≡ none → trace (person then mark ymUs) (behind w c) ≡ none
+    unfolding numbered
+    person-unfit ends fails = person-absent (behind w c) fails ∙ traceOf-unfit 11 (behind w c) (person-not-ymUs _ _ _ (ends-seen _ e ∙ ends))
 
 -- a command from what is seen is one from the record
 pub reach-seen : (w : List ℕ) (c : Cursor) (q : List ℕ → Trace) {s : Seen} {r : Marked} → s ≡ seenAt w c → r ≡ reach w (s .c) (q (behind w (s .c)))
@@ -146,10 +179,10 @@ module _ (w : List ℕ) {s : Seen} (is : s ≡ seenAt w (whole w)) where
   -- and what the last letters seen rule out is ruled out by those
   pub someEnd-whole : (ks : List ℕ) {b : Bool} → b ≡ someEnd ks (s .last) (s .second) (s .third) → b ≡ false
       → someEnd ks (getD (chars w) 0 0) (getD (chars w) 1 0) (getD (chars w) 2 0) ≡ false
-  unfolding seenAt chars whole
+  unfolding chars whole
   someEnd-whole ks e fails =
       ap (λ (cs : List ℕ). someEnd ks (getD cs 0 0) (getD cs 1 0) (getD cs 2 0)) (sym (behind-before w (length w) (length w)))
-      ∙ sym (ap (λ (x : Seen). someEnd ks (x .last) (x .second) (x .third)) is) ∙ sym e ∙ fails
+      ∙ ends-seen w (whole w) is ks e ∙ fails
 
   module _ (b : Command) {r : Branch} (e : r ≡ cutTo w (s .c) (trace b (behind w (s .c)))) where
     -- a branch that does not fit is passed over

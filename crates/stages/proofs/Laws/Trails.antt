@@ -1,4 +1,4 @@
--- A step of a branch: a mark, or a group tried, takes a record to another, and the marks kept from there on stand behind it. With it what
+-- A step of a branch: a mark, or a group, takes a record to another, and the marks kept from there on stand behind it. With it what
 -- a command answers by itself, and what one answers after a step. Assumes nothing.
 use Prim.Native.Nat.{ℕ}
 use mathlib.Core.Path.{_≡_, refl, sym, ap, ap₂, _∙_}
@@ -19,14 +19,13 @@ use Rattle.letters.specs.Numbered.{numbered, firstOf}
 use Rattle.marks.specs.declared.marked.Marked.{Marked}
 use Rattle.marks.specs.declared.marked.Marked.the-variants.{To, Fails}
 use Rattle.letters.specs.declared.harmony.Accord.{Accord}
-use Rattle.letters.specs.Accord.{noAccord, accordOf, passedOn, orAccord}
+use Rattle.letters.specs.Accord.{accordOf, passedOn, orAccord}
 use Rattle.marks.specs.Reach.{leading, leadingAccord, reach}
 use Rattle.stages.specs.declared.trail.Trail.{Trail}
 use Rattle.stages.specs.declared.trail.Way.{Way}
-use Rattle.stages.specs.declared.trail.Tried.{Tried}
 use Rattle.stages.specs.declared.trail.Branch.{Branch}
 use Rattle.stages.specs.declared.trail.Branch.the-variants.{Fits, Unfit}
-use Rattle.stages.specs.Trail.{behindTrail, trailOf, heardAlong, wayOf, noWay, behindWay, along, cutTo, triedTo}
+use Rattle.stages.specs.Trail.{behindTrail, trailOf, heardAlong, wayOf, noWay, behindWay, along, cutTo}
 
 -- ---- one mark ----
 
@@ -55,7 +54,7 @@ one-group (k ∷ ks) cs = one-first (one-out (numbered k) cs (markOf (numbered k
 
 -- ---- a step ----
 
--- an answer that takes record c to record d, and behind whose number and finding what is kept from d on stands; number 0 is none
+-- an answer that takes record c to record d, and behind whose number and finding what is kept from d on stands
 pub record Steps (w : List ℕ) (c : Cursor) (o : Trace) (d : Cursor) (k : ℕ) (h : Accord) : Type 0 where
   marks : List Taken
   flag : Bool
@@ -92,20 +91,6 @@ pub steps-group : (w : List ℕ) (c : Cursor) (ks : List ℕ) {o : Trace} {r : M
     → r ≡ reach w c (firstOf ks (behind w c)) → r ≡ To d k h → Steps w c o d k h
 steps-group w c ks same is to = rw same at (steps-one w c (one-group ks (behind w c)) is to)
 
--- what is tried is a step to where it leaves the record
-steps-tried : (w : List ℕ) (c : Cursor) {o : Trace} {p : Tried} → One o → Open w c → p ≡ triedTo w c o
-    → Steps w c (firstTrace o (keeps [] true)) (p .c) (p .kind) (p .told)
-unfolding triedTo firstTrace behindWay behindTrail wayOf noAccord orAccord leading leadingAccord total
-steps-tried w c failing opens is =
-    rw is (record { marks = []; flag = true; keeps-is = refl; there = sym (backBy-zero w c opens); goes-on = λ ts. refl })
-steps-tried w c (single t f) opens is =
-    steps-taken w c t f (ap (λ (x : Tried). x .c) is) (ap (λ (x : Tried). x .kind) is) (ap (λ (x : Tried). x .told) is)
-
--- so is a group tried, whichever way it is written
-pub steps-try : (w : List ℕ) (c : Cursor) (ks : List ℕ) {o : Trace} {p : Tried} → firstTrace (firstOf ks (behind w c)) (keeps [] true) ≡ o → Open w c
-    → p ≡ triedTo w c (firstOf ks (behind w c)) → Steps w c o (p .c) (p .kind) (p .told)
-steps-try w c ks same opens is = rw same at (steps-tried w c (one-group ks (behind w c)) opens is)
-
 -- ---- what a command answers ----
 
 -- a command that reaches nothing keeps nothing
@@ -113,18 +98,6 @@ pub reach-fails : (w : List ℕ) (c : Cursor) (o : Trace) {r : Marked} → r ≡
 unfolding reach
 reach-fails w c none is fails = refl
 reach-fails w c (keeps ts f) is fails = to-fails is fails
-
--- what is tried leaves the record where it is if it fails
-pub tried-fails : (w : List ℕ) (c : Cursor) (o : Trace) {r : Marked} → r ≡ reach w c o → r ≡ Fails → record { c = c; kind = 0; told = noAccord } ≡ triedTo w c o
-unfolding triedTo
-tried-fails w c o is fails = sym (ap (triedTo w c) (reach-fails w c o is fails))
-
--- and at the one that it reaches if it fits
-pub tried-to : (w : List ℕ) (c : Cursor) (o : Trace) {r : Marked} {d : Cursor} {k : ℕ} {h : Accord} → r ≡ reach w c o → r ≡ To d k h
-    → record { c = d; kind = k; told = h } ≡ triedTo w c o
-unfolding reach triedTo
-tried-to w c none is to = to-fails to is
-tried-to w c (keeps ts f) is to = cc
 
 -- equal records and marks make equal answers
 fits-same : {d e : Cursor} {t u : Way} → d ≡ e → t ≡ u → Fits d t ≡ Fits e u
@@ -203,7 +176,7 @@ cutTo-deleted : (w : List ℕ) (c : Cursor) (o : Trace) → cutTo w (deleted c) 
 unfolding cutTo deleted backBy moveTo wayOf
 cutTo-deleted w c none = refl
 cutTo-deleted w c (keeps ts f) =
-    ap₂ (λ (t : Trail) (h : Accord). Fits (deleted (backBy w c (total ts))) (record { heard = h; trail = t }))
+    ap₂ (λ (t : Trail) (h : Accord). Fits (deleted (backBy w c (total ts))) (record { trail = t; heard = h }))
     (trailOf-limit w c (c .cursor) ts) (heardAlong-limit w c (c .cursor) ts)
 
 -- ---- what it answers after a step ----
@@ -236,6 +209,13 @@ module _ (w : List ℕ) (c : Cursor) {o : Trace} {d : Cursor} {k : ℕ} {h : Acc
   -- and so does its deletion
   pub open-cut : {e : Cursor} → e ≡ deleted d → Open w c → Open w e
   open-cut e opens = rw e (open-deleted w d (open-step opens))
+
+  -- it is the same before any other command
+  pub first-step : (q : Trace) → Steps w c (firstTrace o q) d k h
+  unfolding firstTrace
+  first-step q =
+      let same = ap (λ (x : Trace). firstTrace x q) (s .keeps-is) in
+      record { marks = s .marks; flag = s .flag; keeps-is = same; there = s .there; goes-on = s .goes-on }
 
   -- what it answers by itself
   pub along-step : {t : Way} → t ≡ behindWay k (d .cursor) h noWay → Fits d t ≡ along w c o
@@ -291,7 +271,7 @@ module _ (w : List ℕ) (c : Cursor) {o : Trace} {d : Cursor} {k : ℕ} {h : Acc
     then-cut is f u = cut-after (cut-along w d (q (behind w d)) is f) u
 
     -- and so where all from the step on was deleted before
-    pub then-deleted : {e f g : Cursor} {t u : Way} → e ≡ deleted d → Fits f t ≡ along w e (q (behind w e)) → g ≡ deleted f → u ≡ behindWay k (d .cursor) h t
+    then-deleted : {e f g : Cursor} {t u : Way} → e ≡ deleted d → Fits f t ≡ along w e (q (behind w e)) → g ≡ deleted f → u ≡ behindWay k (d .cursor) h t
         → Fits g u ≡ cutTo w c (afterTrace o (λ n. q (drop n (behind w c))))
     unfolding behind deleted
     then-deleted e is g u =

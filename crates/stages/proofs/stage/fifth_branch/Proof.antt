@@ -14,7 +14,7 @@ use Rattle.letters.proofs.Laws.Accord.{listens-unasked}
 use Rattle.letters.specs.Accord.{noAccord}
 use Rattle.stages.specs.Trail.{noStop, noTrail, noWay}
 use Rattle.stages.proofs.Laws.Trails.{steps-mark, steps-group, reach-fails, cut-none, after-none, open-cut, along-step, try-cut, try-none}
-use Rattle.stages.proofs.Laws.Branches.{someEnd-sees, reach-seen, group-four}
+use Rattle.stages.proofs.Laws.Branches.{someEnd-seen, reach-seen, group-four}
 use Rattle.stages.proofs.stage.fifth_branch.Statement.{statement}
 use Rattle.stages.proofs.stage.fifth_branch.Tie as tie
 
@@ -22,7 +22,7 @@ returns : tie.Need-returns
 unfolding trace branch5 numbered
 returns c =
     let s = c .before .before .before in
-    let fails = someEnd-sees _ (s .args .s) (s .pre .0) (4 ∷ 3 ∷ 2 ∷ 1 ∷ []) (c .before .ends-fifth .ensures) (not-true _ (c .if1 .taken)) in
+    let fails = someEnd-seen _ _ (s .pre .0 .is) (4 ∷ 3 ∷ 2 ∷ 1 ∷ []) (c .before .ends-fifth .ensures) (not-true _ (c .if1 .taken)) in
     cut-none _ _ _ (after-none _ _ (sym (group-four _ 4 3 2 1) ∙ fails))
 
 first-of-requires : tie.Need-first-of-requires

@@ -8,7 +8,7 @@ use Rattle.letters.specs.Numbered.{numbered}
 use Rattle.letters.specs.Accord.{noAccord}
 use Rattle.stages.specs.Trail.{noStop, noTrail, noWay}
 use Rattle.stages.proofs.Laws.Trails.{steps-group, reach-fails, cut-none, cut-step}
-use Rattle.stages.proofs.Laws.Branches.{someEnd-sees, group-four}
+use Rattle.stages.proofs.Laws.Branches.{someEnd-seen, group-four}
 use Rattle.stages.proofs.stage.first_branch.Statement.{statement}
 use Rattle.stages.proofs.stage.first_branch.Tie as tie
 
@@ -16,7 +16,7 @@ returns : tie.Need-returns
 unfolding branch1 numbered
 returns c =
     let s = c .before .before .before in
-    let fails = someEnd-sees _ (s .args .s) (s .pre .0) (11 ∷ 9 ∷ 10 ∷ 12 ∷ []) (c .before .ends-first .ensures) (not-true _ (c .if1 .taken)) in
+    let fails = someEnd-seen _ _ (s .pre .0 .is) (11 ∷ 9 ∷ 10 ∷ 12 ∷ []) (c .before .ends-first .ensures) (not-true _ (c .if1 .taken)) in
     cut-none _ _ _ (sym (group-four _ 11 9 10 12) ∙ fails)
 
 first-of-requires : tie.Need-first-of-requires

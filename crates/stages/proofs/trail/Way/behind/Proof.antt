@@ -10,7 +10,7 @@ use Rattle.stages.proofs.trail.Way.behind.Tie as tie
 
 returns : tie.Need-returns
 unfolding behindWay
-returns c = ap₂ {C = Way} (λ (t : Trail) (h : Accord). record { heard = h; trail = t }) (c .behind .ensures) (c .before .or-else .ensures)
+returns c = ap₂ {C = Way} (λ (t : Trail) (h : Accord). record { trail = t; heard = h }) (c .before .behind .ensures) (c .or-else .ensures)
 
 pub behind-spec : {M : Type 1} → statement M
 behind-spec = tie.close (tie.spec (λ c κs. search needs) (λ c κs. search needs) returns)
