@@ -1,8 +1,9 @@
 -- What is known of harmony before a record with what it found, as the code holds it. Assumes nothing.
 use Prim.Native.Nat.{ℕ}
 use mathlib.Core.Path.{_≡_}
-use mathlib.Core.Bool.{Bool, true, false, cond}
+use mathlib.Core.Bool.{Bool, true, cond}
 use mathlib.Core.List.{List, [], _∷_}
+use lib.Dec.{leb}
 use Rattle.utf8.specs.declared.cursor.Cursor.{Cursor}
 use Rattle.utf8.specs.Characters.{before, back}
 use Rattle.utf8.specs.Behind.{behind, backBy}
@@ -11,16 +12,36 @@ use Rattle.letters.specs.declared.harmony.Accord.{Accord}
 use Rattle.letters.specs.declared.seen.Seen.{Seen}
 use Rattle.letters.specs.Ends.{someEnd}
 
+-- the answers but for 0, not asked for: no; yes; and yes, but past a vowel that is no partner
+abbrev pub answerNo : ℕ
+answerNo = 1
+
+abbrev pub answerYes : ℕ
+answerYes = 2
+
+abbrev pub answerPast : ℕ
+answerPast = 3
+
+-- whether harmony was asked for, whether it holds, and whether it holds past a vowel
+unfoldable pub asked : Accord → Bool
+asked t = leb answerNo (t .answer)
+
+unfoldable pub holds : Accord → Bool
+holds t = leb answerYes (t .answer)
+
+unfoldable pub skips : Accord → Bool
+skips t = leb answerPast (t .answer)
+
 -- harmony not asked for, and harmony that does not hold
 unfoldable pub noAccord : Accord
-noAccord = record { last = 0; partner = 0; asked = false; holds = false; skipped = false }
+noAccord = record { last = 0; partner = 0; answer = 0 }
 
 unfoldable pub discord : Accord
-discord = record { last = 0; partner = 0; asked = true; holds = false; skipped = false }
+discord = record { last = 0; partner = 0; answer = answerNo }
 
 -- harmony that holds, with the two places
 unfoldable pub concord : ℕ → ℕ → Bool → Accord
-concord last partner skipped = record { last = last; partner = partner; asked = true; holds = true; skipped = skipped }
+concord last partner skipped = record { last = last; partner = partner; answer = cond skipped answerPast answerYes }
 
 -- what is found from a place on, and from a record on
 unfoldable pub accordFrom : List ℕ → ℕ → Found → Accord
@@ -40,7 +61,7 @@ accordAt w c = accordOf w c (harmonyFound (behind w c))
 
 -- where it was asked for, it is known
 pub record Listens (w : List ℕ) (c : Cursor) (t : Accord) : Type 0 where
-  pub heard : t .asked ≡ true → t ≡ accordAt w c
+  pub heard : asked t ≡ true → t ≡ accordAt w c
 
 -- what a mark that fits passes on of what its harmony test found; one that tests none has nothing
 unfoldable pub passedOn : List ℕ → Cursor → Found → Accord
@@ -49,7 +70,7 @@ passedOn w c (at last partner) = accordOf w c (at last partner)
 
 -- the first of two that was asked for
 unfoldable pub orAccord : Accord → Accord → Accord
-orAccord t u = cond (t .asked) t u
+orAccord t u = cond (asked t) t u
 
 -- at the word's end it is asked for where the last letters are those of a mark that tests it
 unfoldable pub accordAtEnd : List ℕ → Seen → Accord

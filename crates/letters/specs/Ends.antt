@@ -39,3 +39,7 @@ mayEnd k a b c =
 -- they may end a key of some mark of a group
 unfoldable pub someEnd : List ℕ → ℕ → ℕ → ℕ → Bool
 someEnd ks a b c = any (λ k. mayEnd k a b c) ks
+
+-- the last character may end a person's ending: r z m n
+unfoldable pub personEnd : ℕ → Bool
+personEnd a = (eqb a (code "r") || eqb a (code "z")) || (eqb a (code "m") || eqb a (code "n"))

@@ -1,7 +1,7 @@
 // The last letters of the marks' keys, tested before a table is searched: most marks fail by these alone.
 ghost use mathlib.Core.Path.{_≡_};
 ghost use mathlib.Core.List.{[], _∷_};
-ghost use Rattle.letters.specs.Ends.{isU, isA, isD, isKMN, mayEnd, someEnd};
+ghost use Rattle.letters.specs.Ends.{isU, isA, isD, isKMN, mayEnd, someEnd, personEnd};
 
 // The letters that the marks' names write U, A and D, and those that may follow in yDU and ysA.
 pub fn is_U(c: u32) -> bool
@@ -63,11 +63,11 @@ pub fn ends_fifth(a: u32, b: u32, c: u32) -> bool
     may_end(4, a, b, c) | (may_end(3, a, b, c) | (may_end(2, a, b, c) | may_end(1, a, b, c)))
 }
 
-// Of some mark of a person's ending: lAr, or one of those.
-pub fn ends_person(a: u32, b: u32, c: u32) -> bool
-    ensures { λ r. ⌜ r ≡ someEnd (5 ∷ 4 ∷ 3 ∷ 2 ∷ 1 ∷ []) a b c ⌝ }
+// Whether the last character may end a person's ending: lAr, or one of those.
+pub fn ends_person(a: u32) -> bool
+    ensures { λ r. ⌜ r ≡ personEnd a ⌝ }
 {
-    may_end(5, a, b, c) | ends_fifth(a, b, c)
+    ((a == 0x72) | (a == 0x7A)) | ((a == 0x6D) | (a == 0x6E))
 }
 
 // Of some mark that may follow lAr: DUr, yDU, ysA, ymUs_.

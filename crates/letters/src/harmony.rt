@@ -1,7 +1,6 @@
 // Vowel harmony (turkish.rs, `r_check_vowel_harmony`): the last vowel before the cursor, and the nearest of its partners before it.
 use crate::vowel::Sound;
 use crate::vowel::Vowel;
-use crate::vowel::is_vowel;
 use utf8::characters;
 use utf8::cursor::Cursor;
 ghost use mathlib.Core.Path.{_≡_};
@@ -9,7 +8,7 @@ ghost use Prim.Native.Nat.{_≤_};
 ghost use lib.ListN.{length};
 ghost use Rattle.utf8.specs.Behind.{Open};
 ghost use Rattle.letters.specs.Told.{Hears, toldAt};
-ghost use Rattle.letters.specs.Accord.{Listens, accordBefore, accordAt, orAccord};
+ghost use Rattle.letters.specs.Accord.{asked, holds, skips, Listens, accordBefore, accordAt, orAccord};
 
 // What is known of harmony's yes or no before a cursor: whether it was asked for, and whether it holds.
 pub struct Told {
@@ -24,39 +23,61 @@ impl Told {
     };
 }
 
-// The same, and where harmony holds the places at which the last vowel and its nearest partner start, and whether a vowel was skipped between
-// them.
+// What is known of harmony before a cursor: its answer, and where that is yes the places at which the last vowel and its nearest partner
+// start. The answer is one number: flags beside the places would be copied by moves that overlap.
 pub struct Accord {
     pub last: usize,
     pub partner: usize,
-    pub asked: bool,
-    pub holds: bool,
-    pub skipped: bool,
+    pub answer: usize,
 }
+
+// The answers but for 0, not asked for: no; yes; and yes, but past a vowel that is no partner.
+const NO: usize = 1;
+
+const YES: usize = 2;
+
+const YES_PAST_A_VOWEL: usize = 3;
 
 impl Accord {
     pub const UNASKED: Accord = Accord {
         last: 0,
         partner: 0,
-        asked: false,
-        holds: false,
-        skipped: false,
+        answer: 0,
     };
 
     // Asked for, and it does not hold.
     const DISCORD: Accord = Accord {
         last: 0,
         partner: 0,
-        asked: true,
-        holds: false,
-        skipped: false,
+        answer: NO,
     };
+
+    // Whether harmony was asked for.
+    pub fn asked(self) -> bool
+        ensures { λ r. ⌜ r ≡ asked self ⌝ }
+    {
+        NO <= self.answer
+    }
+
+    // Whether it holds.
+    pub fn holds(self) -> bool
+        ensures { λ r. ⌜ r ≡ holds self ⌝ }
+    {
+        YES <= self.answer
+    }
+
+    // Whether it holds past a vowel.
+    pub fn skips(self) -> bool
+        ensures { λ r. ⌜ r ≡ skips self ⌝ }
+    {
+        YES_PAST_A_VOWEL <= self.answer
+    }
 
     // This, or another where harmony was not asked for here.
     pub fn or_else(self, other: Accord) -> Accord
         ensures { λ r. ⌜ r ≡ orAccord self other ⌝ }
     {
-        if self.asked {
+        if self.asked() {
             return self;
         }
         other
@@ -82,7 +103,7 @@ fn check_vowel_harmony(w: &[u8], c: usize) -> Accord
         break 'goto v;
     };
     let last = at;
-    let mut skipped = false;
+    let mut answer = YES;
     'goto: loop {
         if at == 0 {
             return Accord::DISCORD;
@@ -90,48 +111,53 @@ fn check_vowel_harmony(w: &[u8], c: usize) -> Accord
         let n = characters::last_width(w, at);
         at -= n;
         let ch = characters::char_at(w, at, n);
-        if !is_vowel(ch) {
+        let Sound::AVowel(u) = Vowel::of(ch) else {
             continue 'goto;
-        }
-        if v.has_partner(ch) {
+        };
+        // By u and not by ch: where the case is known the compiler need not compare with all four.
+        if v.has_partner(u.ch) {
             break 'goto;
         }
-        skipped = true;
+        answer = YES_PAST_A_VOWEL;
     }
     Accord {
         last,
         partner: at,
-        asked: true,
-        holds: true,
-        skipped,
+        answer,
     }
 }
 
-// Harmony before the cursor, down to limit_backward, walked for only where it is not known.
-pub fn listen(w: &[u8], c: Cursor, t: Accord) -> Accord
+// Harmony before the cursor, down to limit_backward.
+pub fn listen(w: &[u8], c: Cursor) -> Accord
     requires { ⌜ Open (now w) c ⌝ }
-    requires { ⌜ Listens (now w) c t ⌝ }
     ensures { λ r. ⌜ r ≡ accordAt (now (w .entry)) c ⌝ }
 {
-    if t.asked {
-        return t;
-    }
     let low = c.limit_backward;
     let part = &w[low..];
     let a = check_vowel_harmony(part, c.cursor - low);
-    if !a.holds {
+    if !a.holds() {
         return a;
     }
     Accord {
         last: low + a.last,
         partner: low + a.partner,
-        asked: true,
-        holds: true,
-        skipped: a.skipped,
+        answer: a.answer,
     }
 }
 
-// Its yes or no alone.
+// The same, walked for only where it is not known.
+pub fn known(w: &[u8], c: Cursor, t: Accord) -> Accord
+    requires { ⌜ Open (now w) c ⌝ }
+    requires { ⌜ Listens (now w) c t ⌝ }
+    ensures { λ r. ⌜ r ≡ accordAt (now (w .entry)) c ⌝ }
+{
+    if t.asked() {
+        return t;
+    }
+    listen(w, c)
+}
+
+// Its yes or no alone, likewise.
 pub fn hear(w: &[u8], c: Cursor, t: Told) -> Told
     requires { ⌜ Open (now w) c ⌝ }
     requires { ⌜ Hears (now w) c t ⌝ }
@@ -140,9 +166,9 @@ pub fn hear(w: &[u8], c: Cursor, t: Told) -> Told
     if t.asked {
         return t;
     }
-    let a = listen(w, c, Accord::UNASKED);
+    let a = listen(w, c);
     Told {
         asked: true,
-        holds: a.holds,
+        holds: a.holds(),
     }
 }

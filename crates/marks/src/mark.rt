@@ -172,8 +172,8 @@ pub fn first_of(w: &[u8], s: Seen, told: Accord, group: &[u32]) -> Marked
         if !is_harmonic(k) {
             return Marked::To(s.c.moved_to(p.at), k, Accord::UNASKED);
         }
-        t = harmony::listen(w, s.c, t);
-        if t.holds {
+        t = harmony::known(w, s.c, t);
+        if t.holds() {
             return Marked::To(s.c.moved_to(p.at), k, t);
         }
     }
@@ -197,8 +197,8 @@ pub fn one_of(w: &[u8], s: Seen, told: Accord, kind: u32) -> Marked
     if !is_harmonic(kind) {
         return Marked::To(s.c.moved_to(p.at), kind, Accord::UNASKED);
     }
-    let t = harmony::listen(w, s.c, told);
-    if !t.holds {
+    let t = harmony::known(w, s.c, told);
+    if !t.holds() {
         return Marked::Fails;
     }
     Marked::To(s.c.moved_to(p.at), kind, t)

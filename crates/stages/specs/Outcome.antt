@@ -9,7 +9,7 @@ use Rattle.turkish.specs.Simple.Pieces.{stageMarks}
 use Rattle.turkish.specs.Calls.{chars}
 use Rattle.stages.specs.declared.stage.Outcome.{Outcome}
 use Rattle.letters.specs.declared.harmony.Accord.{Accord}
-use Rattle.letters.specs.Accord.{noAccord}
+use Rattle.letters.specs.Accord.{asked, skips, noAccord}
 use Rattle.stages.specs.declared.trail.Trail.{Trail}
 use Rattle.stages.specs.declared.trail.Way.{Way}
 use Rattle.stages.specs.Trail.{noTrail, trailOf, heardAlong}
@@ -21,7 +21,7 @@ whole w = record { cursor = length w; limit = length w; «limit_backward» = 0 }
 -- the answer with these marks, and what the first of them found that tests harmony
 abbrev pub outcome : ℕ → Bool → Bool → Trail → Accord → Outcome
 outcome n answer f t h =
-    record { kept = n; yes = answer; flag = f; harmonic = h .asked; last = h .last; partner = h .partner; loan = h .skipped; trail = t }
+    record { kept = n; yes = answer; flag = f; harmonic = asked h; last = h .last; partner = h .partner; loan = skips h; trail = t }
 
 unfoldable pub outcomeOf : List ℕ → Outcome
 outcomeOf w =

@@ -1,8 +1,6 @@
 -- The marks that a branch keeps, and what the first of them found that tests harmony, as the code gives them. Assumes nothing.
 use Prim.Native.Nat.{ℕ}
-use mathlib.Core.Bool.{cond}
 use mathlib.Core.List.{List, [], _∷_}
-use lib.Dec.{eqb}
 use Rattle.utf8.specs.declared.cursor.Cursor.{Cursor}
 use Rattle.utf8.specs.Behind.{backBy, deleted}
 use Rattle.turkish.specs.Simple.Pieces.{Taken, Trace, none, keeps, total}
@@ -21,9 +19,9 @@ noStop = record { kind = 0; at = 0 }
 unfoldable pub noTrail : Trail
 noTrail = record { first = noStop; second = noStop; third = noStop }
 
--- marks kept behind one more, which has a number and begins at a place; number 0 is none
+-- marks kept behind one more, which has a number and begins at a place
 unfoldable pub behindTrail : ℕ → ℕ → Trail → Trail
-behindTrail k at t = cond (eqb k 0) t (record { first = record { kind = k; at = at }; second = t .first; third = t .second })
+behindTrail k at t = record { first = record { kind = k; at = at }; second = t .first; third = t .second }
 
 -- the marks taken from a record on, one behind the other
 unfoldable pub trailOf : List ℕ → Cursor → List Taken → Trail

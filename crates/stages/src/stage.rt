@@ -20,7 +20,6 @@ ghost use Rattle.turkish.specs.Simple.Pieces.{trace};
 ghost use Rattle.turkish.specs.Simple.Stage.{person, branch1, branch2, branch3, branch4, branch5, branch6};
 ghost use Rattle.letters.specs.Seen.{Sees};
 ghost use Rattle.letters.specs.Accord.{Listens, accordAtEnd};
-ghost use Rattle.letters.specs.Numbered.{firstOf};
 ghost use Rattle.stages.specs.Trail.{along, cutTo};
 ghost use Rattle.stages.specs.Outcome.{outcomeOf, uncut, cut};
 
@@ -64,10 +63,10 @@ impl Outcome {
             kept: c.limit,
             yes: true,
             flag,
-            harmonic: h.asked,
+            harmonic: h.asked(),
             last: h.last,
             partner: h.partner,
-            loan: h.skipped,
+            loan: h.skips(),
             trail,
         }
     }
@@ -94,7 +93,7 @@ fn person_then_ymUs(w: &[u8], c: Cursor) -> Branch
     ensures { λ r. ⌜ r ≡ along (now (w .entry)) c (trace (person then mark ymUs) (behind (now (w .entry)) c)) ⌝ }
 {
     let s = seen::look_back(w, c);
-    if !ends::ends_person(s.last, s.second, s.third) {
+    if !ends::ends_person(s.last) {
         let Marked::To(e, kind, told) = mark::one_of(w, s, Accord::UNASKED, mark::YMUS) else {
             return Branch::Unfit;
         };
@@ -251,7 +250,7 @@ fn told_at_end(w: &[u8], s: Seen) -> Accord
     if !ends::ends_harmonic(s.last, s.second, s.third) {
         return Accord::UNASKED;
     }
-    harmony::listen(w, s.c, Accord::UNASKED)
+    harmony::listen(w, s.c)
 }
 
 // The suffix stage of a word, entered at its end with limit_backward 0: the first branch that fits.

@@ -29,13 +29,10 @@ impl Trail {
         third: Stop::NONE,
     };
 
-    // The same marks behind one that was kept before them; number 0 is none.
+    // The same marks behind one that was kept before them.
     pub fn behind(self, kind: u32, at: usize) -> Trail
         ensures { λ r. ⌜ r ≡ behindTrail kind at self ⌝ }
     {
-        if kind == 0 {
-            return self;
-        }
         let a = self.first;
         let b = self.second;
         Trail {

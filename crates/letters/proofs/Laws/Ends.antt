@@ -24,7 +24,7 @@ use Rattle.turkish.proofs.Laws.Outcome.{Gives, unfit, post-all}
 use Rattle.turkish.proofs.Laws.Traces.{traceOf-none}
 use Rattle.letters.specs.declared.seen.Seen.{Seen}
 use Rattle.letters.specs.Seen.{seenAt, Sees}
-use Rattle.letters.specs.Ends.{isU, isA, isD, isKMN, mayEnd, someEnd}
+use Rattle.letters.specs.Ends.{isU, isA, isD, isKMN, mayEnd, someEnd, personEnd}
 use Rattle.letters.specs.Numbered.{numbered, never, unharmonic, firstOf}
 
 -- ---- keys ----
@@ -132,24 +132,25 @@ someEnd-unfit (k ∷ ks) cs e =
 
 module _ (a b c : ℕ) where
   -- they may then end a key of none of its marks
-  pub someEnd-each : (ks : List ℕ) (k : ℕ) → has ks k ≡ true → someEnd ks a b c ≡ false → mayEnd k a b c ≡ false
+  someEnd-each : (ks : List ℕ) (k : ℕ) → has ks k ≡ true → someEnd ks a b c ≡ false → mayEnd k a b c ≡ false
   unfolding someEnd has any
   someEnd-each [] k h e = absurd (false≢true h)
   someEnd-each (j ∷ ks) k h e =
       let n = or-no (mayEnd j a b c) (someEnd ks a b c) .0 e in
       ⊎-elim (λ p. ap (λ (i : ℕ). mayEnd i a b c) (eqb-true k j p) ∙ n .0) (λ m. someEnd-each ks k m (n .1)) (or-either (eqb k j) (has ks k) h)
 
-  -- nor one of a group of some of its marks
-  pub someEnd-some : (ks js : List ℕ) → every (has ks) js ≡ true → someEnd ks a b c ≡ false → someEnd js a b c ≡ false
-  unfolding someEnd any every
-  someEnd-some ks [] h e = refl
-  someEnd-some ks (j ∷ js) h e =
-      rw (someEnd-each ks j (and-left (has ks j) (every (has ks) js) h) e)
-      (someEnd-some ks js (and-right (has ks j) (every (has ks) js) h) e)
+  -- without the last letter of a person's ending there is none
+  pub person-letters : personEnd a ≡ false → someEnd (4 ∷ 5 ∷ 1 ∷ 2 ∷ 3 ∷ []) a b c ≡ false
+  unfolding someEnd any mayEnd personEnd
+  person-letters e =
+      let halves = or-no (eqb a (code "r") || eqb a (code "z")) (eqb a (code "m") || eqb a (code "n")) .0 e in
+      let one = or-no (eqb a (code "r")) (eqb a (code "z")) .0 (halves .0) in
+      let other = or-no (eqb a (code "m")) (eqb a (code "n")) .0 (halves .1) in
+      rw (one .0, one .1, other .0, other .1)
 
-  -- what ends as a person's ending may does not end as ymUs_ may
-  pub person-not-ymUs : someEnd (5 ∷ 4 ∷ 3 ∷ 2 ∷ 1 ∷ []) a b c ≡ true → mayEnd 11 a b c ≡ false
-  unfolding someEnd any mayEnd
+  -- with it there is no ymUs_
+  pub person-not-ymUs : personEnd a ≡ true → mayEnd 11 a b c ≡ false
+  unfolding personEnd mayEnd
   person-not-ymUs e = go (eqb a (code "ş")) refl
     where
       go : (t : Bool) → eqb a (code "ş") ≡ t → t && (isU b && eqb c (code "m")) ≡ false

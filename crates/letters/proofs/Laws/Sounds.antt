@@ -1,7 +1,7 @@
 -- What a sound says of a code point: whether it is a vowel, and which its partners are. The partners are the definition's because each
 -- vowel has one to four of them, which is computed over the vowels. Assumes nothing.
 use Prim.Native.Nat.{ℕ, _≤_, _<_}
-use mathlib.Core.Path.{_≡_, refl, ap, _∙_}
+use mathlib.Core.Path.{_≡_, refl, sym, ap, _∙_}
 use mathlib.Core.Bool.{Bool, true, false, cond, not, _&&_, false≢true, true≢false, or-false, or-self}
 use mathlib.Core.List.{List, [], _∷_}
 use native.Mathlib.Omega.{arith}
@@ -96,11 +96,15 @@ unfolding soundOf
 soundOf-ch ch v e = ap (λ (u : Vowel). u .ch) (chosen-aVowel (vowel ch) (vowelOf ch (partnersIn partnerTable ch)) v e .1) ∙ vowelOf-ch ch (partnersIn partnerTable ch)
 
 -- and its partners are that vowel's
-pub soundOf-partner : (ch : ℕ) (v : Vowel) (c : ℕ) → soundOf ch ≡ AVowel v → partners v c ≡ partner ch c
+soundOf-partner : (ch : ℕ) (v : Vowel) (c : ℕ) → soundOf ch ≡ AVowel v → partners v c ≡ partner ch c
 unfolding soundOf
 soundOf-partner ch v c e =
     let d = chosen-aVowel (vowel ch) (vowelOf ch (partnersIn partnerTable ch)) v e in
     ap (λ (u : Vowel). partners u c) (d .1) ∙ vowelOf-partner ch c (d .0)
+
+-- so of two vowels
+pub partner-sound : (ch d : ℕ) (v u : Vowel) → soundOf ch ≡ AVowel v → soundOf d ≡ AVowel u → partner ch d ≡ partners v (u .ch)
+partner-sound ch d v u e f = ap (partner ch) (sym (soundOf-ch d u f)) ∙ sym (soundOf-partner ch v (u .ch) e)
 
 -- a code point that is none of the eight vowels has no vowel's sound
 pub soundOf-none : (ch : ℕ) → (ch ≡ 0x61 → ⊥) → (ch ≡ 0x65 → ⊥) → (ch ≡ 0x69 → ⊥) → (ch ≡ 0x6F → ⊥)

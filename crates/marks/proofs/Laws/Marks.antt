@@ -26,7 +26,7 @@ use Rattle.letters.specs.declared.passed.Passed.{Passed}
 use Rattle.letters.specs.declared.seen.Seen.{Seen}
 use Rattle.letters.specs.Passed.{passedTo, notPassed, passes}
 use Rattle.letters.specs.declared.harmony.Accord.{Accord}
-use Rattle.letters.specs.Accord.{noAccord, accordAt, passedOn}
+use Rattle.letters.specs.Accord.{holds, noAccord, accordAt, passedOn}
 use Rattle.marks.specs.Reach.{leading, leadingAccord, reach}
 use Rattle.letters.specs.Numbered.{numbered, tabled, unharmonic, keyedBy, firstOf}
 use Rattle.letters.specs.Search.{foundFrom, found}
@@ -192,9 +192,9 @@ unfolding foundBy passedOn
 passes-free w c e = rw e
 
 -- one that tests it passes on what it was told
-pub passes-bound : (w : List ℕ) (c : Cursor) {h : Bool} {t : Accord} → h ≡ true → t ≡ accordAt w c → t .holds ≡ true → t ≡ passedOn w c (foundBy h (behind w c))
+pub passes-bound : (w : List ℕ) (c : Cursor) {h : Bool} {t : Accord} → h ≡ true → t ≡ accordAt w c → holds t ≡ true → t ≡ passedOn w c (foundBy h (behind w c))
 unfolding foundBy
-passes-bound w c e is holds = rw e (accord-passedOn w c is holds)
+passes-bound w c e is h = rw e (accord-passedOn w c is h)
 
 -- a mark but yken has its keys in a table
 pub tabled-found : (w : List ℕ) (c : Cursor) {k : ℕ} {a : Among} → (k ≡ 12 → ⊥) → a ≡ found (tabled k) w c → a ≡ found (numbered k .keys) w c

@@ -37,11 +37,6 @@ spare (suc n) = unused ∷ spare n
 nonzero : {t : Taken} {ts : List Taken} → Each Numbered ts → List·Memᴰ t ts → eqb (t .kind) 0 ≡ false
 nonzero {t} s i = ne-eqb (t .kind) 0 (λ e. omega (arith, s t i .low))
 
--- a mark kept before others stands first in their trail
-behind-some : (k at : ℕ) (t : Trail) → eqb k 0 ≡ false → behindTrail k at t ≡ record { first = record { kind = k; at = at }; second = t .first; third = t .second }
-unfolding behindTrail
-behind-some k at t e = rw e
-
 -- ---- the marks of a trail ----
 
 -- a trail of these three
@@ -60,24 +55,15 @@ pub data Marks (w : List ℕ) (c : Cursor) : List Taken → Trail → Type 0 whe
 
 -- the marks that stand in a trail of so many are those that it was made of
 pub marks-trail : (w : List ℕ) (c : Cursor) (ts : List Taken) → Each Numbered ts → length ts ≤ mostPieces → Marks w c ts (trailOf w c ts)
-unfolding trailOf noTrail mostPieces
+unfolding trailOf noTrail behindTrail mostPieces
 marks-trail w c [] s h = none
-marks-trail w c (t ∷ []) s h =
-    let a = nonzero s (List·Memᴰ·head refl) in
-    rw (behind-some (t .kind) (backBy w c (t .size) .cursor) noTrail a) (one t a)
-marks-trail w c (t ∷ u ∷ []) s h =
-    let a = nonzero s (List·Memᴰ·head refl) in
-    let b = nonzero s (List·Memᴰ·tail (List·Memᴰ·head refl)) in
-    let d = backBy w c (t .size) in
-    rw (behind-some (u .kind) (backBy w d (u .size) .cursor) noTrail b, behind-some (t .kind) (d .cursor) _ a) (two t u a b)
+marks-trail w c (t ∷ []) s h = one t (nonzero s (List·Memᴰ·head refl))
+marks-trail w c (t ∷ u ∷ []) s h = two t u (nonzero s (List·Memᴰ·head refl)) (nonzero s (List·Memᴰ·tail (List·Memᴰ·head refl)))
 marks-trail w c (t ∷ u ∷ v ∷ []) s h =
     let a = nonzero s (List·Memᴰ·head refl) in
     let b = nonzero s (List·Memᴰ·tail (List·Memᴰ·head refl)) in
-    let e = nonzero s (List·Memᴰ·tail (List·Memᴰ·tail (List·Memᴰ·head refl))) in
-    let d = backBy w c (t .size) in
-    let f = backBy w d (u .size) in
-    rw (behind-some (v .kind) (backBy w f (v .size) .cursor) noTrail e, behind-some (u .kind) (f .cursor) _ b, behind-some (t .kind) (d .cursor) _ a)
-    (all t u v a b e)
+    let d = nonzero s (List·Memᴰ·tail (List·Memᴰ·tail (List·Memᴰ·head refl))) in
+    all t u v a b d
 marks-trail w c (t ∷ u ∷ v ∷ x ∷ ts) s h = absurd (omega arith)
 
 -- ---- the pieces made of it ----

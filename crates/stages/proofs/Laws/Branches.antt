@@ -10,21 +10,19 @@ use Rattle.utf8.specs.declared.cursor.Cursor.{Cursor}
 use Rattle.utf8.specs.Characters.{back}
 use Rattle.utf8.specs.Behind.{behind, backBy, deleted, Open}
 use Rattle.utf8.proofs.Laws.Behind.{behind-before, backBy-back, open-start}
-use Rattle.turkish.specs.Letters.{any, has}
 use Rattle.turkish.specs.Simple.Grammar.{Out, took, Command, mark, _then_, _or_, run}
 use Rattle.turkish.specs.Simple.Marks.{ymUs}
 use Rattle.turkish.specs.Simple.Stage.{person, branches, staged, stage, keptLength}
 use Rattle.turkish.specs.Simple.Pieces.{Taken, Trace, none, keeps, total, moreTrace, afterTrace, firstTrace, traceOf, trace, summed, takenOf, stageMarks}
 use Rattle.turkish.specs.Calls.{chars}
-use Rattle.turkish.proofs.Laws.Tests.{every}
 use Rattle.turkish.proofs.Laws.Outcome.{Flagged, unfit, fits}
 use Rattle.turkish.proofs.Laws.Traces.{first-none, run-trace}
 use Rattle.letters.specs.declared.harmony.Accord.{Accord}
 use Rattle.letters.specs.declared.seen.Seen.{Seen}
 use Rattle.letters.specs.Seen.{seenAt}
-use Rattle.letters.specs.Ends.{someEnd}
+use Rattle.letters.specs.Ends.{someEnd, personEnd}
 use Rattle.letters.specs.Numbered.{numbered, firstOf}
-use Rattle.letters.proofs.Laws.Ends.{traceOf-unfit, someEnd-unfit, someEnd-some, person-not-ymUs}
+use Rattle.letters.proofs.Laws.Ends.{traceOf-unfit, someEnd-unfit, person-letters, person-not-ymUs}
 use Rattle.letters.proofs.Laws.Sees.{seen-c}
 use Rattle.marks.specs.declared.marked.Marked.{Marked}
 use Rattle.marks.specs.declared.marked.Marked.the-variants.{To}
@@ -55,6 +53,13 @@ unfolding firstTrace
 first-assoc none p q = refl
 first-assoc (keeps ts f) p q = refl
 
+-- the marks of a person's ending, and those that may follow lAr
+abbrev pub personMarks : List ℕ
+personMarks = 4 ∷ 5 ∷ 1 ∷ 2 ∷ 3 ∷ []
+
+abbrev pub afterLAr : List ℕ
+afterLAr = 7 ∷ 9 ∷ 10 ∷ 11 ∷ []
+
 module _ (cs : List ℕ) where
   -- a group of four marks as the grammar has it
   pub group-four : (h i j k : ℕ) → firstOf (h ∷ i ∷ j ∷ k ∷ []) cs
@@ -68,12 +73,12 @@ module _ (cs : List ℕ) where
   group-two h i = simp first-none
 
   -- a person's ending or nothing
-  person-first : firstTrace (firstOf (4 ∷ 5 ∷ 1 ∷ 2 ∷ 3 ∷ []) cs) (keeps [] true) ≡ trace person cs
+  person-first : firstTrace (firstOf personMarks cs) (keeps [] true) ≡ trace person cs
   unfolding trace person firstOf numbered
   person-first = simp (first-assoc, first-none)
 
   -- where no person's ending fits, ymUs_ stands alone
-  person-absent : firstOf (4 ∷ 5 ∷ 1 ∷ 2 ∷ 3 ∷ []) cs ≡ none → trace (person then mark ymUs) cs ≡ traceOf ymUs cs
+  person-absent : firstOf personMarks cs ≡ none → trace (person then mark ymUs) cs ≡ traceOf ymUs cs
   unfolding trace afterTrace firstTrace total
   person-absent fails =
       ap (λ (o : Trace). afterTrace o (λ k. traceOf ymUs (drop k cs)))
@@ -85,9 +90,9 @@ module _ (cs : List ℕ) where
       go (keeps us g) = unfold moreTrace in refl
 
 -- a person's ending that fits is a step
-pub steps-person : (w : List ℕ) (c : Cursor) {r : Marked} {d : Cursor} {k : ℕ} {h : Accord} → r ≡ reach w c (firstOf (4 ∷ 5 ∷ 1 ∷ 2 ∷ 3 ∷ []) (behind w c))
+pub steps-person : (w : List ℕ) (c : Cursor) {r : Marked} {d : Cursor} {k : ℕ} {h : Accord} → r ≡ reach w c (firstOf personMarks (behind w c))
     → r ≡ To d k h → Steps w c (trace person (behind w c)) d k h
-steps-person w c is to = rw (person-first (behind w c)) at (first-step w c (steps-group w c (4 ∷ 5 ∷ 1 ∷ 2 ∷ 3 ∷ []) refl is to) (keeps [] true))
+steps-person w c is to = rw (person-first (behind w c)) at (first-step w c (steps-group w c personMarks refl is to) (keeps [] true))
 
 -- ---- what is seen from a record ----
 
@@ -102,18 +107,20 @@ module _ (w : List ℕ) (c : Cursor) {s : Seen} (is : s ≡ seenAt w c) where
   pub someEnd-seen : (ks : List ℕ) {b : Bool} → b ≡ someEnd ks (s .last) (s .second) (s .third) → b ≡ false → firstOf ks (behind w c) ≡ none
   someEnd-seen ks e fails = someEnd-unfit ks (behind w c) (ends-seen ks e ∙ fails)
 
-  module _ {b : Bool} (e : b ≡ someEnd (5 ∷ 4 ∷ 3 ∷ 2 ∷ 1 ∷ []) (s .last) (s .second) (s .third)) where
-    -- where they rule out a person's ending, ymUs_ stands alone
-    pub person-none : b ≡ false → trace (person then mark ymUs) (behind w c) ≡ traceOf ymUs (behind w c)
-    unfolding has any every
-    person-none fails =
-        person-absent (behind w c)
-        (someEnd-unfit _ _ (someEnd-some _ _ _ (5 ∷ 4 ∷ 3 ∷ 2 ∷ 1 ∷ []) (4 ∷ 5 ∷ 1 ∷ 2 ∷ 3 ∷ []) refl (ends-seen _ e ∙ fails)))
+  module _ {b : Bool} (e : b ≡ personEnd (s .last)) where
+    -- the last letter seen is that behind the record
+    last-seen : personEnd (getD (behind w c) 0 0) ≡ b
+    unfolding seenAt
+    last-seen = sym (e ∙ ap (λ (x : Seen). personEnd (x .last)) is)
 
-    -- where they are those of one, and none fits, nor does ymUs_
-    pub person-unfit : b ≡ true → firstOf (4 ∷ 5 ∷ 1 ∷ 2 ∷ 3 ∷ []) (behind w c) ≡ none → trace (person then mark ymUs) (behind w c) ≡ none
+    -- where it is none of a person's ending, ymUs_ stands alone
+    pub person-none : b ≡ false → trace (person then mark ymUs) (behind w c) ≡ traceOf ymUs (behind w c)
+    person-none fails = person-absent (behind w c) (someEnd-unfit _ _ (person-letters _ _ _ (last-seen ∙ fails)))
+
+    -- where it is that of one, and none fits, nor does ymUs_
+    pub person-unfit : b ≡ true → firstOf personMarks (behind w c) ≡ none → trace (person then mark ymUs) (behind w c) ≡ none
     unfolding numbered
-    person-unfit ends fails = person-absent (behind w c) fails ∙ traceOf-unfit 11 (behind w c) (person-not-ymUs _ _ _ (ends-seen _ e ∙ ends))
+    person-unfit ends fails = person-absent (behind w c) fails ∙ traceOf-unfit 11 (behind w c) (person-not-ymUs _ _ _ (last-seen ∙ ends))
 
 -- a command from what is seen is one from the record
 pub reach-seen : (w : List ℕ) (c : Cursor) (q : List ℕ → Trace) {s : Seen} {r : Marked} → s ≡ seenAt w c → r ≡ reach w (s .c) (q (behind w (s .c)))

@@ -22,7 +22,8 @@ use Rattle.turkish.proofs.Laws.Along.{Along, none, one}
 use Rattle.turkish.proofs.Laws.FirstHeard.{Sounded, silent, sounding, stageMarks-sounded}
 use Rattle.turkish.proofs.Source.KeptStage.{keptMarks-simple}
 use Rattle.letters.specs.declared.harmony.Accord.{Accord}
-use Rattle.letters.specs.Accord.{noAccord, concord, accordOf, passedOn, orAccord}
+use Rattle.letters.specs.Accord.{asked, skips, noAccord, concord, accordOf, passedOn, orAccord}
+use Rattle.letters.proofs.Laws.Accord.{concord-asked, concord-skips, concord-first}
 use Rattle.stages.specs.Trail.{heardAlong}
 use Rattle.stages.specs.declared.stage.Outcome.{Outcome}
 use Rattle.stages.specs.Outcome.{whole, outcomeOf}
@@ -59,14 +60,14 @@ module _ (w : List ℕ) (a : accepted w ≡ true) where
   -- so of marks taken one after the other from there
   heard-along : (k : ℕ) {cs : List ℕ} {ts : List Taken} → Along Sounded cs ts → cs ≡ drop k (chars w)
       → heardAlong w (backBy w (whole w) k) ts ≡ accordBy w (firstHeard (located (length (chars w) - k) ts))
-  unfolding heardAlong firstHeard located passedOn accordOf concord orAccord noAccord heardAt orHeard accordBy
+  unfolding heardAlong firstHeard located passedOn accordOf orAccord asked noAccord heardAt orHeard accordBy
   heard-along k none e = refl
   heard-along k (one t {ts} (silent u f) x) e =
       let left : length (chars w) - k - t .size ≡ length (chars w) - (k + t .size) = omega arith in
       let rest = heard-along (k + t .size) x (ap (drop (t .size)) e ∙ drop-drop (t .size) k (chars w)) in
       rw (f, backBy-add w (whole w) k (t .size), left) rest
   heard-along k (one t {ts} (sounding l p u f g i) x) e =
-      rw f (heard-here k l p (ap harmonyFound (sym e) ∙ g))
+      rw f (concord-first _ _ _ _ ∙ heard-here k l p (ap harmonyFound (sym e) ∙ g))
 
   -- so of the stage
   heard-stage : heardAlong w (whole w) (stageMarks (chars w)) ≡ accordBy w (stageHeard (chars w))
@@ -81,10 +82,10 @@ module _ (w : List ℕ) (a : accepted w ≡ true) where
 -- what is told of two vowels, or of none
 module _ (w : List ℕ) where
   -- whether harmony was tested
-  told-harmonic : (h : Heard) → accordBy w h .asked ≡ isHeard h
-  unfolding accordBy isHeard noAccord concord
+  told-harmonic : (h : Heard) → asked (accordBy w h) ≡ isHeard h
+  unfolding accordBy isHeard noAccord asked
   told-harmonic unheard = refl
-  told-harmonic (heard l p) = refl
+  told-harmonic (heard l p) = concord-asked _ _ _
 
   -- where the last vowel starts
   told-last : (h : Heard) → accordBy w h .last ≡ lastOffset w h
@@ -99,10 +100,10 @@ module _ (w : List ℕ) where
   told-partner (heard l p) = refl
 
   -- and whether a vowel stands between
-  told-loan : (h : Heard) → accordBy w h .skipped ≡ loanIn (chars w) h
-  unfolding accordBy loanIn noAccord concord
+  told-loan : (h : Heard) → skips (accordBy w h) ≡ loanIn (chars w) h
+  unfolding accordBy loanIn noAccord skips
   told-loan unheard = refl
-  told-loan (heard l p) = refl
+  told-loan (heard l p) = concord-skips _ _ _
 
 -- so the outcome of an accepted word has what the definition finds in it
 pub record Hearing (o : Outcome) (w : List ℕ) (h : Heard) : Type 0 where
@@ -117,8 +118,8 @@ outcome-hearing w a =
     let h = stageHeard (chars w) in
     let e = heard-stage w a in
     record {
-      harmonic = ap (λ (t : Accord). t .asked) e ∙ told-harmonic w h;
+      harmonic = ap asked e ∙ told-harmonic w h;
       last = ap (λ (t : Accord). t .last) e ∙ told-last w h;
       partner = ap (λ (t : Accord). t .partner) e ∙ told-partner w h;
-      loan = ap (λ (t : Accord). t .skipped) e ∙ told-loan w h;
+      loan = ap skips e ∙ told-loan w h;
     }

@@ -1,16 +1,15 @@
 -- `letters::harmony::check_vowel_harmony` meets its contract. The first loop's invariant: what is found from here on is what is found from
--- c on; the second's: what is sought from here on, with what was skipped so far, is what is found from c on, and v is the vowel with its
+-- c on; the second's: what is sought from here on, with the yes so far, is what is found from c on, and v is the vowel with its
 -- partners. The measure is the place. Assumes nothing.
 use Prim.Native.Nat.{_≤_}
 use mathlib.Core.Path.{_≡_, refl, sym, ap, _∙_}
 use native.Mathlib.Omega.{arith}
 use borrow.Author.Needs.{needs}
-use borrow.Author.Tests.{not-true, not-false}
 use Rattle.turkish.specs.Simple.Harmony.{partner}
 use Rattle.letters.specs.declared.vowel.Sound.the-variants.{AVowel}
 use Rattle.letters.specs.Sounds.{soundOf}
-use Rattle.letters.specs.Accord.{discord, concord, accordBefore}
-use Rattle.letters.proofs.Laws.Sounds.{soundOf-noVowel, soundOf-aVowel, soundOf-ch, soundOf-partner}
+use Rattle.letters.specs.Accord.{discord, accordBefore}
+use Rattle.letters.proofs.Laws.Sounds.{soundOf-noVowel, soundOf-aVowel, soundOf-ch, partner-sound}
 use Rattle.letters.proofs.Laws.Walk.{lastWidth-bounds, before-charAt}
 use Rattle.letters.proofs.Laws.Found.{seeks, seeks-skips, seeks-passes, seeks-stops, seeks-none, partner-no, accordBefore-skips, accordBefore-stops, accordBefore-none}
 use Rattle.letters.proofs.harmony.check_vowel_harmony.Statement.{statement}
@@ -23,10 +22,10 @@ abbrev μ-goto : tie.MeasureT-goto
 μ-goto w c at₀ at = at
 
 abbrev Inv-goto2 : tie.InvT-goto2
-Inv-goto2 w c at₀ v last skipped₀ at skipped = (at ≤ c) × (soundOf (v .ch) ≡ AVowel v) × (seeks (partner (v .ch)) w last skipped at ≡ accordBefore w c)
+Inv-goto2 w c at₀ v last answer₀ at answer = (at ≤ c) × (soundOf (v .ch) ≡ AVowel v) × (seeks (partner (v .ch)) w last answer at ≡ accordBefore w c)
 
 abbrev μ-goto2 : tie.MeasureT-goto2
-μ-goto2 w c at₀ v last skipped₀ at skipped = at
+μ-goto2 w c at₀ v last answer₀ at answer = at
 
 -- ---- to the last vowel ----
 
@@ -92,20 +91,26 @@ sub-at-2 c = omega (arith, lastWidth-bounds _ _ _ (c .before .if2 .left) (c .las
 char-at-requires-2 : tie.Need-char-at-requires-2 Inv-goto μ-goto Inv-goto2 μ-goto2
 char-at-requires-2 c κs = omega (arith, lastWidth-bounds _ _ _ (c .before .if2 .left) (c .last-width2 .ensures))
 
-is-vowel-requires : tie.Need-is-vowel-requires Inv-goto μ-goto Inv-goto2 μ-goto2
-is-vowel-requires c κs = search needs
+of-requires-2 : tie.Need-of-requires-2 Inv-goto μ-goto Inv-goto2 μ-goto2
+of-requires-2 c κs = search needs
+
+enum-known-u : tie.Need-enum-known-u Inv-goto μ-goto Inv-goto2 μ-goto2
+enum-known-u c = search needs
+
+enum-told-2 : tie.Need-enum-told-2 Inv-goto μ-goto Inv-goto2 μ-goto2
+enum-told-2 c = search needs
 
 goto2-less : tie.Need-goto2-less Inv-goto μ-goto Inv-goto2 μ-goto2
 goto2-less c =
-    let turn = c .before .before .before in
+    let turn = c .before .before .before .before in
     omega (arith, lastWidth-bounds _ _ _ (turn .before .if2 .left) (turn .last-width2 .ensures))
 
 goto2-again : tie.Need-goto2-again Inv-goto μ-goto Inv-goto2 μ-goto2
 goto2-again c =
-    let turn = c .before .before .before in
+    let turn = c .before .before .before .before in
     let l = turn .before .before .goto2 in
-    let step = before-charAt _ _ _ _ (turn .before .if2 .left) (turn .last-width2 .ensures) (c .before .before .char-at2 .ensures) in
-    let none = sym (c .before .is-vowel .ensures) ∙ not-true _ (c .if3 .taken) in
+    let step = before-charAt _ _ _ _ (turn .before .if2 .left) (turn .last-width2 .ensures) (c .before .before .before .char-at2 .ensures) in
+    let none = soundOf-noVowel _ (sym (c .before .before .of2 .ensures) ∙ c .enum-told2 .given .1) in
     (omega arith, l .inv .1, seeks-skips _ _ _ _ _ _ _ (turn .last-width2 .ensures) step (partner-no _ _ none) none ∙ l .inv .2)
 
 has-partner-requires : tie.Need-has-partner-requires Inv-goto μ-goto Inv-goto2 μ-goto2
@@ -113,25 +118,27 @@ has-partner-requires c κs = search needs
 
 goto2-less-2 : tie.Need-goto2-less-2 Inv-goto μ-goto Inv-goto2 μ-goto2
 goto2-less-2 c =
-    let turn = c .before .before .before .before .before in
+    let turn = c .before .before .before .before .before .before .before in
     omega (arith, lastWidth-bounds _ _ _ (turn .before .if2 .left) (turn .last-width2 .ensures))
 
 goto2-again-2 : tie.Need-goto2-again-2 Inv-goto μ-goto Inv-goto2 μ-goto2
 goto2-again-2 c =
-    let turn = c .before .before .before .before .before in
+    let read = c .before .before .before .before .before .before in
+    let turn = read .before in
     let l = turn .before .before .goto2 in
-    let step = before-charAt _ _ _ _ (turn .before .if2 .left) (turn .last-width2 .ensures) (c .before .before .before .before .char-at2 .ensures) in
-    let some = sym (c .before .before .before .is-vowel .ensures) ∙ not-false _ (c .before .before .if3 .left) in
-    let other = sym (soundOf-partner _ _ _ (l .inv .1)) ∙ sym (c .before .has-partner .ensures) ∙ c .if4 .left in
-    (omega arith, l .inv .1, seeks-passes _ _ _ _ _ _ _ (turn .last-width2 .ensures) step other some ∙ l .inv .2)
+    let step = before-charAt _ _ _ _ (turn .before .if2 .left) (turn .last-width2 .ensures) (read .char-at2 .ensures) in
+    let sound = sym (c .before .before .before .before .before .of2 .ensures) ∙ c .before .before .before .u .given .1 in
+    let other = partner-sound _ _ _ _ (l .inv .1) sound ∙ sym (c .before .has-partner .ensures) ∙ c .if3 .left in
+    (omega arith, l .inv .1, seeks-passes _ _ _ _ _ _ _ (turn .last-width2 .ensures) step other (soundOf-aVowel _ _ sound) ∙ l .inv .2)
 
 returns-3 : tie.Need-returns-3 Inv-goto μ-goto Inv-goto2 μ-goto2
-unfolding concord
 returns-3 c =
-    let turn = c .before .before .before .before .before in
+    let read = c .before .before .before .before .before .before in
+    let turn = read .before in
     let l = turn .before .before .goto2 in
-    let step = before-charAt _ _ _ _ (turn .before .if2 .left) (turn .last-width2 .ensures) (c .before .before .before .before .char-at2 .ensures) in
-    let is = sym (soundOf-partner _ _ _ (l .inv .1)) ∙ sym (c .before .has-partner .ensures) ∙ c .if4 .taken in
+    let step = before-charAt _ _ _ _ (turn .before .if2 .left) (turn .last-width2 .ensures) (read .char-at2 .ensures) in
+    let sound = sym (c .before .before .before .before .before .of2 .ensures) ∙ c .before .before .before .u .given .1 in
+    let is = partner-sound _ _ _ _ (l .inv .1) sound ∙ sym (c .before .has-partner .ensures) ∙ c .if3 .taken in
     seeks-stops _ _ _ _ _ _ _ (turn .last-width2 .ensures) step is ∙ l .inv .2
 
 pub check-vowel-harmony-spec : {M : Type 1} → statement M
@@ -157,7 +164,9 @@ check-vowel-harmony-spec =
     last-width-requires-2
     sub-at-2
     char-at-requires-2
-    is-vowel-requires
+    of-requires-2
+    enum-known-u
+    enum-told-2
     goto2-less
     goto2-again
     has-partner-requires

@@ -57,35 +57,35 @@ returns c =
     let fits = traceOf-took _ _ _ (m .mark .ensures) (not-false _ (i .if2 .left)) (agrees-free _ free) (c .moved-to .ensures) (passes-free _ _ free) in
     firstOf-took _ _ _ (l .i) (t .loop-test .taken) fits ∙ l .inv .2
 
-listen-requires : tie.Need-listen-requires Inv-loop μ-loop
-listen-requires c κs =
+known-requires : tie.Need-known-requires Inv-loop μ-loop
+known-requires c κs =
     let t = c .before .before .before .before .before .before .before .before in
     (t .before .before .before .before .pre .0 .opens, t .before .loop .inv .1)
 
 returns-2 : tie.Need-returns-2 Inv-loop μ-loop
 returns-2 c =
-    let h = c .before .before in
+    let h = c .before .before .before in
     let i = h .before .before .before in
     let m = i .before .before in
     let t = m .before .before .before .before in
     let l = t .before .loop in
     let bound = sym (h .before .before .is-harmonic .ensures) ∙ not-false _ (h .before .if3 .left) in
-    let yes = c .before .if4 .taken in
-    let holds = sym (accord-holds _ _ (h .listen .ensures)) ∙ yes in
-    let heard = passes-bound _ _ bound (h .listen .ensures) yes in
+    let yes = sym (c .before .before .holds .ensures) ∙ c .before .if4 .taken in
+    let holds = sym (accord-holds _ _ (h .known .ensures)) ∙ yes in
+    let heard = passes-bound _ _ bound (h .known .ensures) yes in
     let fits = traceOf-took _ _ _ (m .mark .ensures) (not-false _ (i .if2 .left)) (agrees-bound _ bound ∙ holds) (c .moved-to2 .ensures) heard in
     firstOf-took _ _ _ (l .i) (t .loop-test .taken) fits ∙ l .inv .2
 
 loop-again-3 : tie.Need-loop-again-3 Inv-loop μ-loop
 loop-again-3 c =
-    let h = c .before in
+    let h = c .before .before in
     let m = h .before .before .before .before .before in
     let t = m .before .before .before .before in
     let l = t .before .loop in
     let bound = sym (h .before .before .is-harmonic .ensures) ∙ not-false _ (h .before .if3 .left) in
-    let discord = sym (accord-holds _ _ (h .listen .ensures)) ∙ c .if4 .left in
+    let discord = sym (accord-holds _ _ (h .known .ensures)) ∙ sym (c .before .holds .ensures) ∙ c .if4 .left in
     let fails = traceOf-discord _ _ _ (m .mark .ensures) (agrees-bound _ bound ∙ discord) in
-    (omega arith, subst (Listens _ _) (sym (h .listen .ensures)) (listens-accord _ _), firstOf-next _ _ _ (l .i) (t .loop-test .taken) fails ∙ l .inv .2)
+    (omega arith, subst (Listens _ _) (sym (h .known .ensures)) (listens-accord _ _), firstOf-next _ _ _ (l .i) (t .loop-test .taken) fails ∙ l .inv .2)
 
 returns-3 : tie.Need-returns-3 Inv-loop μ-loop
 returns-3 c = let l = c .before .loop in firstOf-end _ _ _ (l .i) (c .loop-test .left) ∙ l .inv .2
@@ -95,4 +95,4 @@ first-of-spec =
     tie.close
     (tie.spec Inv-loop μ-loop loop-holds (λ c. search needs) (λ c. search needs) (λ c. search needs) (λ c κs. search needs)
     (λ c. omega arith) loop-again mark-requires (λ c. omega arith) loop-again-2 (λ c κs. search needs) (λ c κs. search needs) returns
-    listen-requires (λ c κs. search needs) returns-2 (λ c. omega arith) loop-again-3 returns-3)
+    known-requires (λ c κs. search needs) (λ c κs. search needs) returns-2 (λ c. omega arith) loop-again-3 returns-3)

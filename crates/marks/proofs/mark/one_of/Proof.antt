@@ -38,7 +38,7 @@ returns-4 c =
     let h = c .before .before in
     let m = h .before .before .before .before .before in
     let bound = sym (h .before .before .is-harmonic .ensures) ∙ not-false _ (h .before .if3 .left) in
-    let discord = sym (accord-holds _ _ (h .listen .ensures)) ∙ not-true _ (c .if4 .taken) in
+    let discord = sym (accord-holds _ _ (h .known .ensures)) ∙ sym (c .before .holds .ensures) ∙ not-true _ (c .if4 .taken) in
     sym (ap (reach _ _) (traceOf-discord _ _ _ (m .mark .ensures) (agrees-bound _ bound ∙ discord)))
 
 returns-5 : tie.Need-returns-5
@@ -47,13 +47,13 @@ returns-5 c =
     let i = h .before .before .before in
     let m = i .before .before in
     let bound = sym (h .before .before .is-harmonic .ensures) ∙ not-false _ (h .before .if3 .left) in
-    let yes = not-false _ (c .before .if4 .left) in
-    let holds = sym (accord-holds _ _ (h .listen .ensures)) ∙ yes in
+    let yes = sym (c .before .before .holds .ensures) ∙ not-false _ (c .before .if4 .left) in
+    let holds = sym (accord-holds _ _ (h .known .ensures)) ∙ yes in
     traceOf-took _ _ _ (m .mark .ensures) (not-false _ (i .if2 .left)) (agrees-bound _ bound ∙ holds) (c .moved-to2 .ensures)
-    (passes-bound _ _ bound (h .listen .ensures) yes)
+    (passes-bound _ _ bound (h .known .ensures) yes)
 
 pub one-of-spec : {M : Type 1} → statement M
 one-of-spec =
     tie.close
     (tie.spec (λ c κs. search needs) returns (λ c κs. search needs) returns-2 (λ c κs. search needs) (λ c κs. search needs) returns-3
-    (λ c κs. search needs) returns-4 (λ c κs. search needs) returns-5)
+    (λ c κs. search needs) (λ c κs. search needs) returns-4 (λ c κs. search needs) returns-5)

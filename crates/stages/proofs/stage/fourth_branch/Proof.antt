@@ -1,5 +1,5 @@
 -- `stages::stage::fourth_branch` meets its contract: what must follow nUz goes on from where that leads. In each answer a is the place
--- behind nUz's record, m behind nUz, l behind what is seen there, and g behind the group. Assumes nothing.
+-- behind nUz's record, m behind nUz, l behind what is seen there, g behind the group, and d behind its record. Assumes nothing.
 use mathlib.Core.Path.{sym, _∙_}
 use mathlib.Core.List.{[], _∷_}
 use borrow.Author.Needs.{needs}

@@ -1,8 +1,7 @@
 -- `stages::stage::person_then_ymUs` meets its contract: ymUs_ stands alone where the last letters are no person's ending's, and goes on from
 -- where such an ending leads where one fits. In each answer l is the place behind what is seen from the record, t behind the test of its
--- letters, g behind the group, d behind its record, and m behind ymUs_. Assumes nothing.
+-- letters, g behind the group, d behind its record, m behind ymUs_, and e behind that one's record. Assumes nothing.
 use mathlib.Core.Path.{sym, ap, _∙_}
-use mathlib.Core.List.{[], _∷_}
 use borrow.Author.Needs.{needs}
 use borrow.Author.Tests.{not-true, not-false}
 use Rattle.turkish.specs.Simple.Marks.{ymUs}
@@ -13,7 +12,7 @@ use Rattle.letters.proofs.Laws.Accord.{listens-unasked}
 use Rattle.letters.specs.Accord.{noAccord}
 use Rattle.stages.specs.Trail.{noStop, noTrail, noWay, along}
 use Rattle.stages.proofs.Laws.Trails.{steps-mark, reach-fails, along-none, open-step, along-step, then-none, then-along}
-use Rattle.stages.proofs.Laws.Branches.{steps-person, reach-seen, person-none, person-unfit}
+use Rattle.stages.proofs.Laws.Branches.{personMarks, steps-person, reach-seen, person-none, person-unfit}
 use Rattle.stages.proofs.stage.person_then_ymUs.Statement.{statement}
 use Rattle.stages.proofs.stage.person_then_ymUs.Tie as tie
 
@@ -53,7 +52,7 @@ returns-3 c =
     let g = c .before .before in
     let t = g .before .before in
     let l = t .before .before in
-    let is = reach-seen _ _ (firstOf (4 ∷ 5 ∷ 1 ∷ 2 ∷ 3 ∷ [])) (l .look-back .ensures) (g .first-of .ensures) in
+    let is = reach-seen _ _ (firstOf personMarks) (l .look-back .ensures) (g .first-of .ensures) in
     along-none _ _ _
     (person-unfit _ _ (l .look-back .ensures) (t .before .ends-person .ensures) (not-false _ (t .if1 .left)) (reach-fails _ _ _ is (c .enum-told2 .given .1)))
 
@@ -62,7 +61,7 @@ look-back-requires-2 c κs =
     let d = c .before in
     let g = d .before .before in
     let l = g .before .before .before .before in
-    let is = reach-seen _ _ (firstOf (4 ∷ 5 ∷ 1 ∷ 2 ∷ 3 ∷ [])) (l .look-back .ensures) (g .first-of .ensures) in
+    let is = reach-seen _ _ (firstOf personMarks) (l .look-back .ensures) (g .first-of .ensures) in
     open-step _ _ (steps-person _ _ is (d .d .given .1)) (l .before .before .pre)
 
 one-of-requires-2 : tie.Need-one-of-requires-2
@@ -74,7 +73,7 @@ returns-4 c =
     let m = c .before .before in
     let d = m .before .before .before in
     let g = d .before .before in
-    let is = reach-seen _ _ (firstOf (4 ∷ 5 ∷ 1 ∷ 2 ∷ 3 ∷ [])) (g .before .before .before .before .look-back .ensures) (g .first-of .ensures) in
+    let is = reach-seen _ _ (firstOf personMarks) (g .before .before .before .before .look-back .ensures) (g .first-of .ensures) in
     let next = reach-seen _ _ (traceOf ymUs) (m .before .look-back2 .ensures) (m .one-of2 .ensures) in
     along-none _ _ _ (then-none _ _ (steps-person _ _ is (d .d .given .1)) (traceOf ymUs) (reach-fails _ _ _ next (c .enum-told3 .given .1)))
 
@@ -85,7 +84,7 @@ returns-5 c =
     let m = e .before .before in
     let d = m .before .before .before in
     let g = d .before .before in
-    let is = reach-seen _ _ (firstOf (4 ∷ 5 ∷ 1 ∷ 2 ∷ 3 ∷ [])) (g .before .before .before .before .look-back .ensures) (g .first-of .ensures) in
+    let is = reach-seen _ _ (firstOf personMarks) (g .before .before .before .before .look-back .ensures) (g .first-of .ensures) in
     let next = reach-seen _ _ (traceOf ymUs) (m .before .look-back2 .ensures) (m .one-of2 .ensures) in
     then-along _ _ (steps-person _ _ is (d .d .given .1)) (traceOf ymUs)
     (along-step _ _ (steps-mark _ _ ymUs next (e .e2 .given .1)) (c .before .behind2 .ensures)) (c .behind3 .ensures)

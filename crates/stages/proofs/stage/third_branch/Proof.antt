@@ -1,7 +1,7 @@
 -- `stages::stage::third_branch` meets its contract: what may follow lAr is tried from where that leads, after its deletion. In each answer
--- a is the place behind lAr's record, m behind lAr, e behind the deletion, l behind what is seen there, and g behind the group. Assumes nothing.
+-- a is the place behind lAr's record, m behind lAr, e behind the deletion, l behind what is seen there, t behind the test of its letters, g
+-- behind the group, and f behind its record. Assumes nothing.
 use mathlib.Core.Path.{sym, _∙_}
-use mathlib.Core.List.{[], _∷_}
 use borrow.Author.Needs.{needs}
 use borrow.Author.Tests.{not-true}
 use Rattle.turkish.specs.Simple.Grammar.{mark, _or_, try}
@@ -14,7 +14,7 @@ use Rattle.letters.proofs.Laws.Accord.{listens-unasked}
 use Rattle.letters.specs.Accord.{noAccord}
 use Rattle.stages.specs.Trail.{noStop, noTrail, noWay}
 use Rattle.stages.proofs.Laws.Trails.{steps-mark, steps-group, reach-fails, cut-none, after-none, open-cut, along-step, try-cut, try-none}
-use Rattle.stages.proofs.Laws.Branches.{cut-unset, someEnd-seen, reach-seen, group-four}
+use Rattle.stages.proofs.Laws.Branches.{afterLAr, cut-unset, someEnd-seen, reach-seen, group-four}
 use Rattle.stages.proofs.stage.third_branch.Statement.{statement}
 use Rattle.stages.proofs.stage.third_branch.Tie as tie
 
@@ -38,7 +38,7 @@ returns-2 c =
     let m = a .before .before in
     let step = steps-mark _ _ lAr (m .one-of .ensures) (a .c .given .1) in
     let t = c .before in
-    let fails = someEnd-seen _ _ (l .look-back .ensures) (7 ∷ 9 ∷ 10 ∷ 11 ∷ []) (t .before .ends-after-lAr .ensures) (not-true _ (t .if1 .taken)) in
+    let fails = someEnd-seen _ _ (l .look-back .ensures) afterLAr (t .before .ends-after-lAr .ensures) (not-true _ (t .if1 .taken)) in
     try-none _ _ step (trace (mark DUr or mark yDU or mark ysA or mark ymUs)) (e .deleted .ensures) (m .before .before .pre .0 .opens)
     (sym (group-four _ 7 9 10 11) ∙ fails) (c .behind .ensures)
     ∙ cut-unset _ _ _ _
@@ -57,7 +57,7 @@ returns-3 c =
     let a = e .before .before in
     let m = a .before .before in
     let step = steps-mark _ _ lAr (m .one-of .ensures) (a .c .given .1) in
-    let is = reach-seen _ _ (firstOf (7 ∷ 9 ∷ 10 ∷ 11 ∷ [])) (l .look-back .ensures) (g .first-of .ensures) in
+    let is = reach-seen _ _ (firstOf afterLAr) (l .look-back .ensures) (g .first-of .ensures) in
     try-none _ _ step (trace (mark DUr or mark yDU or mark ysA or mark ymUs)) (e .deleted .ensures) (m .before .before .pre .0 .opens)
     (sym (group-four _ 7 9 10 11) ∙ reach-fails _ _ _ is (c .before .enum-told2 .given .1)) (c .behind2 .ensures)
     ∙ cut-unset _ _ _ _
@@ -71,7 +71,7 @@ returns-4 c =
     let e = l .before in
     let a = e .before .before in
     let step = steps-mark _ _ lAr (a .before .before .one-of .ensures) (a .c .given .1) in
-    let is = reach-seen _ _ (firstOf (7 ∷ 9 ∷ 10 ∷ 11 ∷ [])) (l .look-back .ensures) (g .first-of .ensures) in
+    let is = reach-seen _ _ (firstOf afterLAr) (l .look-back .ensures) (g .first-of .ensures) in
     let next = steps-group _ _ _ (group-four _ 7 9 10 11) is (f .e .given .1) in
     try-cut _ _ step (trace (mark DUr or mark yDU or mark ysA or mark ymUs)) (e .deleted .ensures) (along-step _ _ next (c .before .behind3 .ensures))
     (c .before .before .deleted2 .ensures) (c .behind4 .ensures)

@@ -1,10 +1,8 @@
 -- `stages::stage::told_at_end` meets its contract: harmony is asked for where the last letters say so. Assumes nothing.
 use mathlib.Core.Path.{sym, _∙_}
-use denote.Ref.{now}
 use borrow.Author.Needs.{needs}
 use borrow.Author.Tests.{not-true, not-false}
 use Rattle.letters.specs.Accord.{noAccord, accordAtEnd}
-use Rattle.letters.proofs.Laws.Accord.{listens-unasked}
 use Rattle.stages.proofs.stage.told_at_end.Statement.{statement}
 use Rattle.stages.proofs.stage.told_at_end.Tie as tie
 
@@ -13,8 +11,7 @@ unfolding accordAtEnd noAccord
 returns c = let silent = sym (c .before .ends-harmonic .ensures) ∙ not-true _ (c .if1 .taken) in sym (rw silent)
 
 listen-requires : tie.Need-listen-requires
-listen-requires c κs =
-    let s = c .before .before .before in (s .pre .opens, listens-unasked (now (s .args .w)) (s .args .s .c))
+listen-requires c κs = c .before .before .before .pre .opens
 
 returns-2 : tie.Need-returns-2
 unfolding accordAtEnd
