@@ -6,9 +6,9 @@ mod pairs;
 #[cfg(feature = "oracle")]
 mod program;
 
-use inputs::{chains, headings, inputs, Input};
+use inputs::{beyond, chains, headings, inputs, Input};
 use measure::{measure, Times};
-use pairs::{Pair, FOLD, NOUNS, PAIRS};
+use pairs::{Pair, CHECK, FOLD, NOUNS, PAIRS};
 use shared::command::command;
 use shared::places;
 use std::path::PathBuf;
@@ -105,6 +105,8 @@ fn calls(settings: &Settings) -> Result<(), String> {
     println!("after `str::from_utf8`. Ratio: Fannavy's time over the Rust's; below 1, Fannavy is faster.\n");
     println!("| call | words | bytes a word | Fannavy | Rust | ratio | Rust from bytes | ratio |");
     println!("|---|---|--:|--:|--:|--:|--:|--:|");
+    rows(&CHECK, &inputs, rounds)?;
+    rows(&CHECK, &beyond(), rounds)?;
     for pair in PAIRS {
         rows(pair, &inputs, rounds)?;
     }

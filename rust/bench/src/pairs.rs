@@ -20,13 +20,15 @@ pub struct Pair {
     pub rust: fn(&str, &mut Output) -> usize,
 }
 
+/// The UTF-8 check, which takes words of any length.
+pub const CHECK: Pair = Pair {
+    name: "UTF-8 check",
+    takes_text: false,
+    proved: |word, _| usize::from(fannavy::is_utf8(word.as_bytes())),
+    rust: |word, _| usize::from(std::str::from_utf8(word.as_bytes()).is_ok()),
+};
+
 pub const PAIRS: &[Pair] = &[
-    Pair {
-        name: "UTF-8 check",
-        takes_text: false,
-        proved: |word, _| usize::from(fannavy::is_utf8(word.as_bytes())),
-        rust: |word, _| usize::from(std::str::from_utf8(word.as_bytes()).is_ok()),
-    },
     #[cfg(feature = "oracle")]
     Pair {
         name: "syllable check",

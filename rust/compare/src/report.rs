@@ -8,8 +8,8 @@ use std::sync::Arc;
 
 // Progress is told once in so many words.
 const WORDS: u64 = 256;
-// As much of a word as is shown; only a line of a list is longer.
-const SHOWN: usize = 2048;
+// As many bytes of a word as are shown; only a very long line has more.
+const SHOWN: usize = 2000;
 
 /// The first difference of a part: which call, on which word, with both answers.
 pub struct Difference {

@@ -23,6 +23,7 @@
 
 #[allow(unsafe_code, missing_docs)]
 pub mod ffi;
+mod header;
 mod pieces;
 mod refusal;
 
@@ -31,7 +32,7 @@ use refusal::refused;
 pub use refusal::Refusal;
 
 /// The longest word, in bytes: one byte more is refused.
-pub const LIMIT: usize = 1024;
+pub const LIMIT: usize = header::size("FANNAVY_LIMIT");
 
 /// The least output of [`postlude`], [`pass`] and [`whole`] for a word of `n` bytes.
 pub const fn pass_room(n: usize) -> usize {
@@ -49,10 +50,10 @@ pub const fn fold_room(n: usize) -> usize {
 }
 
 /// The least buffer for a word's pieces in the archive's own form; [`pieces`] brings it along.
-pub const PIECES_ROOM: usize = 9;
+pub const PIECES_ROOM: usize = header::size("FANNAVY_PIECES_ROOM");
 
 /// The least output of [`pieces_text`], whatever the word.
-pub const PIECES_TEXT_ROOM: usize = 96;
+pub const PIECES_TEXT_ROOM: usize = header::size("FANNAVY_PIECES_TEXT_ROOM");
 
 /// What the suffix stage answers.
 #[derive(Clone, Copy, Debug, PartialEq, Eq)]
@@ -332,18 +333,18 @@ pub fn pieces_text<'a>(word: &[u8], out: &'a mut [u8]) -> Result<&'a [u8], Refus
 mod tests {
     use super::*;
 
-    const HEADER: &str = include_str!("../../../include/fannavy.h");
-
     #[test]
-    fn the_header_has_the_same_sizes() {
-        for (name, size) in [
-            ("LIMIT", LIMIT),
-            ("PIECES_ROOM", PIECES_ROOM),
-            ("PIECES_TEXT_ROOM", PIECES_TEXT_ROOM),
-        ] {
-            let line = format!("#define FANNAVY_{name} {size}");
-            assert!(HEADER.lines().any(|other| other == line), "no {line}");
-        }
+    fn the_header_s_sizes_are_the_archive_s() {
+        let long = [b'a'; LIMIT + 1];
+        assert_eq!(syllable(&long), Err(Refusal::OverLimit));
+        assert_eq!(syllable(&long[1..]), Ok(true));
+        let refusal = |room: usize| ffi::pieces(b"evler", &mut vec![0; room]).refusal;
+        assert_eq!((refusal(PIECES_ROOM - 1), refusal(PIECES_ROOM)), (5, 0));
+        let refusal = |room: usize| ffi::pieces_text(b"evler", &mut vec![0; room]).refusal;
+        assert_eq!(
+            (refusal(PIECES_TEXT_ROOM - 1), refusal(PIECES_TEXT_ROOM)),
+            (5, 0)
+        );
     }
 
     #[test]
@@ -355,7 +356,7 @@ mod tests {
             "#define FANNAVY_NOUN_ROOM(n) ((size_t)(n))",
             "#define FANNAVY_FOLD_ROOM(n) (2 * (size_t)(n))",
         ] {
-            assert!(HEADER.lines().any(|other| other == line), "no {line}");
+            assert!(header::TEXT.lines().any(|other| other == line), "no {line}");
         }
     }
 
@@ -428,7 +429,7 @@ mod tests {
         for kind in pieces::all(Joining::WithY) {
             let name = kind.name().trim_end_matches('_').to_uppercase();
             let entry = format!(" FANNAVY_{name} = {},", kind.number());
-            assert!(HEADER.contains(&entry), "no{entry}");
+            assert!(header::TEXT.contains(&entry), "no{entry}");
         }
     }
 

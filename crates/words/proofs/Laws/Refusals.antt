@@ -1,30 +1,13 @@
--- Which number a call's tests give, each test's answer as a fact about the word and the room.
+-- Which number a call into a lent output gives, each test's answer as a fact about the word and the room.
 -- Assumes nothing.
 use Prim.Native.Nat.{ℕ, zero, suc, _≤_, _<_}
 use mathlib.Core.Path.{_≡_, refl, sym, _∙_}
 use mathlib.Core.Bool.{Bool, true, false, cond}
 use mathlib.Core.List.{List}
 use native.Mathlib.Omega.{arith}
-use lib.ListN.{length}
 use lib.Dec.{eqb, ltb, eqb·suc-zero}
 use borrow.Author.Tests.{lt-ltb, le-ltb, ltb-false, eq-eqb, ne-eqb}
-use Rattle.encoding.specs.Validity.{isText}
-use Rattle.turkish.specs.Calls.{limit, refusal, refusalShort, refusalInto, accepted}
-
--- a word over the limit is refused by number 1
-pub refusal-long : (w : List ℕ) → limit < length w → 1 ≡ refusal w
-unfolding refusal
-refusal-long w h = rw (lt-ltb limit (length w) h)
-
--- a text within it by none
-pub refusal-text : (w : List ℕ) → length w ≤ limit → isText w ≡ true → 0 ≡ refusal w
-unfolding refusal
-refusal-text w h e = rw (le-ltb limit (length w) h, e)
-
--- any other word within it by number 2
-pub refusal-not-text : (w : List ℕ) → length w ≤ limit → isText w ≡ false → 2 ≡ refusal w
-unfolding refusal
-refusal-not-text w h e = rw (le-ltb limit (length w) h, e)
+use Rattle.turkish.specs.Calls.{refusal, refusalShort, refusalInto, accepted}
 
 module _ (number : ℕ) (w : List ℕ) (need room n : ℕ) (e : n ≡ refusal w) where
   -- the number that the word has comes first
