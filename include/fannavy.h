@@ -30,7 +30,7 @@ extern "C" {
 #endif
 
 /* The longest word, in bytes: one byte more is refused. */
-#define FANNAVY_LIMIT 1024
+#define FANNAVY_LIMIT 96
 
 /* The least output for a word of n bytes, of fannavy_postlude, fannavy_pass and fannavy_whole. */
 #define FANNAVY_PASS_ROOM(n) ((size_t)(n) + 2)

@@ -21,7 +21,8 @@ use Rattle.encoding.proofs.Laws.Scalar.{is-scalar}
 use Rattle.utf8.proofs.TextCharacters.{scalars-reverse}
 use Rattle.turkish.specs.Letters.{has}
 use Rattle.turkish.specs.Fold.{Letter, capitals01, capitals, foldBy, foldChar, fold}
-use Rattle.turkish.specs.Calls.{chars, bytes, refusalShort, accepted, foldText, foldRefusal, foldCall}
+use Rattle.turkish.specs.Calls.{chars, bytes, limit, refusalShort, accepted, foldText, foldRefusal, foldCall}
+use Rattle.turkish.proofs.Laws.Accepted.{refusal-long}
 use Rattle.turkish.proofs.Laws.Tests.{every, every-at, has-none}
 use Rattle.turkish.proofs.Laws.Words.{length-bytes-cons, chars-bytes, scalars-chars, bytes-chars-text}
 use Rattle.turkish.proofs.Laws.Folding.{foldBy-elim, reverse-fold}
@@ -261,3 +262,8 @@ foldCall-fits w room a h = rw (a, le-ltb room (length (foldText w)) h)
 pub foldCall-short : (w : List ℕ) (room : ℕ) → accepted w ≡ true → room < length (foldText w) → foldCall w room ≡ record { refusal = 3; length = 0 }
 unfolding foldCall foldRefusal refusalShort accepted
 foldCall-short w room a h = rw (a, lt-ltb room (length (foldText w)) h)
+
+-- a word over the limit is refused under 1, whatever the output
+pub foldCall-long : (w : List ℕ) (room : ℕ) → limit < length w → foldCall w room ≡ record { refusal = 1; length = 0 }
+unfolding foldCall foldRefusal refusalShort
+foldCall-long w room h = rw (← refusal-long w h)

@@ -32,7 +32,7 @@ use Rattle.turkish.specs.Simple.Pieces.{stageMarks, heardAt, located}
 use Rattle.turkish.specs.Simple.Postlude.{reserved, appends, appendU, harden, postlude, postludeYes}
 use Rattle.turkish.specs.Simple.Tables.{Table, tables, nonzero}
 use Rattle.turkish.specs.Fold.{capitals01, foldBy}
-use Rattle.turkish.specs.Calls.{chars, bytes, limit, accepted, stageText, stagePart, stageCall, postludeText, postludeRefusal, postludeOut}
+use Rattle.turkish.specs.Calls.{chars, bytes, limit, refusal, accepted, stageText, stagePart, stageCall, postludeText, postludeRefusal, postludeOut}
 use Rattle.turkish.specs.Calls.{foldText, foldRefusal, foldCall, foldOut, passText, passRefusal, passOut}
 use Rattle.turkish.specs.Calls.{nounText, nounRefusal, nounOut, wholeText, wholeRefusal, wholeOut}
 use Rattle.turkish.specs.NounParts.{NounPart}
@@ -62,13 +62,13 @@ use Rattle.turkish.proofs.Laws.RemovedBytes.{stageText-most}
 use Rattle.turkish.proofs.Laws.Joints.{joins}
 use Rattle.turkish.proofs.Laws.FirstLetters.{tellJoined}
 use Rattle.turkish.proofs.Laws.PieceForms.{bufferOf-perm, textOf-perm, none-written}
-use Rattle.turkish.proofs.Laws.Accepted.{accepted-iff}
+use Rattle.turkish.proofs.Laws.Accepted.{accepted-iff, refusal-long}
 use Rattle.turkish.proofs.Fronts.{pair-fares-alike}
 use Rattle.turkish.proofs.Nothing.{left-empty}
 use Rattle.turkish.proofs.Laws.Syllables.{moreThanOneSyllable-no}
 use Rattle.turkish.proofs.Sizes.{postludeText-size, passText-size, nounText-size, wholeText-size, stageText-length, stagePart-front}
 use Rattle.turkish.proofs.NounParts.{nounText-part, nounText-changes}
-use Rattle.turkish.proofs.Folds.{foldText-doubled, foldText-before, foldText-text, foldText-foldText, foldCall-fits, foldCall-short}
+use Rattle.turkish.proofs.Folds.{foldText-doubled, foldText-before, foldText-text, foldText-foldText, foldCall-fits, foldCall-short, foldCall-long}
 use Rattle.turkish.proofs.Folds.{letters-I-text, letters-I-length, letters-I-folded, letters-ı-length}
 use Rattle.turkish.proofs.FoldWords as FoldWords
 use Rattle.turkish.proofs.Tables.{one-key, key-letters, key-start}
@@ -86,6 +86,11 @@ use Rattle.turkish.proofs.NounWords as NounWords
 -- a word is accepted exactly when it has no more bytes than the limit and is UTF-8
 pub accepts-exactly : (w : List ℕ) → (accepted w ≡ true) ↔ ((length w ≤ limit) × (isText w ≡ true))
 accepts-exactly w = accepted-iff w
+
+-- 96 bytes pass and 97 do not (document 02, request 6): a text of up to 96 is accepted, and more bytes, whatever they are, are refused under 1
+pub passes-96-not-97 : (w : List ℕ) → (length w ≤ 96 → isText w ≡ true → accepted w ≡ true) × (96 < length w → refusal w ≡ 1)
+unfolding limit
+passes-96-not-97 w = (λ n t. accepted-iff w .1 (omega arith, t), λ n. sym (refusal-long w (omega arith)))
 
 -- a call refused under any number leaves its output as it was
 pub refused-stays : (w out : List ℕ)
@@ -363,6 +368,14 @@ letters-I-double n h =
       rw l at (foldCall-fits w (2 * n) a (omega arith)),
       λ room k. foldCall-short w room a (omega arith),
     )
+
+-- so 96 letters I fold to 192 bytes, and 97 are refused under 1 (document 02, request 6)
+pub letters-I-96-to-192 : (foldCall (bytes (replicate 96 (code "I"))) 192 ≡ record { refusal = 0; length = 192 })
+    × ((room : ℕ) → foldCall (bytes (replicate 97 (code "I"))) room ≡ record { refusal = 1; length = 0 })
+unfolding limit
+letters-I-96-to-192 =
+    let w = bytes (replicate 97 (code "I")) in
+    (letters-I-double 96 (omega arith) .2, λ room. foldCall-long w room (rw (letters-I-length 97) (omega arith)))
 
 -- ---- the noun stage and the whole run (document 02, request 4) ----
 

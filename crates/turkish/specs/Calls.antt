@@ -1,5 +1,5 @@
 -- What each call gives for a word of bytes, refused calls included, and what its lent output holds after it (document 01, "Whose
--- fault a refusal is" and "Syllable check, postlude, folding, word pass"; document 02, requests 2, 4 and 5). The contracts cite these.
+-- fault a refusal is" and "Syllable check, postlude, folding, word pass"; document 02, requests 2, 4, 5 and 6). The contracts cite these.
 -- Assumes nothing.
 use Prim.Native.Nat.{ℕ, _+_}
 use mathlib.Core.Bool.{Bool, false, cond}
@@ -37,9 +37,9 @@ offset w p = length (encodeAll (take p (reverse (chars w))))
 
 -- ---- refusals ----
 
--- the longest word, in bytes
+-- the longest word, in bytes (document 02, request 6)
 unfoldable pub limit : ℕ
-limit = 1024
+limit = 96
 
 -- the word's author: 1 over the limit, 2 not UTF-8; 0 where neither applies
 unfoldable pub refusal : List ℕ → ℕ

@@ -4,7 +4,7 @@ ghost use mathlib.Core.Path.{_≡_};
 ghost use Rattle.turkish.specs.Calls.{refusal, refusalShort, refusalInto};
 
 // The longest word, in bytes.
-pub const LIMIT: usize = 1024;
+pub const LIMIT: usize = 96;
 
 // The number of an output that is too short.
 pub const TOO_SHORT: u32 = 3;

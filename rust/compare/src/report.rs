@@ -8,7 +8,7 @@ use std::sync::Arc;
 
 // Progress is told once in so many words.
 const WORDS: u64 = 256;
-// As many bytes of a word as are shown; only a very long line has more.
+// As many bytes of a word as are shown; a longer one is cut.
 const SHOWN: usize = 2000;
 
 /// The first difference of a part: which call, on which word, with both answers.

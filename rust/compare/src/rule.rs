@@ -1,4 +1,4 @@
-//! The rule of refusals, of document 01 and of document 02's requests 1, 2 and 4: the first number that
+//! The rule of refusals, of document 01 and of document 02's requests 1, 2, 4 and 6: the first number that
 //! applies.
 
 use crate::folded::folded;

@@ -20,6 +20,9 @@ use random::Random;
 use std::fs;
 use std::path::Path;
 
+// Random words are short; one for so many of them is of any length.
+const SHORTER: usize = 6;
+
 /// What a source calls with each word that is text.
 pub type Visit<'a, E> = &'a mut dyn FnMut(&str) -> Result<(), E>;
 
@@ -88,6 +91,7 @@ impl Words {
         letters::each(self.sizes.letters, visit)?;
         piles::each(self.sizes.piles, self.random(1), visit)?;
         random::each(self.sizes.random, self.random(2), visit)?;
+        long::each_random(self.sizes.random / SHORTER, self.random(12), visit)?;
         long::each(visit)
     }
 
@@ -139,8 +143,8 @@ impl Words {
         damaged::each_word(&self.vocabulary, self.sizes.random, self.random(4), visit)
     }
 
-    /// Some words of every kind: so many of each random source, one in 16 of the vocabulary, and those
-    /// around the longest.
+    /// Some words of every kind: so many of each random source of short words, one in 16 of the
+    /// vocabulary, and those made of every length.
     pub fn some<E>(
         &self,
         count: usize,

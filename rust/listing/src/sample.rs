@@ -180,18 +180,16 @@ fn odd_characters() -> Vec<String> {
     words
 }
 
-// Words of the longest length that passes, and one byte longer.
+// Words of the longest length that passes, and one byte longer, which end in characters of every width.
 fn around_the_limit() -> Vec<Vec<u8>> {
     let mut words = Vec::new();
     for filler in ["a", "b", "ı", "乡", "\u{20061}"] {
         for tail in ["", "lar", "mışsınızcasına", "d"] {
             for length in [LIMIT, LIMIT + 1] {
-                let mut word = filler.repeat(LIMIT).into_bytes();
-                let fill = (length - tail.len()) / filler.len() * filler.len();
-                word.truncate(fill);
-                word.resize(length - tail.len(), b'b');
-                word.extend_from_slice(tail.as_bytes());
-                words.push(word);
+                let room = length - tail.len();
+                let fill = filler.repeat(room / filler.len());
+                let pad = "b".repeat(room % filler.len());
+                words.push(format!("{pad}{fill}{tail}").into_bytes());
             }
         }
     }
@@ -235,9 +233,17 @@ mod tests {
 
     #[test]
     fn words_of_the_limit_and_over_it_are_there() {
-        let lengths: Vec<usize> = around_the_limit().iter().map(Vec::len).collect();
+        let words = around_the_limit();
+        let lengths: Vec<usize> = words.iter().map(Vec::len).collect();
         assert_eq!(lengths.len(), 40);
         assert!(lengths.chunks(2).all(|pair| pair == [LIMIT, LIMIT + 1]));
+        for (length, width) in (1..=4).flat_map(|width| [(LIMIT, width), (LIMIT + 1, width)]) {
+            let ends = |word: &Vec<u8>| {
+                let text = str::from_utf8(word).expect("text");
+                word.len() == length && text.chars().last().map(char::len_utf8) == Some(width)
+            };
+            assert!(words.iter().any(ends), "{length} bytes, {width}");
+        }
     }
 
     #[test]

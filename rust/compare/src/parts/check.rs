@@ -1,14 +1,15 @@
-//! The UTF-8 check on every word there is, on random bytes and on damaged words.
+//! The UTF-8 check on every word there is, on longer ones, on random bytes and on damaged words.
 
 use crate::ffi;
 use crate::lent::Lent;
 use crate::report::{Difference, Report};
-use crate::words::Words;
+use crate::words::{long, Words};
 use std::str::from_utf8;
 
 pub fn run(words: &Words, report: &mut Report) -> Result<(), Difference> {
     let mut lent = Lent::new(b"");
     words.texts(&mut |word| check(word.as_bytes(), &mut lent, report))?;
+    long::each_beyond(&mut |word| check(word.as_bytes(), &mut lent, report))?;
     words.byte_strings(&mut |word| check(word, &mut lent, report))
 }
 

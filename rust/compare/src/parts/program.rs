@@ -27,7 +27,8 @@ const WRITES: [Feed; 6] = [
 // One line in so many is fed byte by byte.
 const FEWER: usize = 8;
 const WHOLE: Feed = Feed::Pipe(1 << 16);
-const LENGTHS: [usize; 7] = [0, 1, 2, LIMIT - 1, LIMIT, LIMIT + 1, 10_000_000];
+// A line longer than any block.
+const VERY_LONG: usize = 10_000_000;
 const RANDOM: usize = 4_000_000;
 const STREAM: usize = 300_000_000;
 // Some words of each source for the lists that are fed more than once.
@@ -124,10 +125,11 @@ impl Runs<'_> {
         Ok(())
     }
 
-    // Lines of certain lengths and make-ups by themselves and beside others, closed and unclosed.
+    // Lines of every length up to a byte past the limit, and a very long one, of several make-ups, by
+    // themselves and beside others, closed and unclosed.
     fn lengths(&mut self) -> Result<(), Difference> {
         self.once("no input", Vec::new())?;
-        for length in LENGTHS {
+        for length in (0..=LIMIT + 1).chain([VERY_LONG]) {
             for (filler, last) in [("a", "r"), ("ı", ""), ("\u{20061}", "\t"), ("\0", "\r")] {
                 let mut line = filler.repeat(length / filler.len() + 1).into_bytes();
                 // Where no whole character fits, the line is no text.

@@ -41,11 +41,12 @@ pub fn each_random<E>(count: usize, mut random: Random, visit: Visit<E>) -> Resu
     })
 }
 
-// Each of these after and before up to 70 characters: words of ASCII may be folded many bytes in one
-// step, and others not.
+// Each of these after and before characters, up to as many as the limit lets stand beside it and one
+// more: words of ASCII may be folded many bytes in one step, and others not.
 fn at_every_place<E>(visit: Visit<E>) -> Result<(), E> {
     for filler in ["A", "z", "I", "Ğ", "İ", "乡"] {
-        for (before, after) in (0..=70).flat_map(|n| [(n, 0), (n, 1), (n, 70 - n)]) {
+        let most = (LIMIT - "İ".len()) / filler.len();
+        for (before, after) in (0..=most).flat_map(|n| [(n, 0), (n, 1), (n, most - n)]) {
             for middle in ["", "I", "İ", "Z", "Ş", "\u{430}"] {
                 visit(&[&filler.repeat(before), middle, &filler.repeat(after)].concat())?;
             }

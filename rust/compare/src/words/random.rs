@@ -79,8 +79,8 @@ pub fn each_drawn<E>(
     Ok(())
 }
 
-// A letter of the stages half the time, else a character of any width.
-fn character(random: &mut Random, letters: &[char]) -> char {
+/// A letter of the stages half the time, else a character of any width.
+pub fn character(random: &mut Random, letters: &[char]) -> char {
     match random.below(10) {
         0 => *random.pick(&EDGE_POINTS),
         1 => within(random, 0x00, 0x7F),
