@@ -5,7 +5,8 @@ use mathlib.Core.Path.{_≡_, refl, _∙_}
 use mathlib.Core.List.{List, [], _∷_, _++_, append-assoc, flatten}
 use lib.ListN.{take}
 use Rattle.turkish.specs.Calls.{limit}
-use Rattle.listing.specs.Listing.{linesFrom, listAll, listing}
+use Rattle.turkish.specs.Lines.{linesFrom}
+use Rattle.listing.specs.Listing.{listAll, listing}
 use Rattle.listing.specs.Feed.{most, hold, fedOut, fedLine, lastOut}
 use Rattle.listing.specs.Blocks.{fedAll}
 use Rattle.listing.proofs.Laws.Held.{lf-or-other, hold-held, listLine-held, lastOut-held}

@@ -17,7 +17,8 @@ use Rattle.turkish.specs.Answers.{entered, called, succeeded, left, syllableChe
 use Rattle.turkish.specs.WordPass.{passStage, pass}
 use Rattle.turkish.specs.Calls.{chars, bytes, limit, refusal, accepted, stageText, passText, wholeText}
 use Rattle.lines.specs.Line.{lineRefusal, yesNo, oneZero, answers, fields, listLine}
-use Rattle.listing.specs.Listing.{unclosed, linesFrom, listAll, listing}
+use Rattle.turkish.specs.Lines.{unclosed, linesFrom}
+use Rattle.listing.specs.Listing.{listAll, listing}
 
 -- the input lines `evler` and `siniz` give document 01's two lines and a field more; the second ends in three tabs
 pub example-lines : listing (text "evler\nsiniz\n") ≡ text "evler\tY\tY\t0\tev\tev\tev\nsiniz\tY\tY\t1\t\t\t\n"

@@ -2,16 +2,16 @@
 use Prim.Native.Nat.{ℕ, _≤_, _<_}
 use mathlib.Core.Path.{_≡_, refl}
 use mathlib.Core.Bool.{true, false}
-use mathlib.Core.List.{List, [], _∷_, _++_, append-assoc, append-nil}
+use mathlib.Core.List.{List, [], _∷_, _++_, append-nil}
 use lib.ListN.{length}
-use lib.Dec.{eqb}
-use borrow.Author.Tests.{eqb-true, eq-eqb, ne-eqb, le-ltb}
+use borrow.Author.Tests.{eqb-true, le-ltb}
 use Rattle.encoding.specs.Validity.{isText}
-use Rattle.turkish.specs.Letters.{text, tab, lf, any, has}
+use Rattle.turkish.specs.Letters.{text, tab, lf, has}
+use Rattle.turkish.specs.Lines.{unclosed, linesFrom}
 use Rattle.turkish.specs.Calls.{limit, refusal, accepted}
-use Rattle.turkish.proofs.Laws.Tests.{has-none}
+use Rattle.turkish.proofs.Laws.Lines.{linesFrom-line, linesFrom-last}
 use Rattle.lines.specs.Line.{lineRefusal, fields, refusedLine, listLine}
-use Rattle.listing.specs.Listing.{unclosed, linesFrom, listAll, listing}
+use Rattle.listing.specs.Listing.{listAll, listing}
 use Rattle.listing.proofs.Laws.Held.{listLine-long}
 
 -- ---- one line ----
@@ -38,22 +38,6 @@ module _ (w : List ℕ) where
   listLine-not-text h t = rw (le-ltb limit (length w) h, t)
 
 -- ---- the lines of an input ----
-
--- what ends in a line feed and has no other is one line
-linesFrom-line : (line w rest : List ℕ) → has w lf ≡ false → linesFrom line (w ++ (lf ∷ rest)) ≡ (line ++ w) ∷ linesFrom [] rest
-unfolding linesFrom has any
-linesFrom-line line [] rest n = rw (eq-eqb lf lf refl, append-nil line)
-linesFrom-line line (b ∷ w) rest n =
-    let d = has-none lf b w n in
-    rw (ne-eqb b lf (d .0), linesFrom-line (line ++ (b ∷ [])) w rest (d .1), append-assoc)
-
--- what has none is a last line that is not closed
-linesFrom-last : (line w : List ℕ) → has w lf ≡ false → linesFrom line w ≡ unclosed (line ++ w)
-unfolding linesFrom has any
-linesFrom-last line [] n = rw (append-nil line)
-linesFrom-last line (b ∷ w) n =
-    let d = has-none lf b w n in
-    rw (ne-eqb b lf (d .0), linesFrom-last (line ++ (b ∷ [])) w (d .1), append-assoc)
 
 -- so a word ended by a line feed gives its line, and then comes the listing of what follows
 pub listing-line : (w rest : List ℕ) → has w lf ≡ false → listing (w ++ (lf ∷ rest)) ≡ listLine w ++ listing rest

@@ -6,8 +6,9 @@ use mathlib.Core.List.{List, [], _∷_, _++_}
 use lib.ListN.{take}
 use lib.Dec.{eqb}
 use Rattle.turkish.specs.Letters.{lf}
+use Rattle.turkish.specs.Lines.{unclosed}
 use Rattle.lines.specs.Line.{listLine}
-use Rattle.listing.specs.Listing.{unclosed, listAll}
+use Rattle.listing.specs.Listing.{listAll}
 -- the longest word, in bytes
 unfoldable pub use Rattle.turkish.specs.Calls.{limit}
 

@@ -1,5 +1,6 @@
 -- The laws of the definitions, a file for each thing that they are about; the code's proofs cite some of them too.
 pub mod Tests
+pub mod Lines
 pub mod Harmony
 pub mod Members
 pub mod Outcome

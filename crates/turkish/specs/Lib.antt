@@ -3,6 +3,7 @@
 -- terms of demand 3 and of the theorems on nouns.
 -- A word is read from its end: a list of characters (code points) has the one nearest the cursor first.
 pub mod Letters
+pub mod Lines
 pub mod Snowball
 pub mod Source
 pub mod Answers

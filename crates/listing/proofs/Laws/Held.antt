@@ -14,7 +14,8 @@ use Rattle.encoding.proofs.Laws.Booleans.{lt-or-le}
 use Rattle.turkish.specs.Letters.{lf}
 use Rattle.turkish.specs.Calls.{limit, refusal}
 use Rattle.lines.specs.Line.{lineRefusal, refusedLine, listLine}
-use Rattle.listing.specs.Listing.{unclosed, listAll}
+use Rattle.turkish.specs.Lines.{unclosed}
+use Rattle.listing.specs.Listing.{listAll}
 use Rattle.listing.specs.Feed.{most, hold, lastOut}
 use Rattle.listing.specs.Fed.{heldNext}
 
