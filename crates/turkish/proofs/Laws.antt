@@ -31,3 +31,5 @@ pub mod Leaves
 pub mod DeadMarks
 pub mod NounText
 pub mod Chain
+pub mod Batches
+pub mod Summary

@@ -3,6 +3,9 @@ pub mod Theorems
 pub mod Near
 pub mod Fronts
 pub mod Nothing
+pub mod Joined
+pub mod BatchTheorems
+pub mod BatchWords
 pub mod Starred
 pub mod NounParts
 pub mod NounWords

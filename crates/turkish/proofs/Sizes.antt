@@ -10,6 +10,7 @@ use lib.Seq.{length-take-le, drop-drop}
 use lib.Dec.{leb}
 use borrow.Author.Tests.{leb-true}
 use Rattle.encoding.specs.Encoding.{encode}
+use Rattle.encoding.specs.Text.{TextOf}
 use Rattle.encoding.proofs.Laws.Booleans.{and-left, and-right, cond-test}
 use Rattle.utf8.proofs.Laws.Characters.{back-le}
 use Rattle.utf8.proofs.TextCharacters.{take-back}
@@ -144,10 +145,14 @@ nounText-size w e = rw (nounText-simple w) (rw (bytes-chars w e) at (noun-size (
 pub wholeText-size : (w : List ℕ) → accepted w ≡ true → length (wholeText w) ≤ length w + 2
 wholeText-size w e = rw (wholeText-simple w) (rw (bytes-chars w e) at (whole-size (chars w)))
 
--- the bytes of the characters kept are a front of the word
-pub kept-bytes : (w : List ℕ) → accepted w ≡ true → take (keptLength w) w ≡ bytes (kept (chars w))
+-- the bytes of the characters kept are a front of the text
+pub kept-text : (w : List ℕ) → TextOf w → take (keptLength w) w ≡ bytes (kept (chars w))
 unfolding keptLength bytes kept chars
-kept-bytes w e = take-back w (accepted-text w e) (stage (chars w) .removed)
+kept-text w t = take-back w t (stage (chars w) .removed)
+
+-- so of the word
+pub kept-bytes : (w : List ℕ) → accepted w ≡ true → take (keptLength w) w ≡ bytes (kept (chars w))
+kept-bytes w e = kept-text w (accepted-text w e)
 
 -- the text that the stage leaves is that front
 pub stageText-kept : (w : List ℕ) → accepted w ≡ true → stageText w ≡ take (keptLength w) w

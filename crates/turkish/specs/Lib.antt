@@ -15,6 +15,8 @@ pub mod Fold
 pub mod Calls
 pub mod PieceCalls
 pub mod Fronts
+pub mod Summary
+pub mod BatchCalls
 pub mod NounParts
 -- what need not be believed, but for the partners and marks that the terms of the theorems on harmony name
 pub mod Simple

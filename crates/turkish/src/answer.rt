@@ -76,3 +76,10 @@ pub struct PiecesTextAnswer {
     pub refusal: u32,
     pub length: usize,
 }
+
+// The batch: how many tails were answered.
+#[repr(C)]
+pub struct BatchAnswer {
+    pub refusal: u32,
+    pub count: usize,
+}

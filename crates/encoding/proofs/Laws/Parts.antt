@@ -63,7 +63,7 @@ accepts-cut d [] ys h b = go (eqb (d .need) 0) refl
 accepts-cut d (x ∷ xs) ys h b = rw (accepts-cut (next d x) xs ys (next-within d x) b) (sym (and-assoc (next d x .ok) (accepts (next d x) xs) (isText ys)))
 
 -- the check of two parts
-text-join : (xs ys : List ℕ) → boundary ys ≡ true → isText (xs ++ ys) ≡ isText xs && isText ys
+pub text-join : (xs ys : List ℕ) → boundary ys ≡ true → isText (xs ++ ys) ≡ isText xs && isText ys
 unfolding isText due
 text-join xs ys b = accepts-cut (due 0 0x80 0xBF) xs ys (omega arith) b
 

@@ -28,7 +28,7 @@ use Rattle.turkish.proofs.Source.Means.{settled, placed, done-failed, d
 -- ---- bytes and characters ----
 
 -- a text has a byte for every character
-length-encodeAll : (cs : List ℕ) → length cs ≤ length (encodeAll cs)
+pub length-encodeAll : (cs : List ℕ) → length cs ≤ length (encodeAll cs)
 unfolding encodeAll
 length-encodeAll [] = omega arith
 length-encodeAll (c ∷ cs) = omega (arith, length-append (encode c) (encodeAll cs), length-encode-pos c, length-encodeAll cs)
