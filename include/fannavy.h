@@ -8,15 +8,16 @@
  *
  * Lent memory, in every call:
  *   - no pointer is null, not even where its length is 0;
- *   - the word and the output of one call do not overlap;
+ *   - the word and the output of one call do not overlap; where a call takes more than these, nothing
+ *     that it writes overlaps anything else that it is lent;
  *   - the call reads the n bytes of the word and writes the first `length` bytes of the output
- *     (fannavy_pieces the first 3 * count). The word stays as it was, and so does the rest of the
- *     output. Nothing is allocated and nothing is kept after the call, so calls may run side by
- *     side.
+ *     (fannavy_pieces the first 3 * count, fannavy_batch the first `count` of each of its three). The
+ *     word stays as it was, and so does the rest of the output. Nothing is allocated and nothing is
+ *     kept after the call, so calls may run side by side.
  *
- * Refusals. There is no other error than `refusal`, which gives the first of the numbers below that
- * applies, in their order. A refused call gives its number, and 0 and false in all other fields, and
- * the whole output stays as it was.
+ * Refusals. There is no other error than `refusal`, which gives the first number that applies, in the
+ * order in which the call's comment names its numbers. A refused call gives its number, and 0 and false
+ * in all other fields, and the whole output stays as it was.
  */
 #ifndef FANNAVY_H
 #define FANNAVY_H
@@ -48,12 +49,20 @@ extern "C" {
 #define FANNAVY_PIECES_ROOM 9
 #define FANNAVY_PIECES_TEXT_ROOM 96
 
+/*
+ * Of fannavy_batch: the most tails, which is also the least size of each of its buffers; and the fewest
+ * characters of a tail.
+ */
+#define FANNAVY_TAILS 64
+#define FANNAVY_TAIL_LEAST 16
+
 /* The numbers in `refusal`. */
 #define FANNAVY_NOT_REFUSED UINT32_C(0)
 #define FANNAVY_OVER_LIMIT UINT32_C(1)       /* the word is longer than FANNAVY_LIMIT bytes */
 #define FANNAVY_NOT_UTF8 UINT32_C(2)         /* the word is not UTF-8 */
-#define FANNAVY_OUTPUT_TOO_SHORT UINT32_C(3) /* `room` is less than the call needs */
+#define FANNAVY_OUTPUT_TOO_SHORT UINT32_C(3) /* `room`, or one of three, is less than the call needs */
 #define FANNAVY_BUFFER_TOO_SHORT UINT32_C(5) /* the same in the two calls on pieces */
+#define FANNAVY_TAILS_REFUSED UINT32_C(6)    /* too many tails, or one of too few characters */
 
 /*
  * Whether the bytes are UTF-8: shortest forms only, no surrogates, nothing above U+10FFFF. Takes
@@ -264,6 +273,38 @@ typedef struct {
  * `room` is the output's size, FANNAVY_PIECES_TEXT_ROOM or more. Refuses by the numbers 1, 2 and 5.
  */
 FannavyPiecesText fannavy_pieces_text(const uint8_t *w, size_t n, uint8_t *out, size_t room);
+
+typedef struct {
+    uint32_t refusal;
+    size_t count;
+} FannavyBatch;
+
+/*
+ * fannavy_stage of many words with one front, all at once: for a host that tries many endings on one
+ * long compound. Each word is front[0] .. front[front_n - 1] with a tail behind it.
+ *
+ * The tails are in tails[0] .. tails[tails_n - 1], each closed by a line feed; bytes past the last line
+ * feed are one more tail. So two line feeds in a row have an empty tail between them, and no bytes are
+ * no tail, which is not refused. A line feed in the front is a character like any other.
+ *
+ *   count       how many tails there are. So many entries of each buffer are written, in the order of
+ *               the tails; those from `count` on stay as they were
+ *   lengths[i]  how many bytes of the word are kept, the front's among them: `length` of fannavy_stage
+ *   answers[i]  1 where an ending was removed, 0 where none was: its `yes`
+ *   flags[i]    1 for true, 0 for false: its `flag`
+ *
+ * `lengths_room`, `answers_room` and `flags_room` are the sizes of the three buffers, each
+ * FANNAVY_TAILS or more however few the tails are. The three overlap neither each other nor the front
+ * nor the tails; the front and the tails are only read, and may overlap each other.
+ *
+ * Refuses by the numbers 1, 2, 6 and 3, in this order: 1 and 2 where the front, a tail or a word is
+ * over FANNAVY_LIMIT or not UTF-8, however many tails there are; 6 where there are more than
+ * FANNAVY_TAILS, or one has fewer than FANNAVY_TAIL_LEAST characters; 3 where a buffer is too short. So
+ * one tail can refuse all the others with it.
+ */
+FannavyBatch fannavy_batch(const uint8_t *front, size_t front_n, const uint8_t *tails,
+                           size_t tails_n, uint8_t *lengths, size_t lengths_room, uint8_t *answers,
+                           size_t answers_room, uint8_t *flags, size_t flags_room);
 
 #ifdef __cplusplus
 }

@@ -1,5 +1,6 @@
 // What a host program links: thin calls under C's convention, each with its contract by the library's own definitions. None asks
 // anything of its caller beyond what the signature says.
+use batch::call;
 use folding::fold;
 use outputs::noun;
 use outputs::pass;
@@ -7,6 +8,7 @@ use outputs::postlude;
 use outputs::whole;
 use pieces::buffer;
 use pieces::text;
+use turkish::answer::BatchAnswer;
 use turkish::answer::FoldAnswer;
 use turkish::answer::NounAnswer;
 use turkish::answer::PassAnswer;
@@ -23,6 +25,7 @@ ghost use mathlib.Core.Path.{_≡_};
 ghost use lib.ListN.{length};
 ghost use Rattle.encoding.specs.Validity.{isText};
 ghost use Rattle.turkish.specs.Calls.{syllableCall, stageCall, postludeCall, postludeOut, foldCall, foldOut, passCall, passOut, nounCall, nounOut, wholeCall, wholeOut};
+ghost use Rattle.turkish.specs.BatchCalls.{batch, batchCall, lengthsAfter, answersAfter, flagsAfter};
 ghost use Rattle.turkish.specs.PieceCalls.{piecesCall, PiecesOut, piecesTextCall, PiecesTextOut};
 
 // Whether the bytes are UTF-8. Takes any slice.
@@ -110,4 +113,21 @@ pub extern "C" fn fannavy_pieces_text(w: &[u8], out: &mut [u8]) -> PiecesTextAns
     ensures { λ _. ⌜ PiecesTextOut (now (w .entry)) (now (out .entry)) (now (out .exit)) ⌝ }
 {
     text::pieces_text(w, out)
+}
+
+// The suffix stage of a front with each of up to 64 tails, to three buffers of 64 entries or more.
+#[no_mangle]
+pub extern "C" fn fannavy_batch(
+    front: &[u8],
+    tails: &[u8],
+    lengths: &mut [u8],
+    answers: &mut [u8],
+    flags: &mut [u8],
+) -> BatchAnswer
+    ensures { λ r. ⌜ r ≡ batchCall (batch (now (front .entry)) (now (tails .entry)) (now (lengths .entry)) (now (answers .entry)) (now (flags .entry))) ⌝ }
+    ensures { λ _. ⌜ now (lengths .exit) ≡ lengthsAfter (batch (now (front .entry)) (now (tails .entry)) (now (lengths .entry)) (now (answers .entry)) (now (flags .entry))) ⌝ }
+    ensures { λ _. ⌜ now (answers .exit) ≡ answersAfter (batch (now (front .entry)) (now (tails .entry)) (now (lengths .entry)) (now (answers .entry)) (now (flags .entry))) ⌝ }
+    ensures { λ _. ⌜ now (flags .exit) ≡ flagsAfter (batch (now (front .entry)) (now (tails .entry)) (now (lengths .entry)) (now (answers .entry)) (now (flags .entry))) ⌝ }
+{
+    call::batch_words(front, tails, lengths, answers, flags)
 }

@@ -1,5 +1,6 @@
 //! `bench`: times the proved archives and the Rust on the same words and prints a table in Markdown.
 
+mod batch;
 mod inputs;
 mod measure;
 mod pairs;
@@ -19,7 +20,8 @@ usage: bench [--vocabulary PATH] [--rounds N] [--program PATH]
        bench --list
 
 Times each call on both sides, in turn, and prints the median of N rounds (default 31); the whole run
-beside Snowball's own C; and the program stemlist, where it is there, beside an equal one in Rust.
+beside Snowball's own C; a batch beside a call for each of its words; and the program stemlist, where it
+is there, beside an equal one in Rust.
   --vocabulary PATH  one word to a line (default: the variable FANNAVY_VOCABULARY, or
                      /usr/share/snowball/data/turkish/voc.txt of Debian's snowball-data)
   --program PATH     the program stemlist (default: the variable FANNAVY_STEMLIST, or
@@ -69,6 +71,7 @@ fn run(settings: &Settings) -> Result<(), String> {
     }
     calls(settings)?;
     snowball(settings)?;
+    println!("\n{}", batch::table(settings.rounds)?);
     programs(settings)
 }
 

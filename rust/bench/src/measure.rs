@@ -3,6 +3,7 @@
 use crate::inputs::Input;
 use crate::pairs::{Output, Pair};
 use fannavy::{fold_room, LIMIT};
+use std::array;
 use std::hint::black_box;
 use std::str::from_utf8;
 use std::time::{Duration, Instant};
@@ -18,23 +19,41 @@ pub struct Times {
     pub from_bytes: Option<f64>,
 }
 
-/// Runs this many rounds, after one that is not counted; the error is a message that the sides
-/// gave different answers.
+/// Both sides over these words; the error is a message that they gave different answers.
 pub fn measure(pair: &Pair, input: &Input, rounds: usize) -> Result<Times, String> {
     let from_bytes = |word: &str, output: &mut Output| {
         let text = from_utf8(word.as_bytes());
         text.map_or(0, |text| (pair.rust)(text, output))
     };
     let sides: [&Side; 3] = [&pair.proved, &pair.rust, &from_bytes];
-    let passes = BYTES.div_ceil(input.bytes().max(1));
-    let mut times: [Vec<Duration>; 3] = Default::default();
+    let passes = passes(input.bytes());
+    let times = in_turn(rounds, |side| time(sides[side], &input.words, passes))
+        .ok_or_else(|| format!("{} on {}: the answers differ", pair.name, input.name))?;
+    let words = (input.words.len() * passes) as f64;
+    let [proved, rust, from_bytes] = times.map(|time| time / words);
+    Ok(Times {
+        proved,
+        rust,
+        from_bytes: pair.takes_text.then_some(from_bytes),
+    })
+}
+
+/// How often a round goes over so many bytes.
+pub fn passes(bytes: usize) -> usize {
+    BYTES.div_ceil(bytes.max(1))
+}
+
+/// The median time of each side in nanoseconds over this many rounds, after one that is not counted.
+/// `time` gives the time of a side and the sum of its answers; none where the sums differ.
+pub fn in_turn<const N: usize>(
+    rounds: usize,
+    time: impl Fn(usize) -> (Duration, usize),
+) -> Option<[f64; N]> {
+    let mut times = [(); N].map(|()| Vec::new());
     for round in 0..=rounds {
-        let measured = sides.map(|side| time(side, &input.words, passes));
+        let measured: [_; N] = array::from_fn(&time);
         if measured.iter().any(|(_, sum)| *sum != measured[0].1) {
-            return Err(format!(
-                "{} on {}: the answers differ",
-                pair.name, input.name
-            ));
+            return None;
         }
         if round > 0 {
             for (times, (time, _)) in times.iter_mut().zip(measured) {
@@ -42,13 +61,7 @@ pub fn measure(pair: &Pair, input: &Input, rounds: usize) -> Result<Times, Strin
             }
         }
     }
-    let words = (input.words.len() * passes) as f64;
-    let [proved, rust, from_bytes] = times.map(|times| median(times) / words);
-    Ok(Times {
-        proved,
-        rust,
-        from_bytes: pair.takes_text.then_some(from_bytes),
-    })
+    Some(times.map(median))
 }
 
 type Side<'a> = dyn Fn(&str, &mut Output) -> usize + 'a;

@@ -17,8 +17,9 @@ differ, with both answers.
                      also N piles of four, and N of 15 to 18 characters; of noun endings N piles of
                      three or four, N chains before ki, and N piles below the endings of a nominal
                      verb (default 300000)
-  --random N         N random words of each kind: text, headings, bytes, damaged words; and a sixth
-                     as many of every length up to a byte past the limit in turn (default 300000)
+  --random N         N random words of each kind: text, headings, bytes, damaged words; a sixth as
+                     many of every length up to a byte past the limit in turn; and an eighth as many
+                     batches of up to 64 words, and damaged ones (default 300000)
   --long             these sizes for a run of over 100 million words for each of the stages; name the
                      parts from syllable on, since the others take much longer
   --vocabulary PATH  one word to a line (default: the variable FANNAVY_VOCABULARY, or

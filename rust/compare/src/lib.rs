@@ -20,5 +20,7 @@ pub mod report;
 pub mod rule;
 pub mod share;
 pub mod steps;
+pub mod tails;
 pub mod told;
+pub mod tray;
 pub mod words;

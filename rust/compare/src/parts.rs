@@ -1,6 +1,8 @@
 //! The parts of the comparison. A part takes the words, counts in the report, and stops at the first
 //! difference.
 
+#[cfg(feature = "oracle")]
+mod batch;
 mod characters;
 mod check;
 mod fold;
@@ -156,6 +158,12 @@ pub const PARTS: &[Part] = &[
         name: "harmony",
         what: "the suffix stage's vowels in harmony and loan candidate, with the crate's marks and groupings",
         run: Run::Words(harmony::run),
+    },
+    #[cfg(feature = "oracle")]
+    Part {
+        name: "batch",
+        what: "the stage of many tails behind one front, with the crate's on each joined word; its refusals, with the rule",
+        run: Run::Words(batch::run),
     },
     Part {
         name: "fold",

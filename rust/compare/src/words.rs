@@ -1,10 +1,12 @@
 //! The words that both sides are fed. Each source visits its words one by one, the same ones for the
 //! same sizes, and stops at the visitor's first error.
 
+pub mod batches;
 pub mod chains;
 pub mod damaged;
 pub mod endings;
 pub mod filled;
+pub mod fronts;
 pub mod headings;
 pub mod letters;
 pub mod links;
@@ -14,7 +16,9 @@ pub mod nouns;
 pub mod odometer;
 pub mod piles;
 pub mod random;
+pub mod refused_batches;
 pub mod sixteen;
+pub mod tails;
 
 use random::Random;
 use std::fs;
@@ -22,6 +26,8 @@ use std::path::Path;
 
 // Random words are short; one for so many of them is of any length.
 const SHORTER: usize = 6;
+// A batch has up to 64 words; there is one for so many random words.
+const BATCH: usize = 8;
 
 /// What a source calls with each word that is text.
 pub type Visit<'a, E> = &'a mut dyn FnMut(&str) -> Result<(), E>;
@@ -135,6 +141,23 @@ impl Words {
         self.for_stages(visit)?;
         headings::each_random(self.sizes.random, self.random(8), visit)?;
         headings::each_run(visit)
+    }
+
+    /// Fronts and tails for the batch, none refused.
+    pub fn batches<E>(&self, visit: batches::Visit<E>) -> Result<(), E> {
+        batches::each_cut(&self.vocabulary, visit)?;
+        batches::each_count(visit)?;
+        batches::each_set(visit)?;
+        batches::each_chain(visit)?;
+        batches::each_random(self.sizes.random / BATCH, self.random(13), visit)
+    }
+
+    /// Fronts and tails of which most are refused.
+    pub fn refused_batches<E>(&self, visit: batches::Visit<E>) -> Result<(), E> {
+        refused_batches::each_pair(visit)?;
+        refused_batches::each_length(visit)?;
+        refused_batches::each_parted(visit)?;
+        refused_batches::each_damaged(self.sizes.random / BATCH, self.random(14), visit)
     }
 
     /// Byte strings, most of which are no text: random bytes, and words with some bytes damaged.

@@ -77,6 +77,13 @@ pub struct FannavyPiecesText {
     pub length: usize,
 }
 
+#[repr(C)]
+#[derive(Clone, Copy, Debug, PartialEq, Eq)]
+pub struct FannavyBatch {
+    pub refusal: u32,
+    pub count: usize,
+}
+
 extern "C" {
     pub fn fannavy_is_utf8(w: *const u8, n: usize) -> bool;
     pub fn fannavy_syllable(w: *const u8, n: usize) -> FannavySyllable;
@@ -93,6 +100,18 @@ extern "C" {
         out: *mut u8,
         room: usize,
     ) -> FannavyPiecesText;
+    pub fn fannavy_batch(
+        front: *const u8,
+        front_n: usize,
+        tails: *const u8,
+        tails_n: usize,
+        lengths: *mut u8,
+        lengths_room: usize,
+        answers: *mut u8,
+        answers_room: usize,
+        flags: *mut u8,
+        flags_room: usize,
+    ) -> FannavyBatch;
 }
 
 // Each call on slices. A reference is what the archive asks for: not null, as long as it says, and
@@ -136,4 +155,27 @@ pub(crate) fn pieces(w: &[u8], out: &mut [u8]) -> FannavyPieces {
 
 pub(crate) fn pieces_text(w: &[u8], out: &mut [u8]) -> FannavyPiecesText {
     unsafe { fannavy_pieces_text(w.as_ptr(), w.len(), out.as_mut_ptr(), out.len()) }
+}
+
+pub(crate) fn batch(
+    front: &[u8],
+    tails: &[u8],
+    lengths: &mut [u8],
+    answers: &mut [u8],
+    flags: &mut [u8],
+) -> FannavyBatch {
+    unsafe {
+        fannavy_batch(
+            front.as_ptr(),
+            front.len(),
+            tails.as_ptr(),
+            tails.len(),
+            lengths.as_mut_ptr(),
+            lengths.len(),
+            answers.as_mut_ptr(),
+            answers.len(),
+            flags.as_mut_ptr(),
+            flags.len(),
+        )
+    }
 }

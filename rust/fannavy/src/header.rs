@@ -68,7 +68,13 @@ mod tests {
 
     #[test]
     fn a_size_is_the_definition_s_own() {
-        for name in ["LIMIT", "PIECES_ROOM", "PIECES_TEXT_ROOM"] {
+        for name in [
+            "LIMIT",
+            "PIECES_ROOM",
+            "PIECES_TEXT_ROOM",
+            "TAILS",
+            "TAIL_LEAST",
+        ] {
             let line = format!(
                 "\n#define FANNAVY_{name} {}\n",
                 size(&format!("FANNAVY_{name}"))

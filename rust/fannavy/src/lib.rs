@@ -21,12 +21,14 @@
 #![deny(unsafe_code)]
 #![warn(missing_docs)]
 
+mod batch;
 #[allow(unsafe_code, missing_docs)]
 pub mod ffi;
 mod header;
 mod pieces;
 mod refusal;
 
+pub use batch::{batch, Answer, Batch};
 pub use pieces::{Joining, Kind, Piece, Pieces};
 use refusal::refused;
 pub use refusal::Refusal;
@@ -54,6 +56,13 @@ pub const PIECES_ROOM: usize = header::size("FANNAVY_PIECES_ROOM");
 
 /// The least output of [`pieces_text`], whatever the word.
 pub const PIECES_TEXT_ROOM: usize = header::size("FANNAVY_PIECES_TEXT_ROOM");
+
+/// The most tails of a [`batch()`], and the least size of each buffer in the archive's own form;
+/// [`batch()`] brings these along.
+pub const TAILS: usize = header::size("FANNAVY_TAILS");
+
+/// The fewest characters of a tail.
+pub const TAIL_LEAST: usize = header::size("FANNAVY_TAIL_LEAST");
 
 /// What the suffix stage answers.
 #[derive(Clone, Copy, Debug, PartialEq, Eq)]
@@ -345,6 +354,13 @@ mod tests {
             (refusal(PIECES_TEXT_ROOM - 1), refusal(PIECES_TEXT_ROOM)),
             (5, 0)
         );
+        let tail = |length: usize| "b".repeat(length) + "\n";
+        let refusal = |tails: &str| batch(b"ev", tails.as_bytes()).err();
+        let [most, over] = [TAILS, TAILS + 1].map(|count| tail(TAIL_LEAST).repeat(count));
+        for refused in [over, tail(TAIL_LEAST - 1)] {
+            assert_eq!(refusal(&refused), Some(Refusal::TailsRefused));
+        }
+        assert_eq!(refusal(&most), None);
     }
 
     #[test]

@@ -1,8 +1,8 @@
 //! Why a call refuses.
 
-use crate::LIMIT;
 #[cfg(doc)]
-use crate::{PIECES_ROOM, PIECES_TEXT_ROOM};
+use crate::{batch, PIECES_ROOM, PIECES_TEXT_ROOM};
+use crate::{LIMIT, TAILS, TAIL_LEAST};
 use std::error::Error;
 use std::fmt::{self, Display, Formatter};
 
@@ -10,10 +10,12 @@ use std::fmt::{self, Display, Formatter};
 /// output.
 #[derive(Clone, Copy, Debug, PartialEq, Eq, Hash)]
 pub enum Refusal {
-    /// The word is longer than [`LIMIT`] bytes.
+    /// The word is longer than [`LIMIT`] bytes; of a [`batch`], its front, a tail or a joined word.
     OverLimit,
-    /// The word is not UTF-8.
+    /// The word, or one of these, is not UTF-8.
     NotUtf8,
+    /// A [`batch`] has more than [`TAILS`] tails, or one of fewer than [`TAIL_LEAST`] characters.
+    TailsRefused,
     /// The output is shorter than the call needs.
     OutputTooShort,
     /// The buffer for pieces is shorter than [`PIECES_ROOM`] bytes, or for their text than
@@ -29,6 +31,7 @@ impl Refusal {
             Refusal::NotUtf8 => 2,
             Refusal::OutputTooShort => 3,
             Refusal::BufferTooShort => 5,
+            Refusal::TailsRefused => 6,
         }
     }
 }
@@ -38,6 +41,10 @@ impl Display for Refusal {
         match self {
             Refusal::OverLimit => write!(f, "the word is over {LIMIT} bytes"),
             Refusal::NotUtf8 => write!(f, "the word is not UTF-8"),
+            Refusal::TailsRefused => write!(
+                f,
+                "there are over {TAILS} tails, or one has under {TAIL_LEAST} characters"
+            ),
             Refusal::OutputTooShort => write!(f, "the output is too short for the word"),
             Refusal::BufferTooShort => write!(f, "the buffer is too short for pieces"),
         }
@@ -55,6 +62,7 @@ pub(crate) fn refused(number: u32) -> Result<(), Refusal> {
         2 => Err(Refusal::NotUtf8),
         3 => Err(Refusal::OutputTooShort),
         5 => Err(Refusal::BufferTooShort),
+        6 => Err(Refusal::TailsRefused),
         other => {
             panic!("libfannavy.a refuses by the number {other}, which this crate does not know")
         }
@@ -65,15 +73,18 @@ pub(crate) fn refused(number: u32) -> Result<(), Refusal> {
 mod tests {
     use super::*;
 
+    const ALL: [Refusal; 5] = [
+        Refusal::OverLimit,
+        Refusal::NotUtf8,
+        Refusal::TailsRefused,
+        Refusal::OutputTooShort,
+        Refusal::BufferTooShort,
+    ];
+
     #[test]
     fn numbers_come_back() {
         assert_eq!(refused(0), Ok(()));
-        for refusal in [
-            Refusal::OverLimit,
-            Refusal::NotUtf8,
-            Refusal::OutputTooShort,
-            Refusal::BufferTooShort,
-        ] {
+        for refusal in ALL {
             assert_eq!(refused(refusal.number()), Err(refusal));
         }
     }
@@ -87,13 +98,9 @@ mod tests {
     #[test]
     fn messages_tell_the_refusals_apart() {
         assert_eq!(Refusal::NotUtf8.to_string(), "the word is not UTF-8");
-        assert_ne!(
-            Refusal::OverLimit.to_string(),
-            Refusal::OutputTooShort.to_string()
-        );
-        assert_ne!(
-            Refusal::OutputTooShort.to_string(),
-            Refusal::BufferTooShort.to_string()
-        );
+        let messages = ALL.map(|refusal| refusal.to_string());
+        for (place, message) in messages.iter().enumerate() {
+            assert!(!messages[..place].contains(message), "{message}");
+        }
     }
 }

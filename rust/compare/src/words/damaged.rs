@@ -67,8 +67,8 @@ pub fn each_word<E>(
     })
 }
 
-// One or two damages at random places; some leave the word text.
-fn damage(word: &[u8], random: &mut Random) -> Vec<u8> {
+/// One or two damages at random places; some leave the word text.
+pub fn damage(word: &[u8], random: &mut Random) -> Vec<u8> {
     let mut bytes = word.to_vec();
     for _ in 0..1 + random.below(2) {
         let place = random.below(bytes.len() + 1);

@@ -4,7 +4,8 @@ use super::endings::endings;
 use super::odometer;
 use super::Visit;
 
-const VOWELS: &str = "aeıioöuü";
+/// The vowels of Turkish.
+pub const VOWELS: &str = "aeıioöuü";
 // y and g, which the stages test by themselves; then characters of 2, 3 and 4 bytes that are no
 // letters of Turkish. The last byte of ß is that of ğ and ş; the low byte of the other two code
 // points is that of a.

@@ -1,0 +1,233 @@
+//! A batch beside the suffix stage of each of its words, which the host joins: anew for each word, or in a
+//! buffer that keeps the front.
+
+use crate::measure::{in_turn, passes};
+use compare::words::filled::filled;
+use fannavy::{LIMIT, TAILS, TAIL_LEAST};
+use std::hint::black_box;
+use std::time::{Duration, Instant};
+
+const COMPOUND: &str = "elektromanyetikuyum";
+// Stems and endings; the last 16 characters of one with the other are a tail.
+const STEMS: [&str; 8] = [
+    "lulukdeğerlendirme",
+    "süzlükgöstergeler",
+    "laboratuvarlarımız",
+    "sınıflandırılması",
+    "ölçümyöntemlerimiz",
+    "koruyucumalzemesi",
+    "doğrulamabelgeleri",
+    "uygunlukbeyannamesi",
+];
+const ENDINGS: [&str; 8] = [
+    "dır",
+    "ler",
+    "yken",
+    "ymiş",
+    "sınız",
+    "dılar",
+    "mıştır",
+    "ymüşcesine",
+];
+// Behind a stem the suffix stage removes none of these.
+const OTHERS: [&str; 8] = ["sal", "nin", "da", "ye", "yla", "den", "nı", "ki"];
+// Endings with one vowel, a byte for each letter.
+const ONE_VOWEL: [&str; 8] = ["lar", "ler", "dir", "dur", "tir", "tur", "sin", "sun"];
+
+/// A front and its tails.
+struct Row {
+    name: String,
+    front: String,
+    tails: Vec<String>,
+}
+
+/// The table, in Markdown; the error is a message that the answers differ.
+pub fn table(rounds: usize) -> Result<String, String> {
+    let mut table = format!(
+        "Nanoseconds a tail, median of {rounds} rounds: one batch, and the suffix stage of each joined word, which the host builds anew, or behind
+the front that stays in a buffer. Ratio: the batch's time over the host's; below 1, the batch is faster.
+
+| front and tails | tails | bytes a word | batch | built anew | ratio | front kept | ratio |
+|---|--:|--:|--:|--:|--:|--:|--:|"
+    );
+    for row in rows() {
+        table.push('\n');
+        table.push_str(&line(&row, rounds)?);
+    }
+    Ok(table)
+}
+
+fn rows() -> Vec<Row> {
+    let row = |name: &str, front: &str, tails: &[String]| Row {
+        name: name.to_string(),
+        front: front.to_string(),
+        tails: tails.to_vec(),
+    };
+    let far = LIMIT - TAIL_LEAST;
+    let bare = filled("bcdfgkl", far);
+    let vowel = format!("e{}", &bare[1..]);
+    let (one_vowel, ordinary) = (one_vowel(), ends(&ENDINGS));
+    vec![
+        row(
+            &format!("{far} bytes, a vowel at the start"),
+            &vowel,
+            &one_vowel,
+        ),
+        row(&format!("{far} bytes without a vowel"), &bare, &one_vowel),
+        row("an ordinary compound", COMPOUND, &ordinary),
+        row(
+            "the same, tails without an ending",
+            COMPOUND,
+            &ends(&OTHERS),
+        ),
+        row("a short front, tails with endings", "ev", &ordinary),
+        row("an ordinary compound, one tail", COMPOUND, &ordinary[..1]),
+    ]
+}
+
+// Tails of consonants and an ending with one vowel.
+fn one_vowel() -> Vec<String> {
+    let letters = filled("bcdfghjklmnprstvyz", 2 * TAILS);
+    let tail = |i: usize| {
+        let ending = ONE_VOWEL[i % ONE_VOWEL.len()];
+        let consonants = &letters[i..][..TAIL_LEAST - ending.len()];
+        [consonants, ending].concat()
+    };
+    (0..TAILS).map(tail).collect()
+}
+
+// The last 16 characters of every stem with each of these.
+fn ends(endings: &[&str]) -> Vec<String> {
+    let words = STEMS
+        .iter()
+        .flat_map(|stem| endings.iter().map(move |ending| [*stem, ending].concat()));
+    words.map(|word| last(&word)).collect()
+}
+
+fn last(word: &str) -> String {
+    let more = word.chars().count() - TAIL_LEAST;
+    word.chars().skip(more).collect()
+}
+
+fn line(row: &Row, rounds: usize) -> Result<String, String> {
+    let slice = row.tails.join("\n");
+    let bytes: usize = row
+        .tails
+        .iter()
+        .map(|tail| row.front.len() + tail.len())
+        .sum();
+    let passes = passes(bytes);
+    let sides: [&dyn Fn() -> usize; 3] = [
+        &|| batch(&row.front, &slice),
+        &|| anew(&row.front, &row.tails),
+        &|| kept(&row.front, &row.tails),
+    ];
+    let times = in_turn(rounds, |side| time(sides[side], passes))
+        .ok_or_else(|| format!("{}: the answers differ", row.name))?;
+    let count = row.tails.len();
+    let [batch, anew, kept] = times.map(|time| time / (count * passes) as f64);
+    let bytes = bytes as f64 / count as f64;
+    Ok(format!(
+        "| {} | {count} | {bytes:.1} | {batch:.1} | {anew:.1} | {:.2} | {kept:.1} | {:.2} |",
+        row.name,
+        batch / anew,
+        batch / kept
+    ))
+}
+
+// The time of some passes, and the sum of the answers.
+fn time(side: &dyn Fn() -> usize, passes: usize) -> (Duration, usize) {
+    let mut sum = 0usize;
+    let start = Instant::now();
+    for _ in 0..passes {
+        sum = sum.wrapping_add(black_box(side()));
+    }
+    (start.elapsed(), sum)
+}
+
+// One call.
+fn batch(front: &str, slice: &str) -> usize {
+    let (front, slice) = (black_box(front).as_bytes(), black_box(slice).as_bytes());
+    match fannavy::batch(front, slice) {
+        Ok(batch) => batch.iter().map(|a| sum(a.kept, a.yes, a.flag)).sum(),
+        Err(_) => REFUSED,
+    }
+}
+
+// A call for each word, which is built anew.
+fn anew(front: &str, tails: &[String]) -> usize {
+    let front = black_box(front);
+    let word = |tail: &String| stage([front, black_box(tail)].concat().as_bytes());
+    tails.iter().map(word).sum()
+}
+
+// A call for each word; the front is copied once and stays.
+fn kept(front: &str, tails: &[String]) -> usize {
+    let front = black_box(front).as_bytes();
+    let mut word = [0; LIMIT];
+    word[..front.len()].copy_from_slice(front);
+    let behind = |tail: &String| {
+        let tail = black_box(tail).as_bytes();
+        let n = front.len() + tail.len();
+        word[front.len()..n].copy_from_slice(tail);
+        stage(&word[..n])
+    };
+    tails.iter().map(behind).sum()
+}
+
+fn stage(word: &[u8]) -> usize {
+    match fannavy::stage(word) {
+        Ok(stage) => sum(stage.kept.len(), stage.yes, stage.flag),
+        Err(_) => REFUSED,
+    }
+}
+
+// No word here is refused; if one is, the sums differ.
+const REFUSED: usize = 1 << 32;
+
+// An answer as one number.
+fn sum(kept: usize, yes: bool, flag: bool) -> usize {
+    4 * kept + 2 * usize::from(yes) + usize::from(flag)
+}
+
+#[cfg(test)]
+mod tests {
+    use super::*;
+    use std::collections::BTreeSet;
+
+    #[test]
+    fn tails_are_different_and_of_sixteen_characters() {
+        for row in rows() {
+            let mut tails = row.tails.iter();
+            assert!(tails.all(|tail| tail.chars().count() == TAIL_LEAST));
+            let different: BTreeSet<&String> = row.tails.iter().collect();
+            assert_eq!(different.len(), row.tails.len(), "{}", row.name);
+            assert!([1, TAILS].contains(&row.tails.len()));
+        }
+    }
+
+    // Of how many words an ending is removed.
+    fn removed(row: &Row) -> usize {
+        let words = row.tails.iter().map(|tail| [&row.front[..], tail].concat());
+        let stage = |word: &String| fannavy::stage(word.as_bytes()).expect("a word").yes;
+        words.filter(stage).count()
+    }
+
+    #[test]
+    fn the_sides_agree() {
+        for row in rows() {
+            let sums = batch(&row.front, &row.tails.join("\n"));
+            assert_eq!(sums, anew(&row.front, &row.tails), "{}", row.name);
+            assert_eq!(sums, kept(&row.front, &row.tails), "{}", row.name);
+        }
+    }
+
+    #[test]
+    fn endings_are_where_they_should_be() {
+        let removed: Vec<usize> = rows().iter().map(removed).collect();
+        assert_eq!((removed[1], removed[3], removed[5]), (0, 0, 1));
+        for row in [0, 2, 4] {
+            assert!(removed[row] >= TAILS / 2, "{removed:?}");
+        }
+    }
+}
