@@ -16,7 +16,8 @@ pub struct Seen {
     pub third: u32,
 }
 
-pub fn look_back(w: &[u8], c: Cursor) -> Seen
+// The three read one after the other.
+fn read_three(w: &[u8], c: Cursor) -> Seen
     requires { ⌜ Open (now w) c ⌝ }
     ensures { λ r. ⌜ r ≡ seenAt (now (w .entry)) c ⌝ }
 {
@@ -34,4 +35,29 @@ pub fn look_back(w: &[u8], c: Cursor) -> Seen
         three: low + d.at,
         third: d.ch,
     }
+}
+
+// The same; three bytes of ASCII, as many endings have, are read at one go.
+pub fn look_back(w: &[u8], c: Cursor) -> Seen
+    requires { ⌜ Open (now w) c ⌝ }
+    ensures { λ r. ⌜ r ≡ seenAt (now (w .entry)) c ⌝ }
+{
+    let at = c.cursor;
+    if 3 <= at - c.limit_backward {
+        let x = w[at - 1];
+        let y = w[at - 2];
+        let z = w[at - 3];
+        if (x < 0x80) & (y < 0x80) & (z < 0x80) {
+            return Seen {
+                c,
+                one: at - 1,
+                last: x as u32,
+                two: at - 2,
+                second: y as u32,
+                three: at - 3,
+                third: z as u32,
+            };
+        }
+    }
+    read_three(w, c)
 }

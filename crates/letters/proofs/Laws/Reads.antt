@@ -1,19 +1,24 @@
 -- Three characters read back from a record, one after the other, in the part from limit_backward on. Assumes nothing.
-use Prim.Native.Nat.{ℕ, _+_, _-_, _≤_}
-use mathlib.Core.Path.{_≡_, ap, _∙_}
+use Prim.Native.Nat.{ℕ, _+_, _-_, _≤_, _<_}
+use mathlib.Core.Path.{_≡_, sym, ap, _∙_}
+use mathlib.Core.Bool.{true, _&&_}
 use mathlib.Core.List.{List}
 use native.Mathlib.Omega.{arith}
 use lib.ListN.{drop, getD}
 use lib.Seq.{getD-drop}
+use lib.Dec.{ltb}
+use borrow.Author.Tests.{ltb-true}
+use Rattle.encoding.proofs.Laws.Booleans.{and-each}
 use Rattle.utf8.specs.declared.cursor.Cursor.{Cursor}
 use Rattle.utf8.specs.declared.characters.Read.{Read}
 use Rattle.utf8.specs.Characters.{back, before}
 use Rattle.utf8.specs.Steps.{moveTo}
-use Rattle.utf8.specs.Behind.{readBack, behind, backBy}
+use Rattle.utf8.specs.Behind.{readBack, behind, backBy, Open}
 use Rattle.utf8.proofs.Laws.Characters.{back-le, back-add, before-back}
+use Rattle.utf8.proofs.Laws.ReadBack.{readBack-ascii}
 use Rattle.letters.specs.declared.seen.Seen.{Seen}
 use Rattle.letters.specs.Seen.{seenAt}
-use Rattle.letters.proofs.Laws.Part.{partFrom, partFrom-drop}
+use Rattle.letters.proofs.Laws.Part.{partFrom, partFrom-drop, low-cursor-le, cursor-part-le}
 
 module _ (w : List ℕ) (c : Cursor) where
   -- where the part begins before which nothing is looked at
@@ -99,3 +104,37 @@ module _ (w : List ℕ) (c : Cursor) where
             (seenAt w c)
         unfolding seenAt
         seenAt-made = rw (first-ch, second-ch, third-ch, first-place, second-place, third-place)
+
+-- three bytes that are tested at one go
+pub all-plain : (x y z : ℕ) → ltb x 0x80 && ltb y 0x80 && ltb z 0x80 ≡ true → (x < 0x80) × (y < 0x80) × (z < 0x80)
+all-plain x y z e =
+    let t = and-each (ltb x 0x80) (ltb y 0x80) (ltb z 0x80) e in
+    (ltb-true x 0x80 (t .0), ltb-true y 0x80 (t .1), ltb-true z 0x80 (t .2))
+
+-- three bytes below 128, as the word has them
+module _ (w : List ℕ) (c : Cursor) (o : Open w c) (h : 3 ≤ c .cursor - c .«limit_backward») where
+  -- a byte of the part stands as far on in the word
+  part-byte : (n : ℕ) → getD w (low w c + n) 0 ≡ getD (partFrom w (low w c)) n 0
+  part-byte n = sym (ap (λ (p : List ℕ). getD p n 0) (partFrom-drop w (low w c)) ∙ getD-drop (low w c) w n 0)
+
+  -- it is read as the character before the next place
+  plain-read : (b k : ℕ) → k < at w c → b ≡ getD w (low w c + k) 0 → b < 0x80
+      → _≡_ {A = Read} (record { ch = b; at = k }) (readBack (partFrom w (low w c)) (k + 1))
+  plain-read b k l e s =
+      let one : k + 1 - 1 ≡ k = omega arith in
+      rw one at (readBack-ascii (partFrom w (low w c)) (k + 1) b (omega arith) (omega (arith, cursor-part-le w c o)) (rw one (e ∙ part-byte k)) s)
+
+  pub seenAt-plain : (x y z : ℕ) → x ≡ getD w (c .cursor - 1) 0 → y ≡ getD w (c .cursor - 2) 0 → z ≡ getD w (c .cursor - 3) 0
+      → x < 0x80 → y < 0x80 → z < 0x80
+      → _≡_ {A = Seen} (record { c = c; one = c .cursor - 1; last = x; two = c .cursor - 2; second = y; three = c .cursor - 3; third = z }) (seenAt w c)
+  seenAt-plain x y z ex ey ez sx sy sz =
+      let k : ℕ = at w c - 3 in
+      let le = low-cursor-le w c o in
+      let px : c .cursor - 1 ≡ low w c + (k + 1 + 1) = omega arith in
+      let py : c .cursor - 2 ≡ low w c + (k + 1) = omega arith in
+      let pz : c .cursor - 3 ≡ low w c + k = omega arith in
+      let top : k + 1 + 1 + 1 ≡ at w c = omega arith in
+      let a = rw top at (plain-read x (k + 1 + 1) (omega arith) (rw (← px) ex) sx) in
+      let b = plain-read y (k + 1) (omega arith) (rw (← py) ey) sy in
+      let d = plain-read z k (omega arith) (rw (← pz) ez) sz in
+      rw (px, py, pz) (seenAt-made w c a b d)

@@ -1,76 +1,100 @@
--- `letters::seen::look_back` meets its contract: three characters read one after the other. Assumes nothing.
+-- `letters::seen::look_back` meets its contract: three bytes below 128 are three characters. Assumes nothing.
+use Prim.Native.Nat.{_-_}
+use mathlib.Core.Path.{refl}
 use native.Mathlib.Omega.{arith}
 use denote.Ref.{now}
-use Rattle.letters.proofs.Laws.Part.{low-length-le, low-cursor-le, cursor-length-le, cursor-part-le}
-use Rattle.letters.proofs.Laws.Reads.{first-le, second-le, third-le, seenAt-made}
+use lib.ListN.{getD}
 use borrow.Author.Needs.{needs}
+use Rattle.letters.proofs.Laws.Part.{low-cursor-le, cursor-length-le}
+use Rattle.letters.proofs.Laws.Reads.{all-plain, seenAt-plain}
 use Rattle.letters.proofs.seen.look_back.Statement.{statement}
 use Rattle.letters.proofs.seen.look_back.Tie as tie
 
-sub-part : tie.Need-sub-part
-sub-part c = low-length-le _ _ (c .before .pre)
+sub-if1 : tie.Need-sub-if1
+sub-if1 c = low-cursor-le _ _ (c .before .before .pre)
 
-part-part-start : tie.Need-part-part-start
-part-part-start c = low-length-le _ _ (c .before .pre)
+sub-x : tie.Need-sub-x
+sub-x c = search needs
 
-sub-read-back : tie.Need-sub-read-back
-sub-read-back c = low-cursor-le _ _ (c .before .before .before .pre)
+shared-slice-read-x : tie.Need-shared-slice-read-x
+shared-slice-read-x c = let s = c .before .before .before .before in omega (arith, cursor-length-le _ _ (s .pre))
 
-read-back-requires : tie.Need-read-back-requires
-read-back-requires c κs = cursor-part-le _ _ (c .before .before .before .pre)
+sub-y : tie.Need-sub-y
+sub-y c = search needs
 
-read-back-requires-2 : tie.Need-read-back-requires-2
-read-back-requires-2 c κs =
-    let s = c .before .before .before .before in
-    let w = now (s .args .w) in
-    let r = s .args .c in
-    omega (arith, cursor-part-le w r (s .pre), first-le w r (c .read-back .ensures))
+shared-slice-read-y : tie.Need-shared-slice-read-y
+shared-slice-read-y c = let s = c .before .before .before .before .before in omega (arith, cursor-length-le _ _ (s .pre))
 
-read-back-requires-3 : tie.Need-read-back-requires-3
-read-back-requires-3 c κs =
-    let s = c .before .before .before .before .before in
-    let w = now (s .args .w) in
-    let r = s .args .c in
-    omega (arith, cursor-part-le w r (s .pre), second-le w r (c .before .read-back .ensures) (c .read-back2 .ensures))
+sub-z : tie.Need-sub-z
+sub-z c = search needs
 
-add-t9 : tie.Need-add-t9
-add-t9 c =
-    let a = c .before .before .before in
-    let s = a .before .before .before .before in
-    let w = now (s .args .w) in
-    let r = s .args .c in
-    omega (arith, cursor-length-le w r (s .pre), low-cursor-le w r (s .pre), first-le w r (a .read-back .ensures))
+shared-slice-read-z : tie.Need-shared-slice-read-z
+shared-slice-read-z c = let s = c .before .before .before .before .before .before in omega (arith, cursor-length-le _ _ (s .pre))
 
-add-t11 : tie.Need-add-t11
-add-t11 c =
-    let b = c .before .before .before in
-    let a = b .before in
-    let s = a .before .before .before .before in
-    let w = now (s .args .w) in
-    let r = s .args .c in
-    omega (arith, cursor-length-le w r (s .pre), low-cursor-le w r (s .pre), second-le w r (a .read-back .ensures) (b .read-back2 .ensures))
+sub-t19 : tie.Need-sub-t19
+sub-t19 c = search needs
 
-add-t12 : tie.Need-add-t12
-add-t12 c =
-    let d = c .before .before .before in
-    let b = d .before in
-    let a = b .before in
-    let s = a .before .before .before .before in
-    let w = now (s .args .w) in
-    let r = s .args .c in
-    let third = third-le w r (a .read-back .ensures) (b .read-back2 .ensures) (d .read-back3 .ensures) in
-    omega (arith, cursor-length-le w r (s .pre), low-cursor-le w r (s .pre), third)
+cast-t20 : tie.Need-cast-t20
+cast-t20 c =
+    let s = c .before .before .before .before .before .before .before in
+    let b = s .args .w .now in
+    let at = s .args .c .cursor in
+    let small = all-plain (getD b (at - 1) 0) (getD b (at - 2) 0) (getD b (at - 3) 0) (c .if2 .taken) in
+    search needs
+
+sub-t21 : tie.Need-sub-t21
+sub-t21 c = search needs
+
+cast-t22 : tie.Need-cast-t22
+cast-t22 c =
+    let s = c .before .before .before .before .before .before .before in
+    let b = s .args .w .now in
+    let at = s .args .c .cursor in
+    let small = all-plain (getD b (at - 1) 0) (getD b (at - 2) 0) (getD b (at - 3) 0) (c .if2 .taken) in
+    search needs
+
+sub-t23 : tie.Need-sub-t23
+sub-t23 c = search needs
+
+cast-t24 : tie.Need-cast-t24
+cast-t24 c =
+    let s = c .before .before .before .before .before .before .before in
+    let b = s .args .w .now in
+    let at = s .args .c .cursor in
+    let small = all-plain (getD b (at - 1) 0) (getD b (at - 2) 0) (getD b (at - 3) 0) (c .if2 .taken) in
+    search needs
 
 returns : tie.Need-returns
 returns c =
-    let d = c .before .before .before in
-    let b = d .before in
-    let a = b .before in
-    let s = a .before .before .before .before in
-    seenAt-made (now (s .args .w)) (s .args .c) (a .read-back .ensures) (b .read-back2 .ensures) (d .read-back3 .ensures)
+    let s = c .before .before .before .before .before .before .before in
+    let b = s .args .w .now in
+    let at = s .args .c .cursor in
+    let small = all-plain (getD b (at - 1) 0) (getD b (at - 2) 0) (getD b (at - 3) 0) (c .if2 .taken) in
+    seenAt-plain (now (s .args .w)) (s .args .c) (s .pre) (c .before .before .before .before .if1 .taken) _ _ _ refl refl refl (small .0) (small .1) (small .2)
+
+read-three-requires : tie.Need-read-three-requires
+read-three-requires c κs = search needs
+
+returns-2 : tie.Need-returns-2
+returns-2 c = search needs
 
 pub look-back-spec : {M : Type 1} → statement M
 look-back-spec =
     tie.close
-    (tie.spec sub-part part-part-start (λ c. search needs) sub-read-back read-back-requires read-back-requires-2 read-back-requires-3
-    add-t9 add-t11 add-t12 returns)
+    (tie.spec
+    sub-if1
+    sub-x
+    shared-slice-read-x
+    sub-y
+    shared-slice-read-y
+    sub-z
+    shared-slice-read-z
+    sub-t19
+    cast-t20
+    sub-t21
+    cast-t22
+    sub-t23
+    cast-t24
+    returns
+    read-three-requires
+    returns-2)
