@@ -16,16 +16,16 @@ pub struct Seen {
     pub third: u32,
 }
 
-// The three read one after the other.
+// The three read one after the other. It is called from two places, so that the compiler leaves it where it is.
 fn read_three(w: &[u8], c: Cursor) -> Seen
     requires { ⌜ Open (now w) c ⌝ }
     ensures { λ r. ⌜ r ≡ seenAt (now (w .entry)) c ⌝ }
 {
     let low = c.limit_backward;
     let part = &w[low..];
-    let a = characters::read_back(part, c.cursor - low);
-    let b = characters::read_back(part, a.at);
-    let d = characters::read_back(part, b.at);
+    let a = characters::read_short_back(part, c.cursor - low);
+    let b = characters::read_short_back(part, a.at);
+    let d = characters::read_short_back(part, b.at);
     Seen {
         c,
         one: low + a.at,
@@ -43,21 +43,22 @@ pub fn look_back(w: &[u8], c: Cursor) -> Seen
     ensures { λ r. ⌜ r ≡ seenAt (now (w .entry)) c ⌝ }
 {
     let at = c.cursor;
-    if 3 <= at - c.limit_backward {
-        let x = w[at - 1];
-        let y = w[at - 2];
-        let z = w[at - 3];
-        if (x < 0x80) & (y < 0x80) & (z < 0x80) {
-            return Seen {
-                c,
-                one: at - 1,
-                last: x as u32,
-                two: at - 2,
-                second: y as u32,
-                three: at - 3,
-                third: z as u32,
-            };
-        }
+    if at - c.limit_backward < 3 {
+        return read_three(w, c);
+    }
+    let x = w[at - 1];
+    let y = w[at - 2];
+    let z = w[at - 3];
+    if (x < 0x80) & (y < 0x80) & (z < 0x80) {
+        return Seen {
+            c,
+            one: at - 1,
+            last: x as u32,
+            two: at - 2,
+            second: y as u32,
+            three: at - 3,
+            third: z as u32,
+        };
     }
     read_three(w, c)
 }

@@ -160,3 +160,27 @@ pub fn read_back(w: &[u8], c: usize) -> Read
         at,
     }
 }
+
+// The same, so short that it can stand in its caller: a character of one byte or two is read here, any other by a call.
+pub fn read_short_back(w: &[u8], c: usize) -> Read
+    requires { ⌜ c ≤ length (now w) ⌝ }
+    ensures { λ r. ⌜ r ≡ readBack (now (w .entry)) c ⌝ }
+{
+    if 2 <= c {
+        let b = w[c - 1];
+        if b < 0x80 {
+            return Read {
+                ch: b as u32,
+                at: c - 1,
+            };
+        }
+        let a = w[c - 2];
+        if continuation::is_continuation(b) & !continuation::is_continuation(a) {
+            return Read {
+                ch: decode_two(a, b),
+                at: c - 2,
+            };
+        }
+    }
+    read_back(w, c)
+}

@@ -13,25 +13,25 @@ sub-part c = low-length-le _ _ (c .before .pre)
 part-part-start : tie.Need-part-part-start
 part-part-start c = low-length-le _ _ (c .before .pre)
 
-sub-read-back : tie.Need-sub-read-back
-sub-read-back c = low-cursor-le _ _ (c .before .before .before .pre)
+sub-read-short-back : tie.Need-sub-read-short-back
+sub-read-short-back c = low-cursor-le _ _ (c .before .before .before .pre)
 
-read-back-requires : tie.Need-read-back-requires
-read-back-requires c κs = cursor-part-le _ _ (c .before .before .before .pre)
+read-short-back-requires : tie.Need-read-short-back-requires
+read-short-back-requires c κs = cursor-part-le _ _ (c .before .before .before .pre)
 
-read-back-requires-2 : tie.Need-read-back-requires-2
-read-back-requires-2 c κs =
+read-short-back-requires-2 : tie.Need-read-short-back-requires-2
+read-short-back-requires-2 c κs =
     let s = c .before .before .before .before in
     let w = now (s .args .w) in
     let r = s .args .c in
-    omega (arith, cursor-part-le w r (s .pre), first-le w r (c .read-back .ensures))
+    omega (arith, cursor-part-le w r (s .pre), first-le w r (c .read-short-back .ensures))
 
-read-back-requires-3 : tie.Need-read-back-requires-3
-read-back-requires-3 c κs =
+read-short-back-requires-3 : tie.Need-read-short-back-requires-3
+read-short-back-requires-3 c κs =
     let s = c .before .before .before .before .before in
     let w = now (s .args .w) in
     let r = s .args .c in
-    omega (arith, cursor-part-le w r (s .pre), second-le w r (c .before .read-back .ensures) (c .read-back2 .ensures))
+    omega (arith, cursor-part-le w r (s .pre), second-le w r (c .before .read-short-back .ensures) (c .read-short-back2 .ensures))
 
 add-t9 : tie.Need-add-t9
 add-t9 c =
@@ -39,7 +39,7 @@ add-t9 c =
     let s = a .before .before .before .before in
     let w = now (s .args .w) in
     let r = s .args .c in
-    omega (arith, cursor-length-le w r (s .pre), low-cursor-le w r (s .pre), first-le w r (a .read-back .ensures))
+    omega (arith, cursor-length-le w r (s .pre), low-cursor-le w r (s .pre), first-le w r (a .read-short-back .ensures))
 
 add-t11 : tie.Need-add-t11
 add-t11 c =
@@ -48,7 +48,7 @@ add-t11 c =
     let s = a .before .before .before .before in
     let w = now (s .args .w) in
     let r = s .args .c in
-    omega (arith, cursor-length-le w r (s .pre), low-cursor-le w r (s .pre), second-le w r (a .read-back .ensures) (b .read-back2 .ensures))
+    omega (arith, cursor-length-le w r (s .pre), low-cursor-le w r (s .pre), second-le w r (a .read-short-back .ensures) (b .read-short-back2 .ensures))
 
 add-t12 : tie.Need-add-t12
 add-t12 c =
@@ -58,7 +58,7 @@ add-t12 c =
     let s = a .before .before .before .before in
     let w = now (s .args .w) in
     let r = s .args .c in
-    let third = third-le w r (a .read-back .ensures) (b .read-back2 .ensures) (d .read-back3 .ensures) in
+    let third = third-le w r (a .read-short-back .ensures) (b .read-short-back2 .ensures) (d .read-short-back3 .ensures) in
     omega (arith, cursor-length-le w r (s .pre), low-cursor-le w r (s .pre), third)
 
 returns : tie.Need-returns
@@ -67,10 +67,10 @@ returns c =
     let b = d .before in
     let a = b .before in
     let s = a .before .before .before .before in
-    seenAt-made (now (s .args .w)) (s .args .c) (a .read-back .ensures) (b .read-back2 .ensures) (d .read-back3 .ensures)
+    seenAt-made (now (s .args .w)) (s .args .c) (a .read-short-back .ensures) (b .read-short-back2 .ensures) (d .read-short-back3 .ensures)
 
 pub read-three-spec : {M : Type 1} → statement M
 read-three-spec =
     tie.close
-    (tie.spec sub-part part-part-start (λ c. search needs) sub-read-back read-back-requires read-back-requires-2 read-back-requires-3
+    (tie.spec sub-part part-part-start (λ c. search needs) sub-read-short-back read-short-back-requires read-short-back-requires-2 read-short-back-requires-3
     add-t9 add-t11 add-t12 returns)
