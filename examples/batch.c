@@ -50,7 +50,7 @@ int main(void) {
                                    "uyumlulukölçermiş\n"
                                    "uyumlulukölçermişcesine\n"
                                    "uyumlulukölçümüne");
-    /* The vowels that these endings are in harmony with stand in the front. */
+    /* The front's vowel decides: -dir is in harmony with it, -dır is not. */
     print_batch("e", "kstrstrngthnlrdir\nkstrstrngthnlrdır\n");
     print_batch("ev", "ler\n");
     print_batch("ev", "uyumlulukölçerler\n\xFF");

@@ -56,7 +56,7 @@ extern "C" {
 #define FANNAVY_TAILS 64
 #define FANNAVY_TAIL_LEAST 16
 
-/* The numbers in `refusal`. */
+/* The numbers in `refusal`. Of a batch, 1 and 2 are about its front, a tail or a word of the two. */
 #define FANNAVY_NOT_REFUSED UINT32_C(0)
 #define FANNAVY_OVER_LIMIT UINT32_C(1)       /* the word is longer than FANNAVY_LIMIT bytes */
 #define FANNAVY_NOT_UTF8 UINT32_C(2)         /* the word is not UTF-8 */
@@ -285,7 +285,13 @@ typedef struct {
  *
  * The tails are in tails[0] .. tails[tails_n - 1], each closed by a line feed; bytes past the last line
  * feed are one more tail. So two line feeds in a row have an empty tail between them, and no bytes are
- * no tail, which is not refused. A line feed in the front is a character like any other.
+ * no tail, which is not refused. Nothing else parts them: a carriage return is a character of its tail,
+ * and hides every ending. A line feed in the front is a character like any other.
+ *
+ * A tail has FANNAVY_TAIL_LEAST characters or more, so that what becomes of it depends on no letter of
+ * the front but its vowels. A shorter ending takes the compound's last characters with it: cut the
+ * compound that many characters before its end, and put these before every ending. It pays from about
+ * eight tails on; for fewer, fannavy_stage of each word is as fast or faster.
  *
  *   count       how many tails there are. So many entries of each buffer are written, in the order of
  *               the tails; those from `count` on stay as they were

@@ -1,1 +1,2 @@
+-- Laws that belong to no one function; the functions' proofs rest on them.
 pub mod Laws

@@ -3,6 +3,7 @@ use crate::tails::Tails;
 use fronts::stand_in;
 use fronts::summary;
 use stages::stage;
+use words::refusal::LIMIT;
 use writing::put;
 ghost use mathlib.Core.Path.{_≡_};
 ghost use Prim.Native.Nat.{_+_, _-_, _≤_, _<_};
@@ -12,7 +13,10 @@ ghost use Rattle.writing.specs.Put.{put};
 ghost use Rattle.turkish.specs.Calls.{limit};
 ghost use Rattle.turkish.specs.BatchCalls.{bit, batch, batchRefusal, tailsIn, lengthsAfter, answersAfter, flagsAfter};
 ghost use Rattle.batch.specs.Tails.{Surveyed};
-ghost use Rattle.batch.specs.Fate.{fateOf, wordRoom};
+ghost use Rattle.batch.specs.Fate.{fateOf};
+
+// The bytes of a stand-in and a tail: nine vowels of two bytes, and the limit.
+const ROOM: usize = 18 + LIMIT;
 
 // What the stage does to a word: how many bytes it removes, its yes or no, and the flag.
 pub struct Fate {
@@ -89,7 +93,7 @@ pub(crate) fn put_entries(
     ensures { λ _. ⌜ now (answers .exit) ≡ answersAfter (batch (now (front .entry)) (now (slice .entry)) (now (lengths .entry)) (now (answers .entry)) (now (flags .entry))) ⌝ }
     ensures { λ _. ⌜ now (flags .exit) ≡ flagsAfter (batch (now (front .entry)) (now (slice .entry)) (now (lengths .entry)) (now (answers .entry)) (now (flags .entry))) ⌝ }
 {
-    let mut word = [0u8; 114];
+    let mut word = [0u8; ROOM];
     let m = stand_in::put_stand_in(summary::summary_of(front), &mut word);
     let mut at = 0;
     let mut i = 0;

@@ -1,13 +1,11 @@
 // Why a batch is refused, as the papers' number; 0 where it is not.
+use crate::tails;
 use crate::tails::Survey;
 use encoding::validity;
 use words::refusal;
 ghost use mathlib.Core.Path.{_≡_};
-ghost use Rattle.turkish.specs.BatchCalls.{tailsIn, wordsRefusal, tailsRefusal, roomsRefusal, firstRefusal};
+ghost use Rattle.turkish.specs.BatchCalls.{tailsIn, wordsRefusal, roomsRefusal, numberOf};
 ghost use Rattle.batch.specs.Tails.{Sized};
-
-// The most tails.
-const TAILS: usize = 64;
 
 // 1 where the front or a joined word is over the limit, 2 where the front or a tail is not UTF-8. The slice is checked once: a line feed goes on
 // with no character.
@@ -34,13 +32,13 @@ fn words_refusal(front: &[u8], slice: &[u8], s: Survey) -> u32
 fn rooms_refusal(lengths: usize, answers: usize, flags: usize) -> u32
     ensures { λ r. ⌜ r ≡ roomsRefusal lengths answers flags ⌝ }
 {
-    if lengths < TAILS {
+    if lengths < tails::TAILS {
         return refusal::TOO_SHORT;
     }
-    if answers < TAILS {
+    if answers < tails::TAILS {
         return refusal::TOO_SHORT;
     }
-    if flags < TAILS {
+    if flags < tails::TAILS {
         return refusal::TOO_SHORT;
     }
     0
@@ -56,13 +54,13 @@ pub(crate) fn refusal_of(
     flags: usize,
 ) -> u32
     requires { ⌜ Sized (tailsIn (now slice)) s ⌝ }
-    ensures { λ r. ⌜ r ≡ firstRefusal (wordsRefusal (now (front .entry)) (tailsIn (now (slice .entry)))) (firstRefusal (tailsRefusal (tailsIn (now (slice .entry)))) (roomsRefusal lengths answers flags)) ⌝ }
+    ensures { λ r. ⌜ r ≡ numberOf (now (front .entry)) (tailsIn (now (slice .entry))) lengths answers flags ⌝ }
 {
     let n = words_refusal(front, slice, s);
     if n != 0 {
         return n;
     }
-    if TAILS < s.count {
+    if tails::TAILS < s.count {
         return 6;
     }
     if s.short {

@@ -8,6 +8,15 @@ ghost use Rattle.turkish.specs.Letters.{lf, has};
 ghost use Rattle.turkish.specs.BatchCalls.{tailsIn};
 ghost use Rattle.batch.specs.Tails.{block, leads, lineAt, Surveyed};
 
+// The bytes that are passed in one step.
+const BLOCK: usize = 16;
+
+// The fewest characters of a tail.
+const LEAST: usize = 16;
+
+// The most tails.
+pub(crate) const TAILS: usize = 64;
+
 // A line of the slice: the place where it ends, and how many bytes in it begin a character.
 pub struct Line {
     pub end: usize,
@@ -24,7 +33,7 @@ pub struct Survey {
 // And the places where the first 64 end.
 pub struct Tails {
     pub survey: Survey,
-    pub ends: [usize; 64],
+    pub ends: [usize; TAILS],
 }
 
 // Whether a line feed stands between two places. Each byte is looked at, so that many can be in one step.
@@ -61,15 +70,15 @@ fn count_leads(w: &[u8], from: usize, to: usize) -> u8
 }
 
 // The line that begins at a place: on by 16 bytes as long as none is a line feed, then byte by byte.
-pub fn line_at(w: &[u8], from: usize) -> Line
+fn line_at(w: &[u8], from: usize) -> Line
     requires { ⌜ from ≤ length (now w) ⌝ }
     ensures { λ r. ⌜ r ≡ lineAt (now (w .entry)) from ⌝ }
 {
     let mut at = from;
     let mut chars = 0;
-    while 16 <= w.len() - at && !has_lf(w, at, at + 16) {
-        chars += count_leads(w, at, at + 16) as usize;
-        at += 16;
+    while BLOCK <= w.len() - at && !has_lf(w, at, at + BLOCK) {
+        chars += count_leads(w, at, at + BLOCK) as usize;
+        at += BLOCK;
     }
     while at < w.len() && w[at] != put::LF {
         if !continuation::is_continuation(w[at]) {
@@ -81,10 +90,10 @@ pub fn line_at(w: &[u8], from: usize) -> Line
 }
 
 // The tails of a slice, all of them looked at.
-pub fn find_tails(slice: &[u8]) -> Tails
+pub(crate) fn find_tails(slice: &[u8]) -> Tails
     ensures { λ r. ⌜ Surveyed (tailsIn (now (slice .entry))) r ⌝ }
 {
-    let mut ends = [0usize; 64];
+    let mut ends = [0usize; TAILS];
     let mut count = 0;
     let mut longest = 0;
     let mut short = false;
@@ -95,8 +104,8 @@ pub fn find_tails(slice: &[u8]) -> Tails
         if longest < end - at {
             longest = end - at;
         }
-        short = short | (line.chars < 16);
-        if count < 64 {
+        short = short | (line.chars < LEAST);
+        if count < TAILS {
             ends[count] = end;
         }
         count += 1;

@@ -1,6 +1,6 @@
 -- The buffers after a batch: each entry of a tail, those past the last, and a refused batch. Assumes nothing.
-use Prim.Native.Nat.{ℕ, zero, suc, _≤_, _<_}
-use mathlib.Core.Path.{_≡_, refl, sym, ap, _∙_}
+use Prim.Native.Nat.{ℕ, zero, suc, _<_}
+use mathlib.Core.Path.{_≡_, refl, ap, _∙_}
 use mathlib.Core.Bool.{false}
 use mathlib.Core.Logic.{inl, inr}
 use mathlib.Mathlib.Data.Bool.Basic.{dichotomy}
@@ -27,7 +27,7 @@ getD-joined f (t ∷ ts) zero h = refl
 getD-joined f (t ∷ ts) (suc i) h = getD-joined f ts i (omega arith)
 
 -- there are as many as tails
-length-joined : (f : List ℕ) (ts : List (List ℕ)) → length (joinedWords f ts) ≡ length ts
+pub length-joined : (f : List ℕ) (ts : List (List ℕ)) → length (joinedWords f ts) ≡ length ts
 unfolding joinedWords
 length-joined f ts = length-map ts (λ t. f ++ t)
 

@@ -4,13 +4,11 @@ use Prim.Native.Nat.{ℕ, zero, suc}
 use Prim.Native.Char.{code}
 use Prim.Native.String.{String}
 use mathlib.Core.Path.{_≡_, refl}
-use mathlib.Core.Bool.{Bool, true, false}
 use mathlib.Core.List.{List, [], _∷_, _++_, map}
 use lib.ListN.{length, take, replicate}
 use Rattle.encoding.specs.Encoding.{encode, encodeAll, decode, continuation}
 use Rattle.encoding.specs.Validity.{lead, leadIn, table37, due, refused, next, accepts, isText}
 use Rattle.utf8.specs.Characters.{width, goesOn, lastWidth, charAt, lastChar, beforeWithin, before}
-use Rattle.turkish.specs.declared.summary.Summary.{Summary}
 use Rattle.turkish.specs.Letters.{text, fromEnd, lf, any, has, starts}
 use Rattle.turkish.specs.Lines.{unclosed, linesFrom}
 use Rattle.turkish.specs.Vowels.{vowels, vowel, lastVowel, beforeLastVowel}
@@ -23,7 +21,7 @@ use Rattle.turkish.specs.Simple.Harmony.{toFirst}
 use Rattle.turkish.specs.Calls.{chars, bytes, limit, refusal, accepted, written, stageText, stageCall}
 use Rattle.turkish.specs.Fronts.{endLength, long}
 use Rattle.turkish.specs.Summary.{vowelNumber, times, summaryOf, summary}
-use Rattle.turkish.specs.BatchCalls.{Batch, batch, mostTails, tailsIn, joinedWords, some, refusedUnder, wordsRefusal, tailsRefusal, roomsRefusal, firstRefusal}
+use Rattle.turkish.specs.BatchCalls.{Batch, batch, mostTails, tailsIn, joinedWords, some, refusedUnder, wordsRefusal, tailsRefusal, roomsRefusal, firstRefusal, numberOf}
 use Rattle.turkish.specs.BatchCalls.{batchRefusal, batchCall, entriesAfter, bit, lengthsAfter, answersAfter, flagsAfter}
 use Rattle.turkish.proofs.Starred.{word}
 
@@ -77,7 +75,7 @@ abbrev pub Met : List Row → Type 0
 Met rows = map found rows ≡ rows
 
 pub answers-met : Met table
-unfolding table found lent word batchCall lengthsAfter answersAfter flagsAfter entriesAfter batchRefusal firstRefusal roomsRefusal tailsRefusal wordsRefusal
+unfolding table found lent word batchCall lengthsAfter answersAfter flagsAfter entriesAfter batchRefusal numberOf firstRefusal roomsRefusal tailsRefusal wordsRefusal
     refusedUnder some joinedWords tailsIn mostTails bit linesFrom unclosed lf long endLength
     stageCall stageText written accepted refusal limit chars bytes
     encodeAll encode decode isText accepts next lead leadIn table37 due refused before beforeWithin lastChar charAt lastWidth width goesOn continuation
@@ -106,8 +104,9 @@ fifteen = word "aaaaaaaaaaaaaaa\n"
 unfoldable pub number : List ℕ → List ℕ → ℕ → ℕ → ℕ → ℕ
 number front tails l a f = batchRefusal (lent front tails l a f)
 
--- of 80 letters and 16 are 96 bytes, of 81 one more; so too where the tail is the 65th; a byte that is not UTF-8, in the front, in the 65th tail, and
--- a character that the tail would complete; 15 characters, of one byte and of two; an empty tail; 65 tails; rooms of 63; and the order of the four
+-- 80 letters and 16 are 96 bytes and pass, 81 and 16 do not, nor 97 alone, nor a 65th tail that is too long; a byte that is not UTF-8, in the
+-- front, in the 65th tail, and a character that the tail would complete; 15 characters, of one byte and of two, and 16 of two, which pass; an empty
+-- tail; 64 tails, which pass, and 65; a room of 63 in each place; and the order of the four
 abbrev pub RefusalsMet : Type 0
 RefusalsMet =
     number (repeated 80 (word "a")) sixteen 64 64 64
@@ -133,7 +132,7 @@ RefusalsMet =
     ≡ 0 ∷ 1 ∷ 1 ∷ 1 ∷ 2 ∷ 2 ∷ 2 ∷ 6 ∷ 6 ∷ 0 ∷ 6 ∷ 0 ∷ 6 ∷ 3 ∷ 3 ∷ 3 ∷ 1 ∷ 2 ∷ 6 ∷ []
 
 pub refusals-met : RefusalsMet
-unfolding number lent sixteen fifteen repeated word batchRefusal firstRefusal roomsRefusal tailsRefusal wordsRefusal
+unfolding number lent sixteen fifteen repeated word batchRefusal numberOf firstRefusal roomsRefusal tailsRefusal wordsRefusal
     refusedUnder some joinedWords tailsIn mostTails linesFrom unclosed lf long endLength refusal limit chars
     encodeAll encode decode isText accepts next lead leadIn table37 due refused before beforeWithin lastChar charAt lastWidth width goesOn continuation text
 refusals-met = refl

@@ -1,8 +1,8 @@
 -- A front and a tail joined to one word: its characters, what the suffix stage keeps of it, and that the front's summary alone settles that
 -- (document 02, request 7). Assumes nothing.
 use Prim.Native.Nat.{ℕ, _+_, _≤_}
-use mathlib.Core.Path.{_≡_, refl, sym, ap, _∙_}
-use mathlib.Core.Bool.{Bool, true, _&&_}
+use mathlib.Core.Path.{_≡_, sym, ap, _∙_}
+use mathlib.Core.Bool.{true, _&&_}
 use mathlib.Core.List.{List, [], _∷_, _++_, reverse, reverse-append, append-nil}
 use native.Mathlib.Omega.{arith}
 use lib.ListN.{length, drop, length-append, length-drop}
@@ -39,7 +39,7 @@ text-joined {f} {t} a b =
     }
 
 -- with the tail's characters nearest, and then the front's
-pub chars-joined : {f t : List ℕ} → TextOf f → TextOf t → chars (f ++ t) ≡ chars t ++ chars f
+chars-joined : {f t : List ℕ} → TextOf f → TextOf t → chars (f ++ t) ≡ chars t ++ chars f
 unfolding chars text-joined
 chars-joined {f} {t} a b = before-whole (f ++ t) (text-joined a b) ∙ reverse-append (a .chars) (b .chars) ∙ rw (before-whole f a, before-whole t b)
 

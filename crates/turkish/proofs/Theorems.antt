@@ -1,6 +1,6 @@
 -- The file to open first: what the definitions of turkish promise, in the words of the user's demands. Each theorem is proved in
 -- a line or two from the files named for what they prove. That the code gives these definitions' answers is the contracts' part.
--- What the calls give is what turkish.sbl's commands answer (specs: Snowball, Source, Answers, Heard, Pieces, Calls, PieceCalls); the code's own
+-- What the calls give is what turkish.sbl's commands answer (specs: Snowball, Source, Answers, Heard, Pieces, Calls, PieceCalls, Summary, BatchCalls); the code's own
 -- contracts rest on simpler forms (Simple: Harmony, Grammar, Marks, Stage, Pieces, Postlude, NounMarks, Nouns, WholeRun), and that these are
 -- the same is proved here.
 -- Assumes nothing.

@@ -63,10 +63,13 @@ roomsRefusal lengths answers flags = cond (ltb lengths mostTails || ltb answers 
 unfoldable pub firstRefusal : ℕ → ℕ → ℕ
 firstRefusal m n = cond (eqb m 0) n m
 
+-- of a front, its tails and the rooms of the three buffers
+unfoldable pub numberOf : List ℕ → List (List ℕ) → ℕ → ℕ → ℕ → ℕ
+numberOf front ts lengths answers flags =
+    firstRefusal (wordsRefusal front ts) (firstRefusal (tailsRefusal ts) (roomsRefusal lengths answers flags))
+
 unfoldable pub batchRefusal : Batch → ℕ
-batchRefusal b =
-    let ts = tailsIn (b .tails) in
-    firstRefusal (wordsRefusal (b .front) ts) (firstRefusal (tailsRefusal ts) (roomsRefusal (length (b .lengths)) (length (b .answers)) (length (b .flags))))
+batchRefusal b = numberOf (b .front) (tailsIn (b .tails)) (length (b .lengths)) (length (b .answers)) (length (b .flags))
 
 -- ---- the call ----
 

@@ -5,11 +5,12 @@ use mathlib.Core.List.{List, [], _∷_, _++_}
 use lib.Dec.{eqb}
 use Rattle.turkish.specs.Letters.{lf}
 
--- the lines of bytes, with `line` read so far: each ended by a line feed; a last one without it counts if it is not empty
+-- a last line without a line feed counts if it is not empty
 unfoldable pub unclosed : List ℕ → List (List ℕ)
 unclosed [] = []
 unclosed (b ∷ bs) = (b ∷ bs) ∷ []
 
+-- the lines of bytes, with `line` read so far: each ended by a line feed
 unfoldable pub linesFrom : List ℕ → List ℕ → List (List ℕ)
 linesFrom line [] = unclosed line
 linesFrom line (b ∷ bs) = cond (eqb b lf) (line ∷ linesFrom [] bs) (linesFrom (line ++ (b ∷ [])) bs)

@@ -82,6 +82,11 @@ fn rows() -> Vec<Row> {
         ),
         row("a short front, tails with endings", "ev", &ordinary),
         row("an ordinary compound, one tail", COMPOUND, &ordinary[..1]),
+        row(
+            "an ordinary compound, eight tails",
+            COMPOUND,
+            &ordinary[..ENDINGS.len()],
+        ),
     ]
 }
 
@@ -202,7 +207,7 @@ mod tests {
             assert!(tails.all(|tail| tail.chars().count() == TAIL_LEAST));
             let different: BTreeSet<&String> = row.tails.iter().collect();
             assert_eq!(different.len(), row.tails.len(), "{}", row.name);
-            assert!([1, TAILS].contains(&row.tails.len()));
+            assert!([1, ENDINGS.len(), TAILS].contains(&row.tails.len()));
         }
     }
 

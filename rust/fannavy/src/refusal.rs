@@ -10,11 +10,11 @@ use std::fmt::{self, Display, Formatter};
 /// output.
 #[derive(Clone, Copy, Debug, PartialEq, Eq, Hash)]
 pub enum Refusal {
-    /// The word is longer than [`LIMIT`] bytes; of a [`batch`], its front, a tail or a joined word.
+    /// The word is longer than [`LIMIT`] bytes; of a [`batch()`], its front, a tail or a joined word.
     OverLimit,
     /// The word, or one of these, is not UTF-8.
     NotUtf8,
-    /// A [`batch`] has more than [`TAILS`] tails, or one of fewer than [`TAIL_LEAST`] characters.
+    /// A [`batch()`] has more than [`TAILS`] tails, or one of fewer than [`TAIL_LEAST`] characters.
     TailsRefused,
     /// The output is shorter than the call needs.
     OutputTooShort,
@@ -39,8 +39,8 @@ impl Refusal {
 impl Display for Refusal {
     fn fmt(&self, f: &mut Formatter) -> fmt::Result {
         match self {
-            Refusal::OverLimit => write!(f, "the word is over {LIMIT} bytes"),
-            Refusal::NotUtf8 => write!(f, "the word is not UTF-8"),
+            Refusal::OverLimit => write!(f, "a word is over {LIMIT} bytes"),
+            Refusal::NotUtf8 => write!(f, "a word is not UTF-8"),
             Refusal::TailsRefused => write!(
                 f,
                 "there are over {TAILS} tails, or one has under {TAIL_LEAST} characters"
@@ -97,7 +97,7 @@ mod tests {
 
     #[test]
     fn messages_tell_the_refusals_apart() {
-        assert_eq!(Refusal::NotUtf8.to_string(), "the word is not UTF-8");
+        assert_eq!(Refusal::NotUtf8.to_string(), "a word is not UTF-8");
         let messages = ALL.map(|refusal| refusal.to_string());
         for (place, message) in messages.iter().enumerate() {
             assert!(!messages[..place].contains(message), "{message}");

@@ -1,29 +1,30 @@
 -- The loop over the tails of a batch that is answered: what stands in the buffers at each turn, and what a turn makes of them. Assumes nothing.
 use Prim.Native.Nat.{ℕ, suc, _+_, _-_, _≤_, _<_}
 use mathlib.Core.Path.{_≡_, refl, sym, ap, _∙_}
-use mathlib.Core.Bool.{Bool, true}
+use mathlib.Core.Bool.{true}
 use mathlib.Core.List.{List, [], _∷_, _++_, map, append-assoc, append-nil, map-append, List·Memᴰ, List·Memᴰ·head, Memᴰ·append-right}
 use native.Mathlib.Omega.{arith}
 use native.Mathlib.Numerals.{add-one}
-use lib.ListN.{length, take, drop, getD, set, length-append, length-set, length-map, drop-of-length-le}
+use lib.ListN.{length, take, drop, getD, set, length-append, length-set, length-map}
 use lib.Seq.{drop-cons, set-append-seam, getD-take, getD-at}
 use borrow.Author.Tests.{eq-eqb}
 use Rattle.encoding.proofs.Laws.Booleans.{lt-or-le}
-use Rattle.turkish.specs.Lines.{unclosed, linesFrom}
+use Rattle.turkish.specs.Lines.{linesFrom}
 use Rattle.turkish.specs.Calls.{limit, accepted, written, stageCall}
 use Rattle.turkish.specs.Fronts.{long}
 use Rattle.turkish.specs.Summary.{summary}
 use Rattle.turkish.specs.BatchCalls.{Batch, mostTails, tailsIn, joinedWords, batchRefusal, entriesAfter, bit, lengthsAfter, answersAfter, flagsAfter}
 use Rattle.turkish.proofs.Laws.Accepted.{accepted-iff}
 use Rattle.turkish.proofs.Laws.Batches.{batch-answered}
+use Rattle.turkish.proofs.BatchTheorems.{length-joined}
 use Rattle.writing.specs.Put.{put}
 use Rattle.writing.proofs.Laws.Put.{length-put}
-use Rattle.fronts.specs.StandIn.{standIn, standInRoom, mostVowelBytes}
+use Rattle.fronts.specs.StandIn.{standIn}
 use Rattle.fronts.proofs.Laws.StandIn.{standIn-length}
 use Rattle.batch.specs.declared.tails.Tails.{Tails}
 use Rattle.batch.specs.Tails.{lineOf, endsFrom, Surveyed}
 use Rattle.batch.specs.Fate.{fateOf, wordRoom}
-use Rattle.batch.proofs.Laws.Tails.{lines-at, line-within, lineOf-front}
+use Rattle.batch.proofs.Laws.Tails.{lines-at, lines-none, line-within, lineOf-front}
 use Rattle.batch.proofs.Laws.Fates.{take-before, take-front, removed-le, length-kept, yes-kept, flag-kept}
 
 -- ---- a buffer ----
@@ -44,8 +45,7 @@ flagOf w = bit (stageCall w .flag)
 
 -- there are as many as tails
 length-entries : (entry : List ℕ → ℕ) (front : List ℕ) (ts : List (List ℕ)) → length (entries entry front ts) ≡ length ts
-unfolding joinedWords
-length-entries entry front ts = length-map (map (λ t. front ++ t) ts) entry ∙ length-map ts (λ t. front ++ t)
+length-entries entry front ts = length-map (joinedWords front ts) entry ∙ length-joined front ts
 
 -- a tail more has one more
 entries-more : (entry : List ℕ → ℕ) (front : List ℕ) (ts : List (List ℕ)) (t : List ℕ)
@@ -107,11 +107,6 @@ entered-none b m word₀ word r p =
       sizes = (refl, refl, refl);
     }
 
--- past the slice's end no line begins
-lines-over : (w : List ℕ) (at : ℕ) → length w ≤ at → linesFrom [] (drop at w) ≡ []
-unfolding linesFrom unclosed
-lines-over w at h = rw (drop-of-length-le w h)
-
 -- a list without a member is empty
 none-left : (l : List (List ℕ)) → length l ≤ 0 → l ≡ []
 none-left [] h = refl
@@ -159,7 +154,7 @@ module _ (b : Batch) (m : ℕ) (lengths answers flags word : List ℕ) (at i : �
     -- it begins within the slice
     inside : at < length (b .tails)
     unfolding rest
-    inside = lt-or-le at (length (b .tails)) (λ l. l) (λ l. absurd (omega (arith, both, more, ap length (lines-over (b .tails) at l))))
+    inside = lt-or-le at (length (b .tails)) (λ l. l) (λ l. absurd (omega (arith, both, more, ap length (lines-none (b .tails) at l))))
 
     -- and is the first of those left
     rest-line : rest ≡ line ∷ linesFrom [] (drop (at + length line + 1) (b .tails))
@@ -167,7 +162,7 @@ module _ (b : Batch) (m : ℕ) (lengths answers flags word : List ℕ) (at i : �
     rest-line = lines-at (b .tails) at inside
 
     -- the code finds where it ends
-    pub end-at : getD (t .ends) i 0 ≡ at + length (lineOf (drop at (b .tails)))
+    end-at : getD (t .ends) i 0 ≡ at + length (lineOf (drop at (b .tails)))
     unfolding ts rest line endsFrom
     end-at =
         sym (getD-take (length ts) (t .ends) i 0 more)
@@ -181,7 +176,7 @@ module _ (b : Batch) (m : ℕ) (lengths answers flags word : List ℕ) (at i : �
     end-within = rw end-at (line-within (b .tails) at (omega (arith, inside)))
 
     -- and hands it on
-    pub tail-is : take (getD (t .ends) i 0 - at) (drop at (b .tails)) ≡ lineOf (drop at (b .tails))
+    tail-is : take (getD (t .ends) i 0 - at) (drop at (b .tails)) ≡ lineOf (drop at (b .tails))
     tail-is =
         let n : getD (t .ends) i 0 - at ≡ length (lineOf (drop at (b .tails))) = omega (arith, end-at) in
         rw n (sym (lineOf-front (drop at (b .tails))))

@@ -1,5 +1,5 @@
 -- Which number a batch gets, each test's answer as a fact about the front, the tails and the rooms. Assumes nothing.
-use Prim.Native.Nat.{ℕ, suc, _+_, _-_, _≤_, _<_, max}
+use Prim.Native.Nat.{ℕ, suc, _+_, _-_, _≤_, _<_}
 use mathlib.Core.Path.{_≡_, refl, sym, ap, _∙_}
 use mathlib.Core.Bool.{Bool, true, false, cond, not, _&&_, _||_, and-true, or-true, or-assoc, false≢true}
 use mathlib.Core.List.{List, [], _∷_, _++_, map, append-assoc, append-nil, List·Memᴰ, List·Memᴰ·head, List·Memᴰ·tail, Memᴰ·append-left}
@@ -21,9 +21,10 @@ use Rattle.turkish.specs.Lines.{unclosed, linesFrom}
 use Rattle.turkish.specs.Calls.{chars, limit, refusal}
 use Rattle.turkish.specs.Fronts.{endLength, long}
 use Rattle.turkish.specs.declared.answer.BatchAnswer.{BatchAnswer}
-use Rattle.turkish.specs.BatchCalls.{Batch, mostTails, some, refusedUnder, joinedWords, tailsIn, wordsRefusal, tailsRefusal, roomsRefusal, firstRefusal}
+use Rattle.turkish.specs.BatchCalls.{Batch, mostTails, some, refusedUnder, joinedWords, tailsIn, wordsRefusal, tailsRefusal, roomsRefusal, firstRefusal, numberOf}
 use Rattle.turkish.specs.BatchCalls.{batchRefusal, batchCall, lengthsAfter, answersAfter, flagsAfter}
 use Rattle.turkish.proofs.Laws.Tests.{every}
+use Rattle.turkish.proofs.Laws.Members.{every-of}
 use Rattle.turkish.proofs.Laws.Accepted.{accepted-iff}
 use Rattle.turkish.proofs.Laws.Batches.{words-accepted}
 use Rattle.turkish.proofs.BatchTheorems.{entries-refused}
@@ -251,48 +252,40 @@ unfolding some every
 some-few [] e = refl
 some-few (t ∷ ts) e = rw (few-short t (and-left (isText t) (every isText ts) e), some-few ts (and-right (isText t) (every isText ts) e))
 
--- what each of a list passes, every one does
-every-from : (f : List ℕ → Bool) (ts : List (List ℕ)) → ((t : List ℕ) → List·Memᴰ t ts → f t ≡ true) → every f ts ≡ true
-unfolding every
-every-from f [] h = refl
-every-from f (t ∷ ts) h = rw (h t (List·Memᴰ·head refl), every-from f ts (λ u m. h u (List·Memᴰ·tail m)))
-
 -- where the words give no number the tails are texts
 tails-texts : (f : List ℕ) (ts : List (List ℕ)) → wordsRefusal f ts ≡ 0 → every isText ts ≡ true
 tails-texts f ts z =
-    every-from isText ts (λ t m. accepted-iff t .0 (words-accepted f ts z (List·Memᴰ·tail (Memᴰ·append-left (joinedWords f ts) m))) .1)
+    every-of isText ts (λ t m. accepted-iff t .0 (words-accepted f ts z (List·Memᴰ·tail (Memᴰ·append-left (joinedWords f ts) m))) .1)
 
 -- ---- the batch ----
 
-module _ (f : List ℕ) (ts : List (List ℕ)) (rooms n : ℕ) (e : n ≡ wordsRefusal f ts) where
+module _ (f : List ℕ) (ts : List (List ℕ)) (lengths answers flags n : ℕ) (e : n ≡ wordsRefusal f ts) where
   -- the words' number comes first
-  pub number-words : (n ≡ 0 → ⊥) → n ≡ firstRefusal (wordsRefusal f ts) (firstRefusal (tailsRefusal ts) rooms)
-  unfolding firstRefusal
+  pub number-words : (n ≡ 0 → ⊥) → n ≡ numberOf f ts lengths answers flags
+  unfolding numberOf firstRefusal
   number-words h = rw (← e, ne-eqb n 0 h)
 
   module _ (z : n ≡ 0) where
     -- then 6 for too many tails
-    pub number-many : mostTails < length ts → 6 ≡ firstRefusal (wordsRefusal f ts) (firstRefusal (tailsRefusal ts) rooms)
-    unfolding firstRefusal tailsRefusal
+    pub number-many : mostTails < length ts → 6 ≡ numberOf f ts lengths answers flags
+    unfolding numberOf firstRefusal tailsRefusal
     number-many h = rw (← e, eq-eqb n 0 z, lt-ltb mostTails (length ts) h)
 
     -- or for one that is too short
-    pub number-short : some few ts ≡ true → 6 ≡ firstRefusal (wordsRefusal f ts) (firstRefusal (tailsRefusal ts) rooms)
-    unfolding firstRefusal tailsRefusal
+    pub number-short : some few ts ≡ true → 6 ≡ numberOf f ts lengths answers flags
+    unfolding numberOf firstRefusal tailsRefusal
     number-short h =
         rw (← e, eq-eqb n 0 z, ← some-few ts (tails-texts f ts (sym e ∙ z)), h, or-true (ltb mostTails (length ts)))
 
     -- then that of the rooms
-    pub number-rooms : length ts ≤ mostTails → some few ts ≡ false → rooms ≡ firstRefusal (wordsRefusal f ts) (firstRefusal (tailsRefusal ts) rooms)
-    unfolding firstRefusal tailsRefusal
+    pub number-rooms : length ts ≤ mostTails → some few ts ≡ false → roomsRefusal lengths answers flags ≡ numberOf f ts lengths answers flags
+    unfolding numberOf firstRefusal tailsRefusal
     number-rooms l h =
         rw (← e, eq-eqb n 0 z, ← some-few ts (tails-texts f ts (sym e ∙ z)), h, le-ltb mostTails (length ts) l)
 
 -- ---- the call ----
 
-module _ (b : Batch) (n : ℕ)
-    (e : n ≡ firstRefusal (wordsRefusal (b .front) (tailsIn (b .tails)))
-    (firstRefusal (tailsRefusal (tailsIn (b .tails))) (roomsRefusal (length (b .lengths)) (length (b .answers)) (length (b .flags))))) where
+module _ (b : Batch) (n : ℕ) (e : n ≡ numberOf (b .front) (tailsIn (b .tails)) (length (b .lengths)) (length (b .answers)) (length (b .flags))) where
   -- the number found is the batch's
   number-batch : n ≡ batchRefusal b
   unfolding batchRefusal

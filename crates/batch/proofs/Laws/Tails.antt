@@ -52,7 +52,7 @@ has-end w i to found h = rw (part-end w i to h) (sym (or-false found))
 -- ---- the bytes that begin a character ----
 
 -- at most all
-pub leads-le : (w : List ℕ) → leads w ≤ length w
+leads-le : (w : List ℕ) → leads w ≤ length w
 unfolding leads
 leads-le [] = omega arith
 leads-le (b ∷ bs) =
@@ -228,7 +228,7 @@ lines-first (b ∷ w) h = go (eqb b lf)
     go false = lines-more [] b w ∙ rw (suc-add (length (lineOf w)) 1)
 
 -- where no byte is left there is none
-lines-none : (w : List ℕ) (at : ℕ) → length w ≤ at → linesFrom [] (drop at w) ≡ []
+pub lines-none : (w : List ℕ) (at : ℕ) → length w ≤ at → linesFrom [] (drop at w) ≡ []
 unfolding linesFrom unclosed
 lines-none w at h = rw (drop-of-length-le w h)
 

@@ -3,13 +3,13 @@
 use Prim.Native.Nat.{ℕ, zero, suc, _+_, _-_, _*_, _≤_, _<_}
 use mathlib.Core.Path.{_≡_, refl, sym, ap, _∙_}
 use mathlib.Core.Bool.{Bool, true, false, cond, not, _&&_, _||_}
-use mathlib.Core.Logic.{_⊎_, inl, inr, ⊎-elim}
+use mathlib.Core.Logic.{⊎-elim}
 use mathlib.Core.List.{List, [], _∷_, _++_, map, reverse, append-nil, reverse-append}
 use native.Mathlib.Omega.{arith}
 use native.Mathlib.Numerals.{add-one}
 use lib.ListN.{length, take, drop, getD, length-append, length-take, take-append-drop, drop-of-length-le}
 use lib.Seq.{take-nil, drop-nil}
-use lib.Dec.{leb, eqb, eqb·suc-zero}
+use lib.Dec.{leb, eqb}
 use borrow.Author.Tests.{leb-true, eqb-true, eq-eqb, ne-eqb}
 use Rattle.encoding.specs.Scalar.{surrogate, scalar, scalars}
 use Rattle.encoding.specs.Encoding.{encode, encodeAll}
@@ -116,7 +116,7 @@ numbered-length zero = omega arith
 numbered-length (suc k) = omega (arith, length-take 1 (drop k vowels))
 
 -- and the bytes of one
-pub numbered-bytes : (n : ℕ) → length (encodeAll (numbered n)) ≤ mostVowelBytes
+numbered-bytes : (n : ℕ) → length (encodeAll (numbered n)) ≤ mostVowelBytes
 unfolding mostVowelBytes
 numbered-bytes n = omega (arith, numbered-length n, small-length (numbered n) (numbered-every small n vowels-small))
 

@@ -160,3 +160,17 @@ passed-all front s r h k = go (h .passed) (h .left) (h .valid) (h .encoded) (h .
         i ∙ ap summaryOf (sym (before-whole front t))
     go cs (c ∷ ds) v w u i =
         absurd (omega (arith, ap (λ (x : Cursor). x .cursor) u, ap length w, length-parts cs (c ∷ ds), length-encodeAll (c ∷ ds)))
+
+-- the summary of an accepted front can be added to where the longer front is accepted too
+pub summary-counted : (f : List ℕ) (c : ℕ) → accepted f ≡ true → accepted (f ++ encode c) ≡ true → Counted (summary f)
+unfolding summary chars
+summary-counted f c a l =
+    let t : TextOf f = accepted-text f a in
+    let most : length (f ++ encode c) ≤ limit = accepted-iff (f ++ encode c) .0 l .0 in
+    let size : length (encodeAll (t .chars)) ≡ length f = ap length (t .encoded) in
+    let as-many : length (chars f) ≡ length (t .chars) = ap length (before-whole f t) ∙ length-reverse (t .chars) in
+    record {
+      known = summaryOf-last (chars f);
+      below = λ n.
+          omega (arith, summaryOf-counts (chars f) n, as-many, length-encodeAll (t .chars), size, length-append f (encode c), length-encode-pos c);
+    }

@@ -13,7 +13,7 @@ use Rattle.encoding.specs.Validity.{isText}
 use Rattle.encoding.proofs.Laws.Booleans.{not-eq-true}
 use Rattle.turkish.specs.Calls.{limit, refusal, accepted}
 use Rattle.turkish.specs.Fronts.{long}
-use Rattle.turkish.specs.BatchCalls.{Batch, mostTails, tailsIn, some, refusedUnder, joinedWords, wordsRefusal, tailsRefusal, roomsRefusal, firstRefusal, batchRefusal, Answered}
+use Rattle.turkish.specs.BatchCalls.{Batch, mostTails, tailsIn, some, refusedUnder, joinedWords, wordsRefusal, tailsRefusal, roomsRefusal, firstRefusal, numberOf, batchRefusal, Answered}
 
 -- where neither of two passes, the first does not, nor the second
 or-parts : (a b : Bool) → a || b ≡ false → (a ≡ false) × (b ≡ false)
@@ -21,7 +21,7 @@ or-parts true b e = absurd (false≢true (sym e))
 or-parts false b e = (refl, e)
 
 -- a test that none of some words passes, each fails
-pub some-none : (f : List ℕ → Bool) {ws : List (List ℕ)} {w : List ℕ} → some f ws ≡ false → List·Memᴰ w ws → f w ≡ false
+some-none : (f : List ℕ → Bool) {ws : List (List ℕ)} {w : List ℕ} → some f ws ≡ false → List·Memᴰ w ws → f w ≡ false
 unfolding some
 some-none f e (List·Memᴰ·head {x} {xs} p) = rw p (or-parts (f x) (some f xs) e .0)
 some-none f e (List·Memᴰ·tail {x} {xs} m) = some-none f (or-parts (f x) (some f xs) e .1) m
@@ -57,7 +57,7 @@ words-accepted f ts e {w} m =
 
 -- a batch that is not refused is answered
 pub batch-answered : (b : Batch) → batchRefusal b ≡ 0 → Answered b
-unfolding batchRefusal tailsRefusal roomsRefusal joinedWords
+unfolding batchRefusal numberOf tailsRefusal roomsRefusal joinedWords
 batch-answered b e =
     let ts : List (List ℕ) = tailsIn (b .tails) in
     let words = firstRefusal-zero (wordsRefusal (b .front) ts) _ e in
@@ -94,7 +94,7 @@ answered-words b a w m =
 
 -- so it has no number
 pub answered-batch : (b : Batch) → Answered b → batchRefusal b ≡ 0
-unfolding batchRefusal wordsRefusal refusedUnder tailsRefusal roomsRefusal firstRefusal
+unfolding batchRefusal numberOf wordsRefusal refusedUnder tailsRefusal roomsRefusal firstRefusal
 answered-batch b a =
     let ts : List (List ℕ) = tailsIn (b .tails) in
     let ws : List (List ℕ) = b .front ∷ ts ++ joinedWords (b .front) ts in

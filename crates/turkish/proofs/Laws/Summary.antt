@@ -44,7 +44,7 @@ oneMore-other c f (v ∷ vs) h =
     (elim (eqb c v) as (λ b. eqb c v ≡ b → b || has vs c ≡ false → map (oneMore c f) (v ∷ vs) ≡ map f (v ∷ vs))
     [ true ↦ λ e k. absurd (true≢false k) | false ↦ λ e k. rw (eqb-comm v c, e, oneMore-other c f vs k) ]) refl h
 
--- of the vowels' numbers a vowel's own is
+-- of the vowels' numbers a vowel's own is the one that grows
 oneMore-vowel : (c : ℕ) (f : ℕ → ℕ) → vowel c ≡ true → map (oneMore c f) vowels ≡ raised (vowelNumber c) (map f vowels)
 unfolding vowel
 oneMore-vowel c f h =
@@ -105,7 +105,7 @@ summaryOf-counts cs k =
     (λ v. omega (arith, times-le v (beforeLastVowel cs), length-before cs)) vowels k
 
 -- a vowel's number is at most the number of vowels
-pub vowelNumber-le : (c : ℕ) → vowelNumber c ≤ length vowels
+vowelNumber-le : (c : ℕ) → vowelNumber c ≤ length vowels
 unfolding vowelNumber
 vowelNumber-le c = cond-both (λ n. n ≤ length vowels) (vowel c) (toFirst (eqb c) vowels) 0 (toFirst-le (eqb c) vowels) (omega arith)
 

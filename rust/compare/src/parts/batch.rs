@@ -243,7 +243,7 @@ mod tests {
                 },
             ),
             (
-                "the front alone",
+                "front and tails alone",
                 |front, slice, rooms| match tails::number(front, slice, rooms) {
                     1 if tails(slice).chain([front]).all(|word| word.len() <= LIMIT) => 0,
                     number => number,

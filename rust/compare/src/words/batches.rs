@@ -62,7 +62,7 @@ pub fn each_count<E>(visit: Visit<E>) -> Result<(), E> {
     Ok(())
 }
 
-/// Every set of vowels in the front, before tails in which each vowel of an ending comes first.
+/// Every set of vowels in the front, before tails whose only vowel is an ending's.
 pub fn each_set<E>(visit: Visit<E>) -> Result<(), E> {
     let bare = tails::bare();
     let vowels =

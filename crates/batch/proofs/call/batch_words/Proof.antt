@@ -19,9 +19,10 @@ returns c =
 
 put-entries-requires : tie.Need-put-entries-requires
 put-entries-requires c κs =
-    let s = c .before .before .before .before .before .before .before .before .before .before .before .before .args in (
-      c .before .before .before .before .before .before .find-tails .ensures,
-      call-zero (batch (s .front .now) (s .slice .now) (s .lengths .now) (s .answers .now) (s .flags .now)) _ (c .before .before .before .before .refusal-of .ensures) (c .before .before .before .if1 .left),
+    let n = c .before .before .before .before in
+    let s = n .before .before .before .before .before .before .before .before .args in (
+      n .before .before .find-tails .ensures,
+      call-zero (batch (s .front .now) (s .slice .now) (s .lengths .now) (s .answers .now) (s .flags .now)) _ (n .refusal-of .ensures) (c .before .before .before .if1 .left),
     )
 
 same-length : tie.Need-same-length
@@ -35,10 +36,12 @@ same-length-3 c = search needs
 
 returns-2 : tie.Need-returns-2
 returns-2 c =
-    let s = c .before .before .before .before .before .before .before .before .before .before .before .before .before .before .before .before .before .before .before .args in
+    let p = c .before .before .before .before .before .before in
+    let n = p .before .before .before .before .before in
+    let s = n .before .before .before .before .before .before .before .before .args in
     let lent = batch (s .front .now) (s .slice .now) (s .lengths .now) (s .answers .now) (s .flags .now) in (
-      call-answered lent _ (c .before .before .before .before .before .before .before .before .before .before .before .refusal-of .ensures) (c .before .before .before .before .before .before .before .before .before .before .if1 .left) _ (c .before .before .before .before .before .before .before .before .before .before .before .before .before .find-tails .ensures .sized .count),
-      c .before .before .before .before .before .before .put-entries .ensures,
+      call-answered lent _ (n .refusal-of .ensures) (p .before .before .before .before .if1 .left) _ (n .before .before .find-tails .ensures .sized .count),
+      p .put-entries .ensures,
     )
 
 pub batch-words-spec : {M : Type 1} → statement M

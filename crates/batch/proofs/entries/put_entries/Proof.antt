@@ -1,12 +1,12 @@
 -- `batch::entries::put_entries` meets its contract. The loop's invariant: the buffers hold the entries of the tails done, and the stand-in stands before the
 -- next. The measure is how many tails are left. Assumes nothing.
-use Prim.Native.Nat.{_+_, _-_, _≤_, _<_}
-use mathlib.Core.Path.{_≡_, refl, sym}
+use Prim.Native.Nat.{_-_, _≤_, _<_}
+use mathlib.Core.Path.{refl, sym}
 use native.Mathlib.Omega.{arith}
 use lib.ListN.{length, getD}
 use borrow.Author.Needs.{needs}
 use Rattle.turkish.specs.Calls.{limit}
-use Rattle.turkish.specs.BatchCalls.{batch, mostTails, tailsIn}
+use Rattle.turkish.specs.BatchCalls.{batch, mostTails}
 use Rattle.turkish.proofs.Laws.Batches.{batch-answered}
 use Rattle.fronts.specs.StandIn.{standInRoom, mostVowelBytes}
 use Rattle.batch.specs.Fate.{wordRoom}
@@ -72,24 +72,29 @@ part-put-entry-end c =
 
 put-entry-requires : tie.Need-put-entry-requires Inv-loop μ-loop
 put-entry-requires c κs =
-    let s = c .before .before .before .before .before .before .before .before .before .before .before .before .before .before .before .before .before in
-    let l = c .before .before .before .before .before .before .before .loop in
-    ready _ _ _ _ _ _ _ _ (l .inv) (s .pre .1) _ (s .pre .0) (c .before .before .before .before .before .before .loop-test .taken)
+    let t = c .before .before .before .before .before .before in
+    let l = t .before .loop in
+    let s = t .before .before .before .before .before .before .before .before .before .before .before in
+    ready _ _ _ _ _ _ _ _ (l .inv) (s .pre .1) _ (s .pre .0) (t .loop-test .taken)
 
 add-i : tie.Need-add-i Inv-loop μ-loop
 unfolding mostTails
 add-i c =
-    let s = c .before .before .before .before .before .before .before .before .before .before .before .before .before .before .before .before .before .before .before .before .before .before .before .before .before in
-    let l = c .before .before .before .before .before .before .before .before .before .before .before .before .before .before .before .loop in
-    let few : l .i < 64 = below _ _ _ _ _ _ _ _ (l .inv) (s .pre .1) _ (s .pre .0) (c .before .before .before .before .before .before .before .before .before .before .before .before .before .before .loop-test .taken) in
+    let e = c .before .before .before .before .before .before .before in
+    let t = e .before .before .before .before .before .before .before in
+    let l = t .before .loop in
+    let s = t .before .before .before .before .before .before .before .before .before .before .before in
+    let few : l .i < 64 = below _ _ _ _ _ _ _ _ (l .inv) (s .pre .1) _ (s .pre .0) (t .loop-test .taken) in
     search needs
 
 add-at : tie.Need-add-at Inv-loop μ-loop
 add-at c =
-    let s = c .before .before .before .before .before .before .before .before .before .before .before .before .before .before .before .before .before .before .before .before .before .before .before .before .before in
-    let l = c .before .before .before .before .before .before .before .before .before .before .before .before .before .before .before .loop in
+    let e = c .before .before .before .before .before .before .before in
+    let t = e .before .before .before .before .before .before .before in
+    let l = t .before .loop in
+    let s = t .before .before .before .before .before .before .before .before .before .before .before in
     let inside : getD (s .args .t3 .ends) (l .i) 0 ≤ length (s .args .slice .now) =
-    end-within _ _ _ _ _ _ _ _ (l .inv) (s .pre .1) _ (s .pre .0) (c .before .before .before .before .before .before .before .before .before .before .before .before .before .before .loop-test .taken) in
+    end-within _ _ _ _ _ _ _ _ (l .inv) (s .pre .1) _ (s .pre .0) (t .loop-test .taken) in
     search needs
 
 loop-less : tie.Need-loop-less Inv-loop μ-loop
@@ -97,9 +102,11 @@ loop-less c = omega arith
 
 loop-again : tie.Need-loop-again Inv-loop μ-loop
 loop-again c =
-    let s = c .before .before .before .before .before .before .before .before .before .before .before .before .before .before .before .before .before .before .before .before .before .before .before .before .before in
-    let l = c .before .before .before .before .before .before .before .before .before .before .before .before .before .before .before .loop in
-    again _ _ _ _ _ _ _ _ (l .inv) (s .pre .1) _ (s .pre .0) (c .before .before .before .before .before .before .before .before .before .before .before .before .before .before .loop-test .taken) _ _ _ _ (c .before .before .before .before .before .before .before .put-entry .ensures)
+    let e = c .before .before .before .before .before .before .before in
+    let t = e .before .before .before .before .before .before .before in
+    let l = t .before .loop in
+    let s = t .before .before .before .before .before .before .before .before .before .before .before in
+    again _ _ _ _ _ _ _ _ (l .inv) (s .pre .1) _ (s .pre .0) (t .loop-test .taken) _ _ _ _ (e .put-entry .ensures)
 
 same-length : tie.Need-same-length Inv-loop μ-loop
 same-length c = c .before .loop .inv .sizes .0

@@ -1,8 +1,7 @@
 -- `batch::entries::put_entry` meets its contract: the stage's answers at the entry's place, the length kept as a byte, since a joined word is within the
 -- limit. Assumes nothing.
-use Prim.Native.Nat.{_+_, _-_, _≤_, _<_}
-use mathlib.Core.Path.{_≡_, ap, _∙_}
-use native.Mathlib.Omega.{arith}
+use Prim.Native.Nat.{_+_, _-_, _≤_}
+use mathlib.Core.Path.{ap, _∙_}
 use lib.ListN.{length, set}
 use borrow.Author.Needs.{needs}
 use Rattle.turkish.specs.Calls.{limit}

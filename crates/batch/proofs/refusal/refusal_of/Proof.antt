@@ -1,5 +1,5 @@
 -- `batch::refusal::refusal_of` meets its contract: the words' number, then that of the tails, then that of the rooms. Assumes nothing.
-use mathlib.Core.Path.{sym, ap, _∙_}
+use mathlib.Core.Path.{sym, _∙_}
 use native.Mathlib.Omega.{arith}
 use borrow.Author.Needs.{needs}
 use Rattle.turkish.specs.BatchCalls.{mostTails}
@@ -11,18 +11,18 @@ words-refusal-requires : tie.Need-words-refusal-requires
 words-refusal-requires c κs = search needs
 
 returns : tie.Need-returns
-returns c = number-words _ _ _ _ (c .before .words-refusal .ensures) (c .if1 .taken)
+returns c = number-words _ _ _ _ _ _ (c .before .words-refusal .ensures) (c .if1 .taken)
 
 returns-2 : tie.Need-returns-2
 unfolding mostTails
 returns-2 c =
     let s = c .before .before .before .before .before .before in
-    number-many _ _ _ _ (c .before .before .before .words-refusal .ensures) (c .before .before .if1 .left) (omega (arith, s .pre .count))
+    number-many _ _ _ _ _ _ (c .before .before .before .words-refusal .ensures) (c .before .before .if1 .left) (omega (arith, s .pre .count))
 
 returns-3 : tie.Need-returns-3
 returns-3 c =
     let s = c .before .before .before .before .before .before .before in
-    number-short _ _ _ _ (c .before .before .before .before .words-refusal .ensures) (c .before .before .before .if1 .left) (sym (s .pre .short) ∙ c .if3 .taken)
+    number-short _ _ _ _ _ _ (c .before .before .before .before .words-refusal .ensures) (c .before .before .before .if1 .left) (sym (s .pre .short) ∙ c .if3 .taken)
 
 rooms-refusal-requires : tie.Need-rooms-refusal-requires
 rooms-refusal-requires c κs = search needs
@@ -33,7 +33,7 @@ returns-4 c =
     let s = c .before .before .before .before .before .before .before .before in
     let w = c .before .before .before .before .before in
     c .rooms-refusal .ensures
-    ∙ number-rooms _ _ _ _ (w .words-refusal .ensures) (c .before .before .before .before .if1 .left) (omega (arith, s .pre .count, c .before .before .if2 .left))
+    ∙ number-rooms _ _ _ _ _ _ (w .words-refusal .ensures) (c .before .before .before .before .if1 .left) (omega (arith, s .pre .count, c .before .before .if2 .left))
     (sym (s .pre .short) ∙ c .before .if3 .left)
 
 pub refusal-of-spec : {M : Type 1} → statement M

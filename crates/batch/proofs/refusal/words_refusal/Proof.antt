@@ -1,14 +1,7 @@
 -- `batch::refusal::words_refusal` meets its contract: each test's answer is a law of `wordsRefusal`. Assumes nothing.
-use Prim.Native.Nat.{_-_, _≤_}
-use mathlib.Core.Path.{_≡_, sym, _∙_}
-use mathlib.Core.Bool.{true, false}
+use mathlib.Core.Path.{sym, _∙_}
 use native.Mathlib.Omega.{arith}
-use lib.ListN.{length}
-use Rattle.encoding.specs.Validity.{isText}
 use Rattle.turkish.specs.Calls.{limit}
-use Rattle.turkish.specs.BatchCalls.{tailsIn}
-use Rattle.turkish.proofs.Laws.Tests.{every}
-use Rattle.batch.specs.Tails.{longest}
 use Rattle.batch.proofs.Laws.Refusals.{isText-tails, words-front-over, words-joined-over, words-front-no-text, words-tail-no-text, words-texts}
 use borrow.Author.Tests.{not-true, not-false}
 use borrow.Author.Needs.{needs}
