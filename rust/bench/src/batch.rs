@@ -44,11 +44,12 @@ struct Row {
 /// The table, in Markdown; the error is a message that the answers differ.
 pub fn table(rounds: usize) -> Result<String, String> {
     let mut table = format!(
-        "Nanoseconds a tail, median of {rounds} rounds: one batch, and the suffix stage of each joined word, which the host builds anew, or behind
-the front that stays in a buffer. Ratio: the batch's time over the host's; below 1, the batch is faster.
+        "Nanoseconds a tail, median of {rounds} rounds: one batch of a slice that is there, and of one that the host builds; and the suffix stage of
+each joined word, which the host builds anew, or behind the front that stays in a buffer. Ratio: the time of the batch of a slice that is there
+over the host's; below 1, the batch is faster.
 
-| front and tails | tails | bytes a word | batch | built anew | ratio | front kept | ratio |
-|---|--:|--:|--:|--:|--:|--:|--:|"
+| front and tails | tails | bytes a word | batch | slice built | words built anew | ratio | front kept | ratio |
+|---|--:|--:|--:|--:|--:|--:|--:|--:|"
     );
     for row in rows() {
         table.push('\n');
@@ -122,18 +123,19 @@ fn line(row: &Row, rounds: usize) -> Result<String, String> {
         .map(|tail| row.front.len() + tail.len())
         .sum();
     let passes = passes(bytes);
-    let sides: [&dyn Fn() -> usize; 3] = [
+    let sides: [&dyn Fn() -> usize; 4] = [
         &|| batch(&row.front, &slice),
+        &|| batch(&row.front, &black_box(&row.tails).join("\n")),
         &|| anew(&row.front, &row.tails),
         &|| kept(&row.front, &row.tails),
     ];
     let times = in_turn(rounds, |side| time(sides[side], passes))
         .ok_or_else(|| format!("{}: the answers differ", row.name))?;
     let count = row.tails.len();
-    let [batch, anew, kept] = times.map(|time| time / (count * passes) as f64);
+    let [batch, built, anew, kept] = times.map(|time| time / (count * passes) as f64);
     let bytes = bytes as f64 / count as f64;
     Ok(format!(
-        "| {} | {count} | {bytes:.1} | {batch:.1} | {anew:.1} | {:.2} | {kept:.1} | {:.2} |",
+        "| {} | {count} | {bytes:.1} | {batch:.1} | {built:.1} | {anew:.1} | {:.2} | {kept:.1} | {:.2} |",
         row.name,
         batch / anew,
         batch / kept

@@ -1,7 +1,6 @@
 //! The parts of the comparison. A part takes the words, counts in the report, and stops at the first
 //! difference.
 
-#[cfg(feature = "oracle")]
 mod batch;
 mod characters;
 mod check;
@@ -159,10 +158,9 @@ pub const PARTS: &[Part] = &[
         what: "the suffix stage's vowels in harmony and loan candidate, with the crate's marks and groupings",
         run: Run::Words(harmony::run),
     },
-    #[cfg(feature = "oracle")]
     Part {
         name: "batch",
-        what: "the stage of many tails behind one front, with the crate's on each joined word; its refusals, with the rule",
+        what: "the stage of many tails behind one front, with the crate's on each joined word, or, without the crate, with the stage's own call; its refusals, with the rule",
         run: Run::Words(batch::run),
     },
     Part {

@@ -68,11 +68,24 @@ fn all_rooms() -> Vec<Rooms> {
 }
 
 // The crate's stage of the joined word.
+#[cfg(feature = "oracle")]
 fn stage(front: &str, tail: &str) -> Entry {
     let word = [front, tail].concat();
     let rust = oracle::stem_nominal_verb_suffixes(&word);
-    let kept = u8::try_from(rust.text.len()).expect("a word within the limit");
-    [kept, rust.yes.into(), rust.flag.into()]
+    entry(rust.text.len(), rust.yes, rust.flag)
+}
+
+// Without the crate, the archive's own call on it.
+#[cfg(not(feature = "oracle"))]
+fn stage(front: &str, tail: &str) -> Entry {
+    let word = [front, tail].concat();
+    let own = fannavy::stage(word.as_bytes()).expect("a word that is not refused");
+    entry(own.kept.len(), own.yes, own.flag)
+}
+
+fn entry(kept: usize, yes: bool, flag: bool) -> Entry {
+    let kept = u8::try_from(kept).expect("a word within the limit");
+    [kept, yes.into(), flag.into()]
 }
 
 // Each batch with buffers of each of these sizes gives what the Rust gives.
