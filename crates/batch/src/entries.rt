@@ -41,7 +41,7 @@ fn stem_behind(word: &mut [u8], m: usize, tail: &[u8]) -> Fate
     ensures { λ r. ⌜ r ≡ fateOf (take m (now (word .entry)) ++ now (tail .entry)) ⌝ }
     ensures { λ r. ⌜ now (word .exit) ≡ put m (now (tail .entry)) (now (word .entry)) ⌝ }
 {
-    let end = put::put_bytes(word, m, tail, tail.len());
+    let end = put::put_all(word, m, tail);
     let o = stage::stem_nominal_verb_suffixes(&word[..end]);
     Fate {
         removed: end - o.kept,

@@ -10,6 +10,9 @@ pub const TAB: u8 = 0x09;
 
 pub const LF: u8 = 0x0A;
 
+// The bytes that are written in one move.
+const BLOCK: usize = 16;
+
 // Writes one byte at place `at`, and gives the place after it.
 pub fn put_byte(out: &mut [u8], at: usize, b: u8) -> usize
     requires { ⌜ at < length (now out) ⌝ }
@@ -33,4 +36,22 @@ pub fn put_bytes(out: &mut [u8], at: usize, s: &[u8], n: usize) -> usize
         i += 1;
     }
     at + n
+}
+
+// Writes all of s at place `at`, and gives the place after it: 16 to 32 bytes by their first 16 and their last 16, which may overlap, so that
+// they need no loop.
+pub fn put_all(out: &mut [u8], at: usize, s: &[u8]) -> usize
+    requires { ⌜ at + length (now s) ≤ length (now out) ⌝ }
+    ensures { λ r. ⌜ r ≡ at + length (now (s .entry)) ⌝ }
+    ensures { λ r. ⌜ now (out .exit) ≡ put at (now (s .entry)) (now (out .entry)) ⌝ }
+{
+    let n = s.len();
+    if BLOCK <= n {
+        if n <= 2 * BLOCK {
+            put_bytes(out, at, s, BLOCK);
+            put_bytes(out, at + n - BLOCK, &s[n - BLOCK..], BLOCK);
+            return at + n;
+        }
+    }
+    put_bytes(out, at, s, n)
 }

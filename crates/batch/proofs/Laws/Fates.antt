@@ -5,7 +5,7 @@ use mathlib.Core.Bool.{true}
 use mathlib.Core.List.{List, _++_, append-assoc}
 use native.Mathlib.Omega.{arith}
 use lib.ListN.{length, take, drop, length-append}
-use lib.Seq.{length-take-le, take-length, take-at, take-append-seam}
+use lib.Seq.{length-take-le, take-at, take-append-seam}
 use borrow.Author.Tests.{leb-true}
 use Rattle.encoding.specs.Text.{TextOf}
 use Rattle.encoding.proofs.CheckExact.{isText-iff}
@@ -37,18 +37,14 @@ take-put m t word h =
     ap (take (m + length t)) (sym (append-assoc (take m word) t (drop (m + length t) word)))
     ∙ take-at (take m word ++ t) (drop (m + length t) word) (m + length t) (omega (arith, length-append (take m word) t, length-take-le m word (omega arith)))
 
-module _ (m end : ℕ) (t word after : List ℕ) (room : m + length t ≤ length word) (w : (end ≡ m + length t) × (after ≡ put m (take (length t) t) word)) where
-  -- the word is written
-  pub behind-put : after ≡ put m t word
-  behind-put = w .1 ∙ ap (λ (s : List ℕ). put m s word) (take-length t)
-
+module _ (m end : ℕ) (t word after : List ℕ) (room : m + length t ≤ length word) (w : (end ≡ m + length t) × (after ≡ put m t word)) where
   -- the stage's word
   behind-word : take end after ≡ take m word ++ t
-  behind-word = rw (w .0, behind-put) (take-put m t word room)
+  behind-word = rw (w .0, w .1) (take-put m t word room)
 
   -- it ends within it
   pub behind-end : end ≡ length (take end after)
-  behind-end = sym (length-take-le end after (rw (w .0, behind-put) (put-end m t word (omega arith))))
+  behind-end = sym (length-take-le end after (rw (w .0, w .1) (put-end m t word (omega arith))))
 
   module _ (o : Outcome) (e : o ≡ outcomeOf (take end after)) where
     -- what is kept of it lies within it

@@ -1,13 +1,13 @@
 -- Texts written into an output, one after the other, are one text written at the first place: by the byte, and by a copy's loop.
--- Assumes nothing.
-use Prim.Native.Nat.{ℕ, _+_, _≤_, _<_}
-use mathlib.Core.Path.{_≡_, refl, _∙_}
+-- So are a text's front and its end, where they overlap. Assumes nothing.
+use Prim.Native.Nat.{ℕ, _+_, _-_, _≤_, _<_}
+use mathlib.Core.Path.{_≡_, refl, ap, _∙_}
 use mathlib.Core.List.{List, [], _∷_, _++_, append-assoc}
 use native.Mathlib.Omega.{arith}
 use native.Mathlib.Nat.{add-zero, add-assoc}
 use native.Mathlib.Numerals.{add-one}
 use lib.ListN.{length, take, drop, getD, set, length-append, length-take, length-drop, take-append-drop}
-use lib.Seq.{length-take-le, take-length, take-append-seam, drop-append-add, drop-drop, set-split, paste, paste-suc}
+use lib.Seq.{length-take-le, take-all, take-length, take-at, take-append-seam, drop-append-add, take-take, drop-drop, take-add, set-split, paste, paste-suc}
 use Rattle.writing.specs.Put.{put}
 
 -- ---- one text ----
@@ -50,6 +50,40 @@ put-put at s t out h =
     let e : length (take at out ++ s) ≡ at + length s = simp (length-append, length-take) (omega arith) in
     rw (← append-assoc (take at out) s (drop (at + length s) out), ← e, take-append-seam, drop-append-add, drop-drop, e)
     (simp (length-append, append-assoc, add-assoc))
+
+-- ---- a text written in two parts that may overlap ----
+
+-- a text written over one that is not longer leaves nothing of it
+put-over : (at : ℕ) (s t out : List ℕ) → length s ≤ length t → at + length s ≤ length out → put at t (put at s out) ≡ put at t out
+unfolding put
+put-over at s t out l h =
+    let front : length (take at out) ≡ at = length-take-le at out (omega arith) in
+    let e : at + length t ≡ length (take at out ++ s) + (length t - length s) = simp (length-append, front) (omega arith) in
+    let f : at + length s + (length t - length s) ≡ at + length t = omega arith in
+    rw (take-at (take at out) (s ++ drop (at + length s) out) at front)
+    (ap (λ (o : List ℕ). take at out ++ (t ++ o))
+    (rw (e, ← append-assoc (take at out) s (drop (at + length s) out), drop-append-add, drop-drop, f, ← e)))
+
+-- k bytes from the front of a text and k from its place d, up to its end, are the text
+put-from : (at d k : ℕ) (s out : List ℕ) → d ≤ k → d + k ≡ length s → at + length s ≤ length out
+    → put (at + d) (take k (drop d s)) (put at (take k s) out) ≡ put at s out
+put-from at d k s out l e h =
+    let n : length (take d s) ≡ d = length-take-le d s (omega arith) in
+    let f : d + (k - d) ≡ k = omega arith in
+    let u : length (take (k - d) (drop d s)) ≡ k - d = length-take-le (k - d) (drop d s) (omega (arith, length-drop d s)) in
+    let after : (t : List ℕ) → put (at + d) t (put at (take d s) out) ≡ put at (take d s ++ t) out = λ t. rw n at (put-put at (take d s) t out (omega arith)) in
+    let first : take k s ≡ take d s ++ take (k - d) (drop d s) = rw f at (take-add d (k - d) s) in
+    rw (take-all k (drop d s) (omega (arith, length-drop d s)), first, ← after (take (k - d) (drop d s)))
+    (put-over (at + d) (take (k - d) (drop d s)) (drop d s) (put at (take d s) out) (omega (arith, length-drop d s))
+    (omega (arith, length-put at (take d s) out (omega arith))) ∙ rw (after (drop d s), take-append-drop))
+
+-- the first k bytes of a text and then its last k, which leave none between them, are the text
+pub put-ends : (at k : ℕ) (s out : List ℕ) {o p : List ℕ} → k ≤ length s → length s ≤ k + k → at + length s ≤ length out → o ≡ put at (take k s) out
+    → p ≡ put (at + length s - k) (take k (take (length s - (length s - k)) (drop (length s - k) s))) o → p ≡ put at s out
+put-ends at k s out l m h e f =
+    let d : at + length s - k ≡ at + (length s - k) = omega arith in
+    f ∙ rw (d, take-take k (length s - (length s - k)) (drop (length s - k) s) (omega arith), e)
+    (put-from at (length s - k) k s out (omega arith) (omega arith) h)
 
 -- ---- texts one after the other ----
 

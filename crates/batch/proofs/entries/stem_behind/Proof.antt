@@ -1,12 +1,12 @@
 -- `batch::entries::stem_behind` meets its contract: the tail is put behind the first bytes of the word, and the stage's word ends with it.
 -- Assumes nothing.
 use borrow.Author.Needs.{needs}
-use Rattle.batch.proofs.Laws.Fates.{behind-put, behind-end, behind-kept, behind-fate}
+use Rattle.batch.proofs.Laws.Fates.{behind-end, behind-kept, behind-fate}
 use Rattle.batch.proofs.entries.stem_behind.Statement.{statement}
 use Rattle.batch.proofs.entries.stem_behind.Tie as tie
 
-put-bytes-requires : tie.Need-put-bytes-requires
-put-bytes-requires c κs = search needs
+put-all-requires : tie.Need-put-all-requires
+put-all-requires c κs = search needs
 
 slice-reshare-prefix-stem-nominal-verb-suffixes :
     tie.Need-slice-reshare-prefix-stem-nominal-verb-suffixes
@@ -16,16 +16,16 @@ slice-aggregate-stem-nominal-verb-suffixes : tie.Need-slice-aggregate-stem-nomin
 slice-aggregate-stem-nominal-verb-suffixes c =
     let p = c .before .before .before in
     let s = p .before .before .before .before in
-    behind-end _ _ (s .args .tail .now) (s .args .word .now) _ (s .pre) (p .put-bytes .ensures)
+    behind-end _ _ (s .args .tail .now) (s .args .word .now) _ (s .pre) (p .put-all .ensures)
 
 stem-nominal-verb-suffixes-requires : tie.Need-stem-nominal-verb-suffixes-requires
 stem-nominal-verb-suffixes-requires c κs = search needs
 
-sub-t8 : tie.Need-sub-t8
-sub-t8 c =
+sub-t10 : tie.Need-sub-t10
+sub-t10 c =
     let p = c .before .before .before .before .before in
     let s = p .before .before .before .before in
-    behind-kept _ _ (s .args .tail .now) (s .args .word .now) _ (s .pre) (p .put-bytes .ensures) _ (c .before .stem-nominal-verb-suffixes .ensures)
+    behind-kept _ _ (s .args .tail .now) (s .args .word .now) _ (s .pre) (p .put-all .ensures) _ (c .before .stem-nominal-verb-suffixes .ensures)
 
 same-length : tie.Need-same-length
 same-length c = search needs
@@ -34,18 +34,18 @@ returns : tie.Need-returns
 returns c =
     let p = c .before .before .before .before .before in
     let s = p .before .before .before .before in (
-      behind-fate _ _ (s .args .tail .now) (s .args .word .now) _ (s .pre) (p .put-bytes .ensures) _ (c .before .stem-nominal-verb-suffixes .ensures),
-      behind-put _ _ (s .args .tail .now) (s .args .word .now) _ (s .pre) (p .put-bytes .ensures),
+      behind-fate _ _ (s .args .tail .now) (s .args .word .now) _ (s .pre) (p .put-all .ensures) _ (c .before .stem-nominal-verb-suffixes .ensures),
+      p .put-all .ensures .1,
     )
 
 pub stem-behind-spec : {M : Type 1} → statement M
 stem-behind-spec =
     tie.close
     (tie.spec
-    put-bytes-requires
+    put-all-requires
     slice-reshare-prefix-stem-nominal-verb-suffixes
     slice-aggregate-stem-nominal-verb-suffixes
     stem-nominal-verb-suffixes-requires
-    sub-t8
+    sub-t10
     same-length
     returns)
