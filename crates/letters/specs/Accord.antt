@@ -2,15 +2,13 @@
 use Prim.Native.Nat.{ℕ}
 use mathlib.Core.Path.{_≡_}
 use mathlib.Core.Bool.{Bool, true, cond}
-use mathlib.Core.List.{List, [], _∷_}
+use mathlib.Core.List.{List}
 use lib.Dec.{leb}
 use Rattle.utf8.specs.declared.cursor.Cursor.{Cursor}
 use Rattle.utf8.specs.Characters.{before, back}
 use Rattle.utf8.specs.Behind.{behind, backBy}
 use Rattle.turkish.specs.Simple.Harmony.{Found, nowhere, at, harmonyFound, skipsVowel}
 use Rattle.letters.specs.declared.harmony.Accord.{Accord}
-use Rattle.letters.specs.declared.seen.Seen.{Seen}
-use Rattle.letters.specs.Ends.{someEnd}
 
 -- the answers but for 0, not asked for: no; yes; and yes, but past a vowel that is no partner
 abbrev pub answerNo : ℕ
@@ -72,6 +70,6 @@ passedOn w c (at last partner) = accordOf w c (at last partner)
 unfoldable pub orAccord : Accord → Accord → Accord
 orAccord t u = cond (asked t) t u
 
--- at the word's end it is asked for where the last letters are those of a mark that tests it
-unfoldable pub accordAtEnd : List ℕ → Seen → Accord
-accordAtEnd w s = cond (someEnd (11 ∷ 9 ∷ 5 ∷ 6 ∷ 7 ∷ 3 ∷ 2 ∷ 1 ∷ []) (s .last) (s .second) (s .third)) (accordAt w (s .c)) noAccord
+-- harmony asked for only where that is said
+unfoldable pub accordIf : Bool → List ℕ → Cursor → Accord
+accordIf b w c = cond b (accordAt w c) noAccord

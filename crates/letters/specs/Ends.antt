@@ -3,9 +3,10 @@
 use Prim.Native.Nat.{ℕ}
 use Prim.Native.Char.{code}
 use mathlib.Core.Bool.{Bool, false, cond, _&&_, _||_}
-use mathlib.Core.List.{List}
+use mathlib.Core.List.{List, [], _∷_}
 use lib.Dec.{eqb}
 use Rattle.turkish.specs.Letters.{any}
+use Rattle.letters.specs.declared.ends.Starts.{Starts}
 
 -- U: i u ı ü; A: a e; D: d t; and the letters that may follow in yDU and ysA: k m n
 unfoldable pub isU : ℕ → Bool
@@ -43,3 +44,39 @@ someEnd ks a b c = any (λ k. mayEnd k a b c) ks
 -- the last character may end a person's ending: r z m n
 unfoldable pub personEnd : ℕ → Bool
 personEnd a = (eqb a (code "r") || eqb a (code "z")) || (eqb a (code "m") || eqb a (code "n"))
+
+-- with which branches of the suffix stage a text that ends in them may begin, and whether a mark that tests harmony may
+unfoldable pub startsOf : ℕ → ℕ → ℕ → Starts
+startsOf a b c =
+    record {
+      first = someEnd (11 ∷ 9 ∷ 10 ∷ 12 ∷ []) a b c;
+      second = mayEnd 8 a b c;
+      third = mayEnd 5 a b c;
+      fourth = mayEnd 6 a b c;
+      fifth = someEnd (4 ∷ 3 ∷ 2 ∷ 1 ∷ []) a b c;
+      sixth = mayEnd 7 a b c;
+      harmonic = someEnd (11 ∷ 9 ∷ 5 ∷ 6 ∷ 7 ∷ 3 ∷ 2 ∷ 1 ∷ []) a b c;
+    }
+
+-- the last letters that rule most of them out
+abbrev pub letterA : ℕ
+letterA = code "a"
+
+abbrev pub letterK : ℕ
+letterK = code "k"
+
+abbrev pub letterM : ℕ
+letterM = code "m"
+
+abbrev pub letterN : ℕ
+letterN = code "n"
+
+abbrev pub letterR : ℕ
+letterR = code "r"
+
+abbrev pub letterZ : ℕ
+letterZ = code "z"
+
+-- with the first or the fifth at most
+unfoldable pub firstOrFifth : Bool → Bool → Bool → Starts
+firstOrFifth one five heard = record { first = one; second = false; third = false; fourth = false; fifth = five; sixth = false; harmonic = heard }

@@ -1,7 +1,7 @@
 // The last letters of the marks' keys, tested before a table is searched: most marks fail by these alone.
 ghost use mathlib.Core.Path.{_≡_};
 ghost use mathlib.Core.List.{[], _∷_};
-ghost use Rattle.letters.specs.Ends.{isU, isA, isD, isKMN, mayEnd, someEnd, personEnd};
+ghost use Rattle.letters.specs.Ends.{isU, isA, isD, isKMN, mayEnd, someEnd, personEnd, letterA, letterK, letterM, letterN, letterR, letterZ, firstOrFifth, startsOf};
 
 // The letters that the marks' names write U, A and D, and those that may follow in yDU and ysA.
 pub fn is_U(c: u32) -> bool
@@ -49,20 +49,6 @@ pub fn may_end(kind: u32, a: u32, b: u32, c: u32) -> bool
     }
 }
 
-// The same of some mark of branch 1: ymUs_, yDU, ysA, yken.
-pub fn ends_first(a: u32, b: u32, c: u32) -> bool
-    ensures { λ r. ⌜ r ≡ someEnd (11 ∷ 9 ∷ 10 ∷ 12 ∷ []) a b c ⌝ }
-{
-    may_end(11, a, b, c) | (may_end(9, a, b, c) | (may_end(10, a, b, c) | may_end(12, a, b, c)))
-}
-
-// Of some mark of branch 5: sUnUz, yUz, sUn, yUm.
-pub fn ends_fifth(a: u32, b: u32, c: u32) -> bool
-    ensures { λ r. ⌜ r ≡ someEnd (4 ∷ 3 ∷ 2 ∷ 1 ∷ []) a b c ⌝ }
-{
-    may_end(4, a, b, c) | (may_end(3, a, b, c) | (may_end(2, a, b, c) | may_end(1, a, b, c)))
-}
-
 // Whether the last character may end a person's ending: lAr, or one of those.
 pub fn ends_person(a: u32) -> bool
     ensures { λ r. ⌜ r ≡ personEnd a ⌝ }
@@ -84,22 +70,137 @@ pub fn ends_after_nUz(a: u32, b: u32, c: u32) -> bool
     may_end(9, a, b, c) | may_end(10, a, b, c)
 }
 
-// Of some mark with which a branch begins and that tests harmony.
-pub fn ends_harmonic(a: u32, b: u32, c: u32) -> bool
-    ensures { λ r. ⌜ r ≡ someEnd (11 ∷ 9 ∷ 5 ∷ 6 ∷ 7 ∷ 3 ∷ 2 ∷ 1 ∷ []) a b c ⌝ }
-{
-    may_end(11, a, b, c)
-        | (may_end(9, a, b, c)
-            | (may_end(5, a, b, c)
-                | (may_end(6, a, b, c)
-                    | (may_end(7, a, b, c)
-                        | (may_end(3, a, b, c) | (may_end(2, a, b, c) | may_end(1, a, b, c)))))))
+// With which branches of the suffix stage a text may begin that has these last letters, and whether with a mark that tests harmony.
+pub struct Starts {
+    pub first: bool,
+    pub second: bool,
+    pub third: bool,
+    pub fourth: bool,
+    pub fifth: bool,
+    pub sixth: bool,
+    pub harmonic: bool,
 }
 
-// Of some mark with which a branch begins.
-pub fn ends_any(a: u32, b: u32, c: u32) -> bool
-    ensures { λ r. ⌜ r ≡ someEnd (8 ∷ 5 ∷ 6 ∷ 7 ∷ 11 ∷ 9 ∷ 10 ∷ 12 ∷ 4 ∷ 3 ∷ 2 ∷ 1 ∷ []) a b c ⌝ }
+impl Starts {
+    const NONE: Starts = Starts {
+        first: false,
+        second: false,
+        third: false,
+        fourth: false,
+        fifth: false,
+        sixth: false,
+        harmonic: false,
+    };
+
+    // With the first or the fifth branch at most.
+    fn first_or_fifth(first: bool, fifth: bool, harmonic: bool) -> Starts
+        ensures { λ r. ⌜ r ≡ firstOrFifth first fifth harmonic ⌝ }
+    {
+        Starts {
+            first,
+            second: false,
+            third: false,
+            fourth: false,
+            fifth,
+            sixth: false,
+            harmonic,
+        }
+    }
+}
+
+// Before r: the letters of lAr or DUr.
+fn before_r(b: u32, c: u32) -> Starts
+    ensures { λ r. ⌜ r ≡ startsOf letterR b c ⌝ }
 {
-    (may_end(8, a, b, c) | (may_end(5, a, b, c) | (may_end(6, a, b, c) | may_end(7, a, b, c))))
-        | (ends_first(a, b, c) | ends_fifth(a, b, c))
+    let third = is_A(b) & (c == 0x6C);
+    let sixth = is_U(b) & is_D(c);
+    Starts {
+        first: false,
+        second: false,
+        third,
+        fourth: false,
+        fifth: false,
+        sixth,
+        harmonic: third | sixth,
+    }
+}
+
+// Before z: those of nUz; of sUnUz or yUz.
+fn before_z(b: u32, c: u32) -> Starts
+    ensures { λ r. ⌜ r ≡ startsOf letterZ b c ⌝ }
+{
+    let fifth = is_U(b);
+    Starts {
+        first: false,
+        second: false,
+        third: false,
+        fourth: fifth & (c == 0x6E),
+        fifth,
+        sixth: false,
+        harmonic: fifth,
+    }
+}
+
+// Before m: those of yDU or ysA; of yUm.
+fn before_m(b: u32, c: u32) -> Starts
+    ensures { λ r. ⌜ r ≡ startsOf letterM b c ⌝ }
+{
+    let fifth = is_U(b);
+    Starts::first_or_fifth((fifth & is_D(c)) | (is_A(b) & (c == 0x73)), fifth, fifth)
+}
+
+// Before n: those of yDU, ysA or yken; of sUn.
+fn before_n(b: u32, c: u32) -> Starts
+    ensures { λ r. ⌜ r ≡ startsOf letterN b c ⌝ }
+{
+    let past = is_U(b) & is_D(c);
+    let fifth = is_U(b) & (c == 0x73);
+    Starts::first_or_fifth(
+        past | ((is_A(b) & (c == 0x73)) | ((b == 0x65) & (c == 0x6B))),
+        fifth,
+        past | fifth,
+    )
+}
+
+// Before k: those of yDU or ysA.
+fn before_k(b: u32, c: u32) -> Starts
+    ensures { λ r. ⌜ r ≡ startsOf letterK b c ⌝ }
+{
+    let past = is_U(b) & is_D(c);
+    Starts::first_or_fifth(past | (is_A(b) & (c == 0x73)), false, past)
+}
+
+// Before a or e: those of ysA; of cAsInA.
+fn before_A(b: u32, c: u32) -> Starts
+    ensures { λ r. ⌜ r ≡ startsOf letterA b c ⌝ }
+{
+    Starts {
+        first: b == 0x73,
+        second: (b == 0x6E) & is_U(c),
+        third: false,
+        fourth: false,
+        fifth: false,
+        sixth: false,
+        harmonic: false,
+    }
+}
+
+// By the last letter first, which rules most branches out.
+pub fn starts_of(a: u32, b: u32, c: u32) -> Starts
+    ensures { λ r. ⌜ r ≡ startsOf a b c ⌝ }
+{
+    match a {
+        0x72 => before_r(b, c),
+        0x7A => before_z(b, c),
+        0x6D => before_m(b, c),
+        0x6E => before_n(b, c),
+        0x6B => before_k(b, c),
+        0x61 | 0x65 => before_A(b, c),
+        0x15F => {
+            let past = is_U(b) & (c == 0x6D);
+            Starts::first_or_fifth(past, false, past)
+        }
+        0x69 | 0x75 | 0x131 | 0xFC => Starts::first_or_fifth(is_D(b), false, is_D(b)),
+        _ => Starts::NONE,
+    }
 }

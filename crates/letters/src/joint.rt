@@ -31,8 +31,8 @@ pub fn mark_suffix_with_optional_consonant(w: &[u8], c: Cursor, letter: u32) -> 
 {
     let low = c.limit_backward;
     let part = &w[low..];
-    let a = characters::read_back(part, c.cursor - low);
-    let b = characters::read_back(part, a.at);
+    let a = characters::read_short_back(part, c.cursor - low);
+    let b = characters::read_short_back(part, a.at);
     if !is_vowel(b.ch) {
         return Passed::NOT;
     }

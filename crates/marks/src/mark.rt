@@ -151,45 +151,12 @@ fn is_harmonic(kind: u32) -> bool
     }
 }
 
-// The first mark of a group that fits before the cursor. Harmony is walked for at most once.
-pub fn first_of(w: &[u8], s: Seen, told: Accord, group: &[u32]) -> Marked
-    requires { ⌜ Sees (now w) s ⌝ }
-    requires { ⌜ Listens (now w) (s .c) told ⌝ }
-    ensures { λ r. ⌜ r ≡ reach (now (w .entry)) (s .c) (firstOf (now (group .entry)) (behind (now (w .entry)) (s .c))) ⌝ }
-{
-    let mut t = told;
-    let mut i = 0;
-    while i < group.len() {
-        let k = group[i];
-        i += 1;
-        if !ends::may_end(k, s.last, s.second, s.third) {
-            continue;
-        }
-        let p = mark(w, s, k);
-        if !p.moved {
-            continue;
-        }
-        if !is_harmonic(k) {
-            return Marked::To(s.c.moved_to(p.at), k, Accord::UNASKED);
-        }
-        t = harmony::known(w, s.c, t);
-        if t.holds() {
-            return Marked::To(s.c.moved_to(p.at), k, t);
-        }
-    }
-    Marked::Fails
-}
-
-// One mark, and no group of one: with two callers `mark` stays a function of its own. Inlined into the loop of `first_of` it has the
-// tests of all marks made ready at each call.
-pub fn one_of(w: &[u8], s: Seen, told: Accord, kind: u32) -> Marked
+// The mark with this number, its harmony test included; harmony is walked for only where it is not known.
+pub fn full_mark(w: &[u8], s: Seen, told: Accord, kind: u32) -> Marked
     requires { ⌜ Sees (now w) s ⌝ }
     requires { ⌜ Listens (now w) (s .c) told ⌝ }
     ensures { λ r. ⌜ r ≡ reach (now (w .entry)) (s .c) (traceOf (numbered kind) (behind (now (w .entry)) (s .c))) ⌝ }
 {
-    if !ends::may_end(kind, s.last, s.second, s.third) {
-        return Marked::Fails;
-    }
     let p = mark(w, s, kind);
     if !p.moved {
         return Marked::Fails;
@@ -202,4 +169,38 @@ pub fn one_of(w: &[u8], s: Seen, told: Accord, kind: u32) -> Marked
         return Marked::Fails;
     }
     Marked::To(s.c.moved_to(p.at), kind, t)
+}
+
+// The same, tried only where the last letters may be those of its keys. With several callers `full_mark` stays a function of its own, while
+// this one is small enough to stand in its callers, with the tests of one mark's letters alone.
+pub fn one_of(w: &[u8], s: Seen, told: Accord, kind: u32) -> Marked
+    requires { ⌜ Sees (now w) s ⌝ }
+    requires { ⌜ Listens (now w) (s .c) told ⌝ }
+    ensures { λ r. ⌜ r ≡ reach (now (w .entry)) (s .c) (traceOf (numbered kind) (behind (now (w .entry)) (s .c))) ⌝ }
+{
+    if !ends::may_end(kind, s.last, s.second, s.third) {
+        return Marked::Fails;
+    }
+    full_mark(w, s, told, kind)
+}
+
+// The first mark of a group that fits before the cursor.
+pub fn first_of(w: &[u8], s: Seen, told: Accord, group: &[u32]) -> Marked
+    requires { ⌜ Sees (now w) s ⌝ }
+    requires { ⌜ Listens (now w) (s .c) told ⌝ }
+    ensures { λ r. ⌜ r ≡ reach (now (w .entry)) (s .c) (firstOf (now (group .entry)) (behind (now (w .entry)) (s .c))) ⌝ }
+{
+    let mut i = 0;
+    while i < group.len() {
+        let k = group[i];
+        i += 1;
+        if !ends::may_end(k, s.last, s.second, s.third) {
+            continue;
+        }
+        let Marked::To(c, kind, heard) = full_mark(w, s, told, k) else {
+            continue;
+        };
+        return Marked::To(c, kind, heard);
+    }
+    Marked::Fails
 }

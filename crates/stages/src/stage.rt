@@ -13,13 +13,15 @@ use marks::mark;
 use marks::marked::Marked;
 use utf8::cursor::Cursor;
 ghost use mathlib.Core.Path.{_≡_};
+ghost use mathlib.Core.Bool.{true};
 ghost use Rattle.utf8.specs.Behind.{behind, Open};
 ghost use Rattle.turkish.specs.Simple.Grammar.{mark, _then_};
 ghost use Rattle.turkish.specs.Simple.Marks.{ymUs};
 ghost use Rattle.turkish.specs.Simple.Pieces.{trace};
 ghost use Rattle.turkish.specs.Simple.Stage.{person, branch1, branch2, branch3, branch4, branch5, branch6};
 ghost use Rattle.letters.specs.Seen.{Sees};
-ghost use Rattle.letters.specs.Accord.{Listens, accordAtEnd};
+ghost use Rattle.letters.specs.Ends.{personEnd};
+ghost use Rattle.letters.specs.Accord.{Listens, accordIf};
 ghost use Rattle.stages.specs.Trail.{along, cutTo};
 ghost use Rattle.stages.specs.Outcome.{outcomeOf, uncut, cut};
 
@@ -87,18 +89,23 @@ const AFTER_NUZ: [u32; 2] = [mark::YDU, mark::YSA];
 // A person's ending without lAr (line 325).
 const PERSON_ALONE: [u32; 4] = [mark::SUNUZ, mark::YUZ, mark::SUN, mark::YUM];
 
-// A person's ending or nothing, then ymUs_ (lines 316 and 327).
-fn person_then_ymUs(w: &[u8], c: Cursor) -> Branch
-    requires { ⌜ Open (now w) c ⌝ }
-    ensures { λ r. ⌜ r ≡ along (now (w .entry)) c (trace (person then mark ymUs) (behind (now (w .entry)) c)) ⌝ }
+// ymUs_ alone, where no person's ending stands (lines 316 and 327).
+fn ymUs_alone(w: &[u8], s: Seen) -> Branch
+    requires { ⌜ Sees (now w) s ⌝ }
+    ensures { λ r. ⌜ r ≡ along (now (w .entry)) (s .c) (trace (mark ymUs) (behind (now (w .entry)) (s .c))) ⌝ }
 {
-    let s = seen::look_back(w, c);
-    if !ends::ends_person(s.last) {
-        let Marked::To(e, kind, told) = mark::one_of(w, s, Accord::UNASKED, mark::YMUS) else {
-            return Branch::Unfit;
-        };
-        return Branch::Fits(e, Way::NONE.behind(kind, e.cursor, told));
-    }
+    let Marked::To(e, kind, told) = mark::one_of(w, s, Accord::UNASKED, mark::YMUS) else {
+        return Branch::Unfit;
+    };
+    Branch::Fits(e, Way::NONE.behind(kind, e.cursor, told))
+}
+
+// A person's ending, then ymUs_, where the last letter may be that of a person's ending (lines 316 and 327).
+fn person_and_ymUs(w: &[u8], s: Seen) -> Branch
+    requires { ⌜ Sees (now w) s ⌝ }
+    requires { ⌜ personEnd (s .last) ≡ true ⌝ }
+    ensures { λ r. ⌜ r ≡ along (now (w .entry)) (s .c) (trace (person then mark ymUs) (behind (now (w .entry)) (s .c))) ⌝ }
+{
     let Marked::To(d, kind, told) = mark::first_of(w, s, Accord::UNASKED, &PERSON) else {
         return Branch::Unfit;
     };
@@ -124,9 +131,6 @@ fn first_branch(w: &[u8], s: Seen, t: Accord) -> Branch
     requires { ⌜ Listens (now w) (s .c) t ⌝ }
     ensures { λ r. ⌜ r ≡ cutTo (now (w .entry)) (s .c) (trace branch1 (behind (now (w .entry)) (s .c))) ⌝ }
 {
-    if !ends::ends_first(s.last, s.second, s.third) {
-        return Branch::Unfit;
-    }
     let Marked::To(c, kind, told) = mark::first_of(w, s, t, &FIRST) else {
         return Branch::Unfit;
     };
@@ -139,10 +143,17 @@ fn second_branch(w: &[u8], s: Seen, t: Accord) -> Branch
     requires { ⌜ Listens (now w) (s .c) t ⌝ }
     ensures { λ r. ⌜ r ≡ cutTo (now (w .entry)) (s .c) (trace branch2 (behind (now (w .entry)) (s .c))) ⌝ }
 {
-    let Marked::To(c, kind, told) = mark::one_of(w, s, t, mark::CASINA) else {
+    let Marked::To(c, kind, told) = mark::full_mark(w, s, t, mark::CASINA) else {
         return Branch::Unfit;
     };
-    let Branch::Fits(d, rest) = person_then_ymUs(w, c) else {
+    let before = seen::look_back(w, c);
+    if !ends::ends_person(before.last) {
+        let Branch::Fits(e, next) = ymUs_alone(w, before) else {
+            return Branch::Unfit;
+        };
+        return Branch::Fits(e.deleted(), next.behind(kind, c.cursor, told));
+    }
+    let Branch::Fits(d, rest) = person_and_ymUs(w, before) else {
         return Branch::Unfit;
     };
     Branch::Fits(d.deleted(), rest.behind(kind, c.cursor, told))
@@ -154,7 +165,7 @@ fn third_branch(w: &[u8], s: Seen, t: Accord) -> Branch
     requires { ⌜ Listens (now w) (s .c) t ⌝ }
     ensures { λ r. ⌜ r ≡ cutTo (now (w .entry)) (s .c) (trace branch3 (behind (now (w .entry)) (s .c))) ⌝ }
 {
-    let Marked::To(c, kind, told) = mark::one_of(w, s, t, mark::LAR) else {
+    let Marked::To(c, kind, told) = mark::full_mark(w, s, t, mark::LAR) else {
         return Branch::Unfit;
     };
     let d = c.deleted();
@@ -179,7 +190,7 @@ fn fourth_branch(w: &[u8], s: Seen, t: Accord) -> Branch
     requires { ⌜ Listens (now w) (s .c) t ⌝ }
     ensures { λ r. ⌜ r ≡ cutTo (now (w .entry)) (s .c) (trace branch4 (behind (now (w .entry)) (s .c))) ⌝ }
 {
-    let Marked::To(c, kind, told) = mark::one_of(w, s, t, mark::NUZ) else {
+    let Marked::To(c, kind, told) = mark::full_mark(w, s, t, mark::NUZ) else {
         return Branch::Unfit;
     };
     let before = seen::look_back(w, c);
@@ -203,9 +214,6 @@ fn fifth_branch(w: &[u8], s: Seen, t: Accord) -> Branch
     requires { ⌜ Listens (now w) (s .c) t ⌝ }
     ensures { λ r. ⌜ r ≡ cutTo (now (w .entry)) (s .c) (trace branch5 (behind (now (w .entry)) (s .c))) ⌝ }
 {
-    if !ends::ends_fifth(s.last, s.second, s.third) {
-        return Branch::Unfit;
-    }
     let Marked::To(c, kind, told) = mark::first_of(w, s, t, &PERSON_ALONE) else {
         return Branch::Unfit;
     };
@@ -232,28 +240,36 @@ fn sixth_branch(w: &[u8], s: Seen, t: Accord) -> Branch
     requires { ⌜ Listens (now w) (s .c) t ⌝ }
     ensures { λ r. ⌜ r ≡ cutTo (now (w .entry)) (s .c) (trace branch6 (behind (now (w .entry)) (s .c))) ⌝ }
 {
-    let Marked::To(c, kind, told) = mark::one_of(w, s, t, mark::DUR) else {
+    let Marked::To(c, kind, told) = mark::full_mark(w, s, t, mark::DUR) else {
         return Branch::Unfit;
     };
     let d = c.deleted();
-    let Branch::Fits(e, rest) = person_then_ymUs(w, d) else {
+    let before = seen::look_back(w, d);
+    if !ends::ends_person(before.last) {
+        let Branch::Fits(e, next) = ymUs_alone(w, before) else {
+            return Branch::Fits(d, Way::NONE.behind(kind, c.cursor, told));
+        };
+        return Branch::Fits(e.deleted(), next.behind(kind, c.cursor, told));
+    }
+    let Branch::Fits(f, rest) = person_and_ymUs(w, before) else {
         return Branch::Fits(d, Way::NONE.behind(kind, c.cursor, told));
     };
-    Branch::Fits(e.deleted(), rest.behind(kind, c.cursor, told))
+    Branch::Fits(f.deleted(), rest.behind(kind, c.cursor, told))
 }
 
 // Harmony at the word's end, walked for where the last letters are those of a mark that tests it.
-fn told_at_end(w: &[u8], s: Seen) -> Accord
-    requires { ⌜ Sees (now w) s ⌝ }
-    ensures { λ r. ⌜ r ≡ accordAtEnd (now (w .entry)) s ⌝ }
+fn told_at_end(w: &[u8], c: Cursor, harmonic: bool) -> Accord
+    requires { ⌜ Open (now w) c ⌝ }
+    ensures { λ r. ⌜ r ≡ accordIf harmonic (now (w .entry)) c ⌝ }
 {
-    if !ends::ends_harmonic(s.last, s.second, s.third) {
+    if !harmonic {
         return Accord::UNASKED;
     }
-    harmony::listen(w, s.c)
+    harmony::listen(w, c)
 }
 
-// The suffix stage of a word, entered at its end with limit_backward 0: the first branch that fits.
+// The suffix stage of a word, entered at its end with limit_backward 0: the first branch that fits. Only those are tried with whose last
+// letters the word ends.
 pub fn stem_nominal_verb_suffixes(w: &[u8]) -> Outcome
     ensures { λ r. ⌜ r ≡ outcomeOf (now (w .entry)) ⌝ }
 {
@@ -266,27 +282,37 @@ pub fn stem_nominal_verb_suffixes(w: &[u8]) -> Outcome
             limit_backward: 0,
         },
     );
-    if !ends::ends_any(s.last, s.second, s.third) {
-        return Outcome::uncut(n);
+    let may = ends::starts_of(s.last, s.second, s.third);
+    let t = told_at_end(w, s.c, may.harmonic);
+    if may.first {
+        if let Branch::Fits(c, way) = first_branch(w, s, t) {
+            return Outcome::cut(c, way, true);
+        }
     }
-    let t = told_at_end(w, s);
-    if let Branch::Fits(c, way) = first_branch(w, s, t) {
-        return Outcome::cut(c, way, true);
+    if may.second {
+        if let Branch::Fits(c, way) = second_branch(w, s, t) {
+            return Outcome::cut(c, way, true);
+        }
     }
-    if let Branch::Fits(c, way) = second_branch(w, s, t) {
-        return Outcome::cut(c, way, true);
+    if may.third {
+        if let Branch::Fits(c, way) = third_branch(w, s, t) {
+            return Outcome::cut(c, way, false);
+        }
     }
-    if let Branch::Fits(c, way) = third_branch(w, s, t) {
-        return Outcome::cut(c, way, false);
+    if may.fourth {
+        if let Branch::Fits(c, way) = fourth_branch(w, s, t) {
+            return Outcome::cut(c, way, true);
+        }
     }
-    if let Branch::Fits(c, way) = fourth_branch(w, s, t) {
-        return Outcome::cut(c, way, true);
+    if may.fifth {
+        if let Branch::Fits(c, way) = fifth_branch(w, s, t) {
+            return Outcome::cut(c, way, true);
+        }
     }
-    if let Branch::Fits(c, way) = fifth_branch(w, s, t) {
-        return Outcome::cut(c, way, true);
-    }
-    if let Branch::Fits(c, way) = sixth_branch(w, s, t) {
-        return Outcome::cut(c, way, true);
+    if may.sixth {
+        if let Branch::Fits(c, way) = sixth_branch(w, s, t) {
+            return Outcome::cut(c, way, true);
+        }
     }
     Outcome::uncut(n)
 }

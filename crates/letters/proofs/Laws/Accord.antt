@@ -2,7 +2,7 @@
 use Prim.Native.Nat.{ℕ, _+_, _-_}
 use mathlib.Core.Path.{_≡_, refl, sym, ap, subst, _∙_}
 use mathlib.Core.Bool.{Bool, true, false, false≢true}
-use mathlib.Core.List.{List, [], _∷_}
+use mathlib.Core.List.{List}
 use lib.ListN.{drop}
 use Rattle.utf8.specs.declared.cursor.Cursor.{Cursor}
 use Rattle.utf8.specs.Characters.{before}
@@ -11,9 +11,7 @@ use Rattle.utf8.specs.Behind.{behind, backBy}
 use Rattle.encoding.proofs.Laws.Booleans.{cond-both}
 use Rattle.turkish.specs.Simple.Harmony.{Found, nowhere, at, harmonyFound, isFound, harmony}
 use Rattle.letters.specs.declared.harmony.Accord.{Accord}
-use Rattle.letters.specs.declared.seen.Seen.{Seen}
-use Rattle.letters.specs.Ends.{someEnd}
-use Rattle.letters.specs.Accord.{asked, holds, skips, noAccord, discord, concord, accordFrom, accordBefore, accordOf, accordAt, Listens, passedOn, orAccord, accordAtEnd}
+use Rattle.letters.specs.Accord.{asked, holds, skips, noAccord, discord, concord, accordFrom, accordBefore, accordOf, accordAt, Listens, passedOn, orAccord, accordIf}
 use Rattle.letters.proofs.Laws.Part.{partFrom, partFrom-drop}
 
 -- harmony that holds was asked for
@@ -45,7 +43,7 @@ unfolding asked
 listens-unasked w c = record { heard = λ e. absurd (false≢true e) }
 
 -- what is told at a record holds there
-pub listens-accord : (w : List ℕ) (c : Cursor) → Listens w c (accordAt w c)
+listens-accord : (w : List ℕ) (c : Cursor) → Listens w c (accordAt w c)
 listens-accord w c = record { heard = λ e. refl }
 
 -- what was asked for is what is told at the record
@@ -99,9 +97,7 @@ module _ (w : List ℕ) (c : Cursor) {t : Accord} (is : t ≡ accordBefore (part
       go nowhere q = unfold accordFrom discord holds in absurd (false≢true q)
       go (at l p) q = unfold accordFrom accordOf concord backBy moveTo behind in refl
 
--- what is told at the word's end is true, whether or not harmony was asked for
-pub listens-atEnd : (w : List ℕ) (s : Seen) {t : Accord} → t ≡ accordAtEnd w s → Listens w (s .c) t
-unfolding accordAtEnd noAccord
-listens-atEnd w s e =
-    let ends = someEnd (11 ∷ 9 ∷ 5 ∷ 6 ∷ 7 ∷ 3 ∷ 2 ∷ 1 ∷ []) (s .last) (s .second) (s .third) in
-    subst (Listens w (s .c)) (sym e) (cond-both (Listens w (s .c)) ends (accordAt w (s .c)) noAccord (listens-accord w (s .c)) (listens-unasked w (s .c)))
+-- what is told where harmony may have been asked for is true
+pub listens-if : (b : Bool) (w : List ℕ) (c : Cursor) {t : Accord} → t ≡ accordIf b w c → Listens w c t
+unfolding accordIf noAccord
+listens-if b w c e = subst (Listens w c) (sym e) (cond-both (Listens w c) b (accordAt w c) noAccord (listens-accord w c) (listens-unasked w c))

@@ -1,31 +1,36 @@
--- The last letters of the marks' keys: text that does not end as a mark's keys may has none of them at its end, so the mark fails there,
--- so does a group whose marks all fail, and so does the stage. A person's ending and ymUs_ never end alike. Which marks test harmony, what a
--- mark is without, and that a mark which fits has its own number. Assumes nothing.
+-- The last letters of the marks' keys: text that does not end as a mark's keys may has none of them at its end, so the mark fails there, and
+-- so does a group whose marks all fail. A person's ending and ymUs_ never end alike. What letters that stand for more than one say of the
+-- stage's branches. Which marks test harmony, what a mark is without, and that a mark which fits has its own number. Assumes nothing.
 use Prim.Native.Nat.{ℕ, zero, suc}
 use Prim.Native.Char.{code}
 use mathlib.Core.Path.{_≡_, refl, sym, ap, _∙_}
-use mathlib.Core.Logic.{_⊎_, inl, inr, ⊎-elim}
-use mathlib.Core.Bool.{Bool, true, false, cond, not, _&&_, _||_, false≢true, or-assoc}
-use mathlib.Core.List.{List, [], _∷_, _++_}
+use mathlib.Core.Logic.{_⊎_, inl, inr}
+use mathlib.Core.Bool.{Bool, true, false, cond, not, _&&_, _||_, false≢true, or-false}
+use mathlib.Core.List.{List, [], _∷_}
 use mathlib.Mathlib.Data.Bool.Basic.{or-eq-false-eq-eq-false-and-eq-false as or-no}
 use lib.ListN.{getD}
 use lib.Dec.{eqb}
 use borrow.Author.Tests.{eqb-true}
 use Rattle.utf8.specs.Behind.{behind}
-use Rattle.encoding.proofs.Laws.Booleans.{and-left, and-right, or-either, cond-cases, cond-test, cond-both}
-use Rattle.turkish.specs.Letters.{text, fromEnd, any, has, starts}
+use Rattle.encoding.proofs.Laws.Booleans.{and-left, and-right, cond-cases, cond-test, cond-both}
+use Rattle.turkish.specs.Letters.{text, fromEnd, any, starts}
 use Rattle.turkish.specs.Simple.Harmony.{harmony}
 use Rattle.turkish.specs.Simple.Grammar.{Out, fail, after, asking, among, Joint, Mark, markOf}
-use Rattle.turkish.specs.Simple.Pieces.{none, afterTrace, firstTrace, traceOf, trace}
+use Rattle.turkish.specs.Simple.Pieces.{none, firstTrace, traceOf}
 use Rattle.turkish.specs.Simple.Marks.{unjoined, byY, marked, yUm, sUn, yUz, sUnUz, lAr, nUz, DUr, cAsInA, yDU, ysA, ymUs, yken}
-use Rattle.turkish.specs.Simple.Stage.{branch1, branch2, branch3, branch4, branch5, branch6, branches}
 use Rattle.turkish.proofs.Laws.Tests.{every}
 use Rattle.turkish.proofs.Laws.Outcome.{Gives, unfit, post-all}
 use Rattle.turkish.proofs.Laws.Traces.{traceOf-none}
 use Rattle.letters.specs.declared.seen.Seen.{Seen}
 use Rattle.letters.specs.Seen.{seenAt, Sees}
-use Rattle.letters.specs.Ends.{isU, isA, isD, isKMN, mayEnd, someEnd, personEnd}
+use Rattle.letters.specs.Ends.{isU, isA, isD, isKMN, mayEnd, someEnd, personEnd, letterA, firstOrFifth, startsOf}
 use Rattle.letters.specs.Numbered.{numbered, never, unharmonic, firstOf}
+
+-- one of two, of which the other implies it
+pub or-absorb : (x y : Bool) → (x && y) || x ≡ x
+or-absorb true true = refl
+or-absorb true false = refl
+or-absorb false y = refl
 
 -- ---- keys ----
 
@@ -131,14 +136,6 @@ someEnd-unfit (k ∷ ks) cs e =
     rw (traceOf-unfit k cs (n .0)) (someEnd-unfit ks cs (n .1))
 
 module _ (a b c : ℕ) where
-  -- they may then end a key of none of its marks
-  someEnd-each : (ks : List ℕ) (k : ℕ) → has ks k ≡ true → someEnd ks a b c ≡ false → mayEnd k a b c ≡ false
-  unfolding someEnd has any
-  someEnd-each [] k h e = absurd (false≢true h)
-  someEnd-each (j ∷ ks) k h e =
-      let n = or-no (mayEnd j a b c) (someEnd ks a b c) .0 e in
-      ⊎-elim (λ p. ap (λ (i : ℕ). mayEnd i a b c) (eqb-true k j p) ∙ n .0) (λ m. someEnd-each ks k m (n .1)) (or-either (eqb k j) (has ks k) h)
-
   -- without the last letter of a person's ending there is none
   pub person-letters : personEnd a ≡ false → someEnd (4 ∷ 5 ∷ 1 ∷ 2 ∷ 3 ∷ []) a b c ≡ false
   unfolding someEnd any mayEnd personEnd
@@ -157,29 +154,22 @@ module _ (a b c : ℕ) where
       go true is = absurd (false≢true (rw (eqb-true a (code "ş") is) at e))
       go false is = refl
 
-  -- two groups one after the other
-  someEnd-append : (ks js : List ℕ) → someEnd (ks ++ js) a b c ≡ someEnd ks a b c || someEnd js a b c
-  unfolding someEnd any
-  someEnd-append [] js = refl
-  someEnd-append (k ∷ ks) js = rw (someEnd-append ks js) (sym (or-assoc (mayEnd k a b c) (someEnd ks a b c) (someEnd js a b c)))
+-- ---- the branches that a text may begin with ----
 
-  -- four marks and two groups
-  pub someEnd-groups : (h i j k : ℕ) (ks js : List ℕ)
-      → (mayEnd h a b c || (mayEnd i a b c || (mayEnd j a b c || mayEnd k a b c))) || (someEnd ks a b c || someEnd js a b c)
-      ≡ someEnd (h ∷ i ∷ j ∷ k ∷ (ks ++ js)) a b c
-  unfolding someEnd any
-  someEnd-groups h i j k ks js = rw (someEnd-append ks js) (simp or-assoc)
+module _ (a b c : ℕ) where
+  -- e is as a
+  pub starts-A : (a ≡ code "a") ⊎ (a ≡ code "e") → startsOf letterA b c ≡ startsOf a b c
+  unfolding startsOf someEnd any mayEnd isU isA isD isKMN
+  starts-A (inl e) = rw e refl
+  starts-A (inr e) = rw e refl
 
--- where they may end no key of a mark with which a branch begins, no branch of the stage fits
-pub branches-unfit : (cs : List ℕ)
-    → someEnd (8 ∷ 5 ∷ 6 ∷ 7 ∷ 11 ∷ 9 ∷ 10 ∷ 12 ∷ 4 ∷ 3 ∷ 2 ∷ 1 ∷ []) (getD cs 0 0) (getD cs 1 0) (getD cs 2 0) ≡ false
-    → trace branches cs ≡ none
-unfolding trace branches branch1 branch2 branch3 branch4 branch5 branch6 firstTrace afterTrace numbered has any
-branches-unfit cs e =
-    let fails : (k : ℕ) → has (8 ∷ 5 ∷ 6 ∷ 7 ∷ 11 ∷ 9 ∷ 10 ∷ 12 ∷ 4 ∷ 3 ∷ 2 ∷ 1 ∷ []) k ≡ true → traceOf (numbered k) cs ≡ none =
-    λ k h. traceOf-unfit k cs (someEnd-each (getD cs 0 0) (getD cs 1 0) (getD cs 2 0) _ k h e) in
-    rw (fails 11 refl, fails 9 refl, fails 10 refl, fails 12 refl, fails 8 refl, fails 5 refl, fails 6 refl)
-    (rw (fails 4 refl, fails 3 refl, fails 2 refl, fails 1 refl, fails 7 refl))
+  -- a U is the end of yDU alone
+  pub starts-U : (a ≡ code "i") ⊎ (a ≡ code "u") ⊎ (a ≡ code "ü") ⊎ (a ≡ code "ı") → firstOrFifth (isD b) false (isD b) ≡ startsOf a b c
+  unfolding startsOf firstOrFifth someEnd any mayEnd isU isA isD isKMN
+  starts-U (inl e) = rw e (simp or-false)
+  starts-U (inr (inl e)) = rw e (simp or-false)
+  starts-U (inr (inr (inl e))) = rw e (simp or-false)
+  starts-U (inr (inr (inr e))) = rw e (simp or-false)
 
 -- ---- harmony ----
 

@@ -17,8 +17,14 @@ use Rattle.utf8.specs.Behind.{readBack, behind, backBy, Open}
 use Rattle.utf8.proofs.Laws.Characters.{back-le, back-add, before-back}
 use Rattle.utf8.proofs.Laws.ReadBack.{readBack-ascii}
 use Rattle.letters.specs.declared.seen.Seen.{Seen}
-use Rattle.letters.specs.Seen.{seenAt}
+use Rattle.letters.specs.declared.seen.Three.{Three}
+use Rattle.letters.specs.Seen.{threeAt, seenFrom, seenAt}
 use Rattle.letters.proofs.Laws.Part.{partFrom, partFrom-drop, low-cursor-le, cursor-part-le}
+
+-- the characters and places read before a record, with the record, are all that is seen
+pub seenFrom-three : (w : List ℕ) (c : Cursor) {t : Three} → t ≡ threeAt w c → seenFrom t c ≡ seenAt w c
+unfolding seenAt threeAt seenFrom
+seenFrom-three w c e = ap (λ (t : Three). seenFrom t c) e
 
 module _ (w : List ℕ) (c : Cursor) where
   -- where the part begins before which nothing is looked at
@@ -99,11 +105,17 @@ module _ (w : List ℕ) (c : Cursor) where
         unfolding backBy moveTo
         third-place = ap (λ (n : ℕ). low + n) third-at
 
+        -- the three characters and the places
+        pub threeAt-made : _≡_ {A = Three} (record { one = low + a .at; two = low + b .at; three = low + d .at; last = a .ch; second = b .ch; third = d .ch })
+            (threeAt w c)
+        unfolding threeAt
+        threeAt-made = rw (first-ch, second-ch, third-ch, first-place, second-place, third-place)
+
         -- all that is seen
-        pub seenAt-made : _≡_ {A = Seen} (record { c = c; one = low + a .at; last = a .ch; two = low + b .at; second = b .ch; three = low + d .at; third = d .ch })
+        seenAt-made : _≡_ {A = Seen} (record { c = c; one = low + a .at; last = a .ch; two = low + b .at; second = b .ch; three = low + d .at; third = d .ch })
             (seenAt w c)
-        unfolding seenAt
-        seenAt-made = rw (first-ch, second-ch, third-ch, first-place, second-place, third-place)
+        unfolding seenFrom
+        seenAt-made = seenFrom-three w c threeAt-made
 
 -- three bytes that are tested at one go
 pub all-plain : (x y z : ℕ) → ltb x 0x80 && ltb y 0x80 && ltb z 0x80 ≡ true → (x < 0x80) × (y < 0x80) × (z < 0x80)

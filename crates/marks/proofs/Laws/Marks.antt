@@ -21,6 +21,7 @@ use Rattle.turkish.proofs.Laws.Outcome.{Gives, unfit, fits}
 use Rattle.turkish.proofs.Laws.Traces.{traceOf-none}
 use Rattle.letters.specs.declared.among.Among.{Among}
 use Rattle.letters.specs.declared.among.Among.the-variants.{Key, Nothing}
+use Rattle.marks.specs.declared.marked.Marked.{Marked}
 use Rattle.marks.specs.declared.marked.Marked.the-variants.{To, Fails}
 use Rattle.letters.specs.declared.passed.Passed.{Passed}
 use Rattle.letters.specs.declared.seen.Seen.{Seen}
@@ -122,6 +123,12 @@ unfolding passes passedTo notPassed
 passes-not w c fail e m = refl
 passes-not w c (took k f) e m = absurd (false≢true (sym m ∙ ap (λ (x : Passed). x .moved) e))
 
+-- a command that reaches nothing keeps nothing
+pub reach-fails : (w : List ℕ) (c : Cursor) (o : Trace) {r : Marked} → r ≡ reach w c o → r ≡ Fails → o ≡ none
+unfolding reach
+reach-fails w c none is fails = refl
+reach-fails w c (keeps ts f) is fails = let z : _≡_ {A = ℕ} 0 1 = cc in absurd (omega arith)
+
 -- what the first takes, the group does
 reach-first : (w : List ℕ) (c : Cursor) (o q : Trace) {r : Cursor} {k : ℕ} {t : Accord} → To r k t ≡ reach w c o → To r k t ≡ reach w c (firstTrace o q)
 unfolding firstTrace reach
@@ -164,9 +171,9 @@ module _ (w : List ℕ) (c : Cursor) (group : List ℕ) (i : ℕ) (inside : i < 
   firstOf-next e = ap (reach w c) (sym (firstOf-at ∙ rw e))
 
   -- one that fits is the group's first
-  pub firstOf-took : {r : Cursor} {k : ℕ} {t : Accord} → To r k t ≡ reach w c (traceOf (numbered (getD group i 0)) (behind w c))
-      → To r k t ≡ reach w c (firstOf (drop i group) (behind w c))
-  firstOf-took e = reach-first w c _ _ e ∙ ap (reach w c) (sym firstOf-at)
+  pub firstOf-took : {r : Marked} {d : Cursor} {k : ℕ} {t : Accord} → r ≡ reach w c (traceOf (numbered (getD group i 0)) (behind w c)) → r ≡ To d k t
+      → To d k t ≡ reach w c (firstOf (drop i group) (behind w c))
+  firstOf-took is to = reach-first w c _ _ (sym to ∙ is) ∙ ap (reach w c) (sym firstOf-at)
 
 -- where no mark is left none fits
 pub firstOf-end : (w : List ℕ) (c : Cursor) (group : List ℕ) (i : ℕ) → length group ≤ i → Fails ≡ reach w c (firstOf (drop i group) (behind w c))

@@ -1,5 +1,5 @@
--- The branches of the stage: groups of marks as the grammar has them, what is seen from a record, and what the stage answers where a
--- branch fits, and where none does. Assumes nothing.
+-- The branches of the stage: groups of marks as the grammar has them, what is seen from a record, which branches the last letters rule
+-- out, and what the stage answers where a branch fits, and where none does. Assumes nothing.
 use Prim.Native.Nat.{ℕ}
 use mathlib.Core.Path.{_≡_, refl, sym, ap, _∙_}
 use mathlib.Core.Bool.{Bool, true, false}
@@ -12,7 +12,7 @@ use Rattle.utf8.specs.Behind.{behind, backBy, deleted, Open}
 use Rattle.utf8.proofs.Laws.Behind.{behind-before, backBy-back, open-start}
 use Rattle.turkish.specs.Simple.Grammar.{Out, took, Command, mark, _then_, _or_, run}
 use Rattle.turkish.specs.Simple.Marks.{ymUs}
-use Rattle.turkish.specs.Simple.Stage.{person, branches, staged, stage, keptLength}
+use Rattle.turkish.specs.Simple.Stage.{person, branch1, branch2, branch3, branch4, branch5, branch6, branches, staged, stage, keptLength}
 use Rattle.turkish.specs.Simple.Pieces.{Taken, Trace, none, keeps, total, moreTrace, afterTrace, firstTrace, traceOf, trace, summed, takenOf, stageMarks}
 use Rattle.turkish.specs.Calls.{chars}
 use Rattle.turkish.proofs.Laws.Outcome.{Flagged, unfit, fits}
@@ -20,7 +20,8 @@ use Rattle.turkish.proofs.Laws.Traces.{first-none, run-trace}
 use Rattle.letters.specs.declared.harmony.Accord.{Accord}
 use Rattle.letters.specs.declared.seen.Seen.{Seen}
 use Rattle.letters.specs.Seen.{seenAt}
-use Rattle.letters.specs.Ends.{someEnd, personEnd}
+use Rattle.letters.specs.declared.ends.Starts.{Starts}
+use Rattle.letters.specs.Ends.{someEnd, personEnd, startsOf}
 use Rattle.letters.specs.Numbered.{numbered, firstOf}
 use Rattle.letters.proofs.Laws.Ends.{traceOf-unfit, someEnd-unfit, person-letters, person-not-ymUs}
 use Rattle.letters.proofs.Laws.Sees.{seen-c}
@@ -30,9 +31,9 @@ use Rattle.marks.specs.Reach.{reach}
 use Rattle.stages.specs.declared.trail.Way.{Way}
 use Rattle.stages.specs.declared.trail.Branch.{Branch}
 use Rattle.stages.specs.declared.trail.Branch.the-variants.{Fits, Unfit}
-use Rattle.stages.specs.Trail.{trailOf, heardAlong, wayOf, cutTo}
+use Rattle.stages.specs.Trail.{trailOf, heardAlong, wayOf, along, cutTo}
 use Rattle.stages.specs.Outcome.{whole, outcomeOf, uncut, cut}
-use Rattle.stages.proofs.Laws.Trails.{Steps, steps-group, first-step, fits-unfit}
+use Rattle.stages.proofs.Laws.Trails.{Steps, steps-group, first-step, fits-unfit, after-none}
 
 -- `unset` after the second of two commands cuts no more
 pub cut-unset : (w : List ℕ) (c : Cursor) (o : Trace) (q : ℕ → Trace)
@@ -54,7 +55,7 @@ first-assoc none p q = refl
 first-assoc (keeps ts f) p q = refl
 
 -- the marks of a person's ending, and those that may follow lAr
-abbrev pub personMarks : List ℕ
+abbrev personMarks : List ℕ
 personMarks = 4 ∷ 5 ∷ 1 ∷ 2 ∷ 3 ∷ []
 
 abbrev pub afterLAr : List ℕ
@@ -97,35 +98,77 @@ steps-person w c is to = rw (person-first (behind w c)) at (first-step w c (step
 -- ---- what is seen from a record ----
 
 module _ (w : List ℕ) (c : Cursor) {s : Seen} (is : s ≡ seenAt w c) where
-  -- what is asked of the last letters seen is asked of those behind the record
-  ends-seen : (ks : List ℕ) {b : Bool} → b ≡ someEnd ks (s .last) (s .second) (s .third)
-      → someEnd ks (getD (behind w c) 0 0) (getD (behind w c) 1 0) (getD (behind w c) 2 0) ≡ b
-  unfolding seenAt
-  ends-seen ks e = sym (e ∙ ap (λ (x : Seen). someEnd ks (x .last) (x .second) (x .third)) is)
-
-  -- what they rule out of a group
+  -- what the last letters seen rule out of a group
   pub someEnd-seen : (ks : List ℕ) {b : Bool} → b ≡ someEnd ks (s .last) (s .second) (s .third) → b ≡ false → firstOf ks (behind w c) ≡ none
-  someEnd-seen ks e fails = someEnd-unfit ks (behind w c) (ends-seen ks e ∙ fails)
+  unfolding seenAt
+  someEnd-seen ks e fails = someEnd-unfit ks (behind w c) (ap (λ (x : Seen). someEnd ks (x .last) (x .second) (x .third)) (sym is) ∙ sym e ∙ fails)
 
-  module _ {b : Bool} (e : b ≡ personEnd (s .last)) where
-    -- the last letter seen is that behind the record
-    last-seen : personEnd (getD (behind w c) 0 0) ≡ b
-    unfolding seenAt
-    last-seen = sym (e ∙ ap (λ (x : Seen). personEnd (x .last)) is)
+  -- the last letter seen is that behind the record
+  last-seen : {b : Bool} → personEnd (s .last) ≡ b → personEnd (getD (behind w c) 0 0) ≡ b
+  unfolding seenAt
+  last-seen e = ap (λ (x : Seen). personEnd (x .last)) (sym is) ∙ e
 
-    -- where it is none of a person's ending, ymUs_ stands alone
-    pub person-none : b ≡ false → trace (person then mark ymUs) (behind w c) ≡ traceOf ymUs (behind w c)
-    person-none fails = person-absent (behind w c) (someEnd-unfit _ _ (person-letters _ _ _ (last-seen ∙ fails)))
+  -- where it is that of a person's ending, and none fits, nor does ymUs_
+  pub person-unfit : personEnd (s .last) ≡ true → firstOf personMarks (behind w c) ≡ none → trace (person then mark ymUs) (behind w c) ≡ none
+  unfolding numbered
+  person-unfit ends fails = person-absent (behind w c) fails ∙ traceOf-unfit 11 (behind w c) (person-not-ymUs _ _ _ (last-seen ends))
 
-    -- where it is that of one, and none fits, nor does ymUs_
-    pub person-unfit : b ≡ true → firstOf personMarks (behind w c) ≡ none → trace (person then mark ymUs) (behind w c) ≡ none
-    unfolding numbered
-    person-unfit ends fails = person-absent (behind w c) fails ∙ traceOf-unfit 11 (behind w c) (person-not-ymUs _ _ _ (last-seen ∙ ends))
+  -- where it is none of one's, none fits
+  person-none : personEnd (s .last) ≡ false → firstOf personMarks (behind w c) ≡ none
+  person-none fails = someEnd-unfit _ _ (person-letters _ _ _ (last-seen fails))
 
 -- a command from what is seen is one from the record
 pub reach-seen : (w : List ℕ) (c : Cursor) (q : List ℕ → Trace) {s : Seen} {r : Marked} → s ≡ seenAt w c → r ≡ reach w (s .c) (q (behind w (s .c)))
     → r ≡ reach w c (q (behind w c))
 reach-seen w c q e is = is ∙ ap (λ (x : Cursor). reach w x (q (behind w x))) (seen-c w c e)
+
+-- and so where it keeps more than one mark
+pub along-seen : (w : List ℕ) (c : Cursor) (q : List ℕ → Trace) {s : Seen} {r : Branch} → s ≡ seenAt w c → r ≡ along w (s .c) (q (behind w (s .c)))
+    → r ≡ along w c (q (behind w c))
+along-seen w c q e is = is ∙ ap (λ (x : Cursor). along w x (q (behind w x))) (seen-c w c e)
+
+-- ymUs_ stands alone where the last letter seen is none of a person's ending
+pub along-alone : (w : List ℕ) (c : Cursor) {s : Seen} {r : Branch} → s ≡ seenAt w c → personEnd (s .last) ≡ false
+    → r ≡ along w (s .c) (trace (mark ymUs) (behind w (s .c))) → r ≡ along w c (trace (person then mark ymUs) (behind w c))
+unfolding trace
+along-alone w c e fails is = along-seen w c (traceOf ymUs) e is ∙ sym (ap (along w c) (person-absent (behind w c) (person-none w c e fails)))
+
+-- ---- what the last letters rule out ----
+
+-- with which branches a text may begin
+abbrev pub startsAt : List ℕ → Starts
+startsAt cs = startsOf (getD cs 0 0) (getD cs 1 0) (getD cs 2 0)
+
+-- a branch with which it may not begin keeps nothing
+module _ (cs : List ℕ) {m : Starts} (e : m ≡ startsAt cs) where
+  pub first-out : m .first ≡ false → trace branch1 cs ≡ none
+  unfolding startsOf branch1 numbered
+  first-out fails = sym (group-four cs 11 9 10 12) ∙ someEnd-unfit _ cs (ap (λ (x : Starts). x .first) (sym e) ∙ fails)
+
+  pub second-out : m .second ≡ false → trace branch2 cs ≡ none
+  unfolding startsOf trace branch2 numbered
+  second-out fails = after-none _ _ (traceOf-unfit 8 cs (ap (λ (x : Starts). x .second) (sym e) ∙ fails))
+
+  pub third-out : m .third ≡ false → trace branch3 cs ≡ none
+  unfolding startsOf trace branch3 numbered
+  third-out fails = after-none _ _ (traceOf-unfit 5 cs (ap (λ (x : Starts). x .third) (sym e) ∙ fails))
+
+  pub fourth-out : m .fourth ≡ false → trace branch4 cs ≡ none
+  unfolding startsOf trace branch4 numbered
+  fourth-out fails = after-none _ _ (traceOf-unfit 6 cs (ap (λ (x : Starts). x .fourth) (sym e) ∙ fails))
+
+  pub fifth-out : m .fifth ≡ false → trace branch5 cs ≡ none
+  unfolding startsOf trace branch5 numbered
+  fifth-out fails = after-none _ _ (sym (group-four cs 4 3 2 1) ∙ someEnd-unfit _ cs (ap (λ (x : Starts). x .fifth) (sym e) ∙ fails))
+
+  pub sixth-out : m .sixth ≡ false → trace branch6 cs ≡ none
+  unfolding startsOf trace branch6 numbered
+  sixth-out fails = after-none _ _ (traceOf-unfit 7 cs (ap (λ (x : Starts). x .sixth) (sym e) ∙ fails))
+
+-- a branch that keeps nothing is passed over
+pub passed-over : (b q : Command) (cs : List ℕ) → trace b cs ≡ none → trace (b or q) cs ≡ trace q cs
+unfolding trace firstTrace
+passed-over b q cs e = ap (λ (o : Trace). firstTrace o (trace q cs)) e
 
 -- ---- the stage ----
 
@@ -183,23 +226,15 @@ module _ (w : List ℕ) {s : Seen} (is : s ≡ seenAt w (whole w)) where
       e ∙ ap (λ (c : Cursor). cutTo w c (trace b (behind w c))) (seen-c w (whole w) is)
       ∙ ap (λ (cs : List ℕ). cutTo w (whole w) (trace b cs)) (behind-before w (length w) (length w))
 
-  -- and what the last letters seen rule out is ruled out by those
-  pub someEnd-whole : (ks : List ℕ) {b : Bool} → b ≡ someEnd ks (s .last) (s .second) (s .third) → b ≡ false
-      → someEnd ks (getD (chars w) 0 0) (getD (chars w) 1 0) (getD (chars w) 2 0) ≡ false
-  unfolding chars whole
-  someEnd-whole ks e fails =
-      ap (λ (cs : List ℕ). someEnd ks (getD cs 0 0) (getD cs 1 0) (getD cs 2 0)) (sym (behind-before w (length w) (length w)))
-      ∙ ends-seen w (whole w) is ks e ∙ fails
+  -- and the last letters seen there are the word's
+  pub starts-end : {m : Starts} → m ≡ startsOf (s .last) (s .second) (s .third) → m ≡ startsAt (chars w)
+  unfolding chars whole seenAt
+  starts-end e = e ∙ ap (λ (x : Seen). startsOf (x .last) (x .second) (x .third)) is ∙ ap startsAt (behind-before w (length w) (length w))
 
   module _ (b : Command) {r : Branch} (e : r ≡ cutTo w (s .c) (trace b (behind w (s .c)))) where
-    -- a branch that does not fit is passed over
-    pub branch-unfit : (q : Command) → r ≡ Unfit → trace (b or q) (chars w) ≡ trace q (chars w)
-    unfolding trace firstTrace
-    branch-unfit q fails = ap (λ (o : Trace). firstTrace o (trace q (chars w))) (cut-unfit w (whole w) (trace b (chars w)) (at-end b e) fails)
-
-    -- where the last one does not, nor does the stage find an ending
-    pub outcome-unfit : r ≡ Unfit → trace branches (chars w) ≡ trace b (chars w) → uncut (length w) ≡ outcomeOf w
-    outcome-unfit fails left = outcome-none w (left ∙ cut-unfit w (whole w) (trace b (chars w)) (at-end b e) fails)
+    -- a branch that does not fit keeps nothing
+    pub branch-unfit : r ≡ Unfit → trace b (chars w) ≡ none
+    branch-unfit = cut-unfit w (whole w) (trace b (chars w)) (at-end b e)
 
     module _ {f : Bool} {d : Cursor} {t : Way} (flag : Flagged f (run b (chars w))) (to : r ≡ Fits d t) where
       -- the branch that fits, taken apart

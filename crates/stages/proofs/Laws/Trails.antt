@@ -93,12 +93,6 @@ steps-group w c ks same is to = rw same at (steps-one w c (one-group ks (behind 
 
 -- ---- what a command answers ----
 
--- a command that reaches nothing keeps nothing
-pub reach-fails : (w : List ℕ) (c : Cursor) (o : Trace) {r : Marked} → r ≡ reach w c o → r ≡ Fails → o ≡ none
-unfolding reach
-reach-fails w c none is fails = refl
-reach-fails w c (keeps ts f) is fails = to-fails is fails
-
 -- equal records and marks make equal answers
 fits-same : {d e : Cursor} {t u : Way} → d ≡ e → t ≡ u → Fits d t ≡ Fits e u
 fits-same d t = cc

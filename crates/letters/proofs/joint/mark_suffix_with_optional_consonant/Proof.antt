@@ -20,18 +20,18 @@ sub-part c = low-length-le _ _ (c .before .pre)
 part-part-start : tie.Need-part-part-start
 part-part-start c = low-length-le _ _ (c .before .pre)
 
-sub-read-back : tie.Need-sub-read-back
-sub-read-back c = low-cursor-le _ _ (c .before .before .before .pre)
+sub-read-short-back : tie.Need-sub-read-short-back
+sub-read-short-back c = low-cursor-le _ _ (c .before .before .before .pre)
 
-read-back-requires : tie.Need-read-back-requires
-read-back-requires c κs = cursor-part-le _ _ (c .before .before .before .pre)
+read-short-back-requires : tie.Need-read-short-back-requires
+read-short-back-requires c κs = cursor-part-le _ _ (c .before .before .before .pre)
 
-read-back-requires-2 : tie.Need-read-back-requires-2
-read-back-requires-2 c κs =
+read-short-back-requires-2 : tie.Need-read-short-back-requires-2
+read-short-back-requires-2 c κs =
     let s = c .before .before .before .before in
     let w = now (s .args .w) in
     let r = s .args .c in
-    omega (arith, cursor-part-le w r (s .pre), first-le w r (c .read-back .ensures))
+    omega (arith, cursor-part-le w r (s .pre), first-le w r (c .read-short-back .ensures))
 
 returns : tie.Need-returns
 unfolding notPassed
@@ -39,7 +39,7 @@ returns c =
     let b = c .before .before in
     let a = b .before in
     let s = a .before .before .before .before in
-    passes-wrong (now (s .args .w)) (s .args .c) (a .read-back .ensures) (b .read-back2 .ensures) (s .args .letter ∷ []) true
+    passes-wrong (now (s .args .w)) (s .args .c) (a .read-short-back .ensures) (b .read-short-back2 .ensures) (s .args .letter ∷ []) true
     (sym (c .before .is-vowel .ensures) ∙ not-true _ (c .if1 .taken))
 
 add-to : tie.Need-add-to
@@ -48,7 +48,7 @@ add-to c =
     let s = a .before .before .before .before in
     let w = now (s .args .w) in
     let r = s .args .c in
-    omega (arith, cursor-length-le w r (s .pre), low-cursor-le w r (s .pre), first-le w r (a .read-back .ensures))
+    omega (arith, cursor-length-le w r (s .pre), low-cursor-le w r (s .pre), first-le w r (a .read-short-back .ensures))
 
 returns-2 : tie.Need-returns-2
 returns-2 c =
@@ -58,9 +58,9 @@ returns-2 c =
     let s = a .before .before .before .before in
     let w = now (s .args .w) in
     let is = sym (v .before .is-vowel .ensures) ∙ not-false _ (v .if1 .left) in
-    let stands = sym (has-one (s .args .letter) (a .read-back .result .ch)) ∙ eq-eqb _ _ (c .before .before .if2 .taken) in
-    c .to .ensures ∙ passes-joined w (s .args .c) (a .read-back .ensures) (b .read-back2 .ensures) (s .args .letter ∷ []) true
-    (second-vowel w (s .args .c) (a .read-back .ensures) (b .read-back2 .ensures) is) is stands
+    let stands = sym (has-one (s .args .letter) (a .read-short-back .result .ch)) ∙ eq-eqb _ _ (c .before .before .if2 .taken) in
+    c .to .ensures ∙ passes-joined w (s .args .c) (a .read-short-back .ensures) (b .read-short-back2 .ensures) (s .args .letter ∷ []) true
+    (second-vowel w (s .args .c) (a .read-short-back .ensures) (b .read-short-back2 .ensures) is) is stands
 
 returns-3 : tie.Need-returns-3
 returns-3 c =
@@ -70,12 +70,12 @@ returns-3 c =
     let s = a .before .before .before .before in
     let w = now (s .args .w) in
     let is = sym (v .before .is-vowel .ensures) ∙ not-false _ (v .if1 .left) in
-    let stands-not = sym (has-one (s .args .letter) (a .read-back .result .ch)) ∙ ne-eqb _ _ (c .before .if2 .left) in
-    c .to2 .ensures ∙ passes-free w (s .args .c) (a .read-back .ensures) (b .read-back2 .ensures) (s .args .letter ∷ []) true
-    (second-vowel w (s .args .c) (a .read-back .ensures) (b .read-back2 .ensures) is) is (s .pre) stands-not
+    let stands-not = sym (has-one (s .args .letter) (a .read-short-back .result .ch)) ∙ ne-eqb _ _ (c .before .if2 .left) in
+    c .to2 .ensures ∙ passes-free w (s .args .c) (a .read-short-back .ensures) (b .read-short-back2 .ensures) (s .args .letter ∷ []) true
+    (second-vowel w (s .args .c) (a .read-short-back .ensures) (b .read-short-back2 .ensures) is) is (s .pre) stands-not
 
 pub mark-suffix-with-optional-consonant-spec : {M : Type 1} → statement M
 mark-suffix-with-optional-consonant-spec =
     tie.close
-    (tie.spec sub-part part-part-start (λ c. search needs) sub-read-back read-back-requires read-back-requires-2 (λ c κs. search needs)
+    (tie.spec sub-part part-part-start (λ c. search needs) sub-read-short-back read-short-back-requires read-short-back-requires-2 (λ c κs. search needs)
     returns add-to (λ c κs. search needs) returns-2 (λ c κs. search needs) returns-3)

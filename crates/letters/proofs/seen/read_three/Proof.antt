@@ -2,7 +2,7 @@
 use native.Mathlib.Omega.{arith}
 use denote.Ref.{now}
 use Rattle.letters.proofs.Laws.Part.{low-length-le, low-cursor-le, cursor-length-le, cursor-part-le}
-use Rattle.letters.proofs.Laws.Reads.{first-le, second-le, third-le, seenAt-made}
+use Rattle.letters.proofs.Laws.Reads.{first-le, second-le, third-le, threeAt-made}
 use borrow.Author.Needs.{needs}
 use Rattle.letters.proofs.seen.read_three.Statement.{statement}
 use Rattle.letters.proofs.seen.read_three.Tie as tie
@@ -67,7 +67,7 @@ returns c =
     let b = d .before in
     let a = b .before in
     let s = a .before .before .before .before in
-    seenAt-made (now (s .args .w)) (s .args .c) (a .read-short-back .ensures) (b .read-short-back2 .ensures) (d .read-short-back3 .ensures)
+    threeAt-made (now (s .args .w)) (s .args .c) (a .read-short-back .ensures) (b .read-short-back2 .ensures) (d .read-short-back3 .ensures)
 
 pub read-three-spec : {M : Type 1} → statement M
 read-three-spec =

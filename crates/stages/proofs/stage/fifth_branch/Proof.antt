@@ -1,9 +1,8 @@
 -- `stages::stage::fifth_branch` meets its contract: ymUs_ is tried from where a person's ending leads, after its deletion. In each answer a
--- is the place behind that ending's record, g behind the group, e behind the deletion, and m behind ymUs_. Assumes nothing.
+-- is the place behind that ending's record, g behind the group, e behind the deletion, m behind ymUs_, and f behind that one's record.
+-- Assumes nothing.
 use mathlib.Core.Path.{sym, _∙_}
-use mathlib.Core.List.{[], _∷_}
 use borrow.Author.Needs.{needs}
-use borrow.Author.Tests.{not-true}
 use Rattle.turkish.specs.Simple.Grammar.{try}
 use Rattle.turkish.specs.Simple.Marks.{ymUs}
 use Rattle.turkish.specs.Simple.Pieces.{traceOf, trace}
@@ -12,25 +11,16 @@ use Rattle.letters.specs.Numbered.{numbered}
 use Rattle.letters.proofs.Laws.Sees.{sees-made}
 use Rattle.letters.proofs.Laws.Accord.{listens-unasked}
 use Rattle.letters.specs.Accord.{noAccord}
+use Rattle.marks.proofs.Laws.Marks.{reach-fails}
 use Rattle.stages.specs.Trail.{noStop, noTrail, noWay}
-use Rattle.stages.proofs.Laws.Trails.{steps-mark, steps-group, reach-fails, cut-none, after-none, open-cut, along-step, try-cut, try-none}
-use Rattle.stages.proofs.Laws.Branches.{someEnd-seen, reach-seen, group-four}
+use Rattle.stages.proofs.Laws.Trails.{steps-mark, steps-group, cut-none, after-none, open-cut, along-step, try-cut, try-none}
+use Rattle.stages.proofs.Laws.Branches.{reach-seen, group-four}
 use Rattle.stages.proofs.stage.fifth_branch.Statement.{statement}
 use Rattle.stages.proofs.stage.fifth_branch.Tie as tie
 
 returns : tie.Need-returns
 unfolding trace branch5 numbered
 returns c =
-    let s = c .before .before .before in
-    let fails = someEnd-seen _ _ (s .pre .0 .is) (4 ∷ 3 ∷ 2 ∷ 1 ∷ []) (c .before .ends-fifth .ensures) (not-true _ (c .if1 .taken)) in
-    cut-none _ _ _ (after-none _ _ (sym (group-four _ 4 3 2 1) ∙ fails))
-
-first-of-requires : tie.Need-first-of-requires
-first-of-requires c κs = let s = c .before .before .before .before in (s .pre .0, s .pre .1)
-
-returns-2 : tie.Need-returns-2
-unfolding trace branch5 numbered
-returns-2 c =
     cut-none _ _ _ (after-none _ _ (sym (group-four _ 4 3 2 1) ∙ reach-fails _ _ _ (c .before .before .first-of .ensures) (c .enum-told .given .1)))
 
 look-back-requires : tie.Need-look-back-requires
@@ -38,26 +28,26 @@ look-back-requires c κs =
     let a = c .before .before in
     let g = a .before .before in
     let step = steps-group _ _ _ (group-four _ 4 3 2 1) (g .first-of .ensures) (a .c .given .1) in
-    open-cut _ _ step (c .deleted .ensures) (g .before .before .before .before .before .pre .0 .opens)
+    open-cut _ _ step (c .deleted .ensures) (g .before .before .before .pre .0 .opens)
 
 one-of-requires : tie.Need-one-of-requires
 one-of-requires c κs = (sees-made _ _ (c .look-back .ensures) (look-back-requires (c .before) κs), listens-unasked _ (c .look-back .result .c))
 
-returns-3 : tie.Need-returns-3
+returns-2 : tie.Need-returns-2
 unfolding trace try branch5 numbered noWay noTrail noStop noAccord
-returns-3 c =
+returns-2 c =
     let m = c .before .before .before in
     let e = m .before .before in
     let a = e .before .before in
     let g = a .before .before in
     let step = steps-group _ _ _ (group-four _ 4 3 2 1) (g .first-of .ensures) (a .c .given .1) in
     let is = reach-seen _ _ (traceOf ymUs) (m .before .look-back .ensures) (m .one-of .ensures) in
-    try-none _ _ step (traceOf ymUs) (e .deleted .ensures) (g .before .before .before .before .before .pre .0 .opens)
+    try-none _ _ step (traceOf ymUs) (e .deleted .ensures) (g .before .before .before .pre .0 .opens)
     (reach-fails _ _ _ is (c .before .enum-told2 .given .1)) (c .behind .ensures)
 
-returns-4 : tie.Need-returns-4
+returns-3 : tie.Need-returns-3
 unfolding trace try branch5 numbered noWay noTrail noStop noAccord
-returns-4 c =
+returns-3 c =
     let f = c .before .before .before .before in
     let m = f .before .before in
     let e = m .before .before in
@@ -71,6 +61,6 @@ returns-4 c =
 pub fifth-branch-spec : {M : Type 1} → statement M
 fifth-branch-spec =
     tie.close
-    (tie.spec (λ c κs. search needs) returns (λ c. search needs) first-of-requires (λ c. search needs) (λ c. search needs) returns-2
-    (λ c κs. search needs) look-back-requires one-of-requires (λ c. search needs) (λ c. search needs) (λ c κs. search needs) returns-3
-    (λ c κs. search needs) (λ c κs. search needs) (λ c κs. search needs) returns-4)
+    (tie.spec (λ c. search needs) (λ c κs. search needs) (λ c. search needs) (λ c. search needs) returns (λ c κs. search needs)
+    look-back-requires one-of-requires (λ c. search needs) (λ c. search needs) (λ c κs. search needs) returns-2 (λ c κs. search needs)
+    (λ c κs. search needs) (λ c κs. search needs) returns-3)

@@ -12,29 +12,30 @@ use Rattle.letters.specs.Numbered.{numbered, firstOf}
 use Rattle.letters.proofs.Laws.Sees.{sees-made}
 use Rattle.letters.proofs.Laws.Accord.{listens-unasked}
 use Rattle.letters.specs.Accord.{noAccord}
+use Rattle.marks.proofs.Laws.Marks.{reach-fails}
 use Rattle.stages.specs.Trail.{noStop, noTrail, noWay}
-use Rattle.stages.proofs.Laws.Trails.{steps-mark, steps-group, reach-fails, cut-none, after-none, open-step, along-step, then-none, then-cut}
+use Rattle.stages.proofs.Laws.Trails.{steps-mark, steps-group, cut-none, after-none, open-step, along-step, then-none, then-cut}
 use Rattle.stages.proofs.Laws.Branches.{someEnd-seen, reach-seen, group-two}
 use Rattle.stages.proofs.stage.fourth_branch.Statement.{statement}
 use Rattle.stages.proofs.stage.fourth_branch.Tie as tie
 
 returns : tie.Need-returns
 unfolding trace branch4 numbered
-returns c = cut-none _ _ _ (after-none _ _ (reach-fails _ _ _ (c .before .before .one-of .ensures) (c .enum-told .given .1)))
+returns c = cut-none _ _ _ (after-none _ _ (reach-fails _ _ _ (c .before .before .full-mark .ensures) (c .enum-told .given .1)))
 
 look-back-requires : tie.Need-look-back-requires
 unfolding numbered
 look-back-requires c κs =
     let a = c .before in
     let m = a .before .before in
-    open-step _ _ (steps-mark _ _ nUz (m .one-of .ensures) (a .c .given .1)) (m .before .before .pre .0 .opens)
+    open-step _ _ (steps-mark _ _ nUz (m .full-mark .ensures) (a .c .given .1)) (m .before .before .pre .0 .opens)
 
 returns-2 : tie.Need-returns-2
 unfolding trace branch4 numbered
 returns-2 c =
     let l = c .before .before in
     let a = l .before .before in
-    let step = steps-mark _ _ nUz (a .before .before .one-of .ensures) (a .c .given .1) in
+    let step = steps-mark _ _ nUz (a .before .before .full-mark .ensures) (a .c .given .1) in
     let fails = someEnd-seen _ _ (l .look-back .ensures) (9 ∷ 10 ∷ []) (c .before .ends-after-nUz .ensures) (not-true _ (c .if1 .taken)) in
     cut-none _ _ _ (then-none _ _ step (trace (mark yDU or mark ysA)) (sym (group-two _ 9 10) ∙ fails))
 
@@ -49,7 +50,7 @@ returns-3 c =
     let g = c .before .before in
     let l = g .before .before .before .before in
     let a = l .before .before in
-    let step = steps-mark _ _ nUz (a .before .before .one-of .ensures) (a .c .given .1) in
+    let step = steps-mark _ _ nUz (a .before .before .full-mark .ensures) (a .c .given .1) in
     let is = reach-seen _ _ (firstOf (9 ∷ 10 ∷ [])) (l .look-back .ensures) (g .first-of .ensures) in
     cut-none _ _ _ (then-none _ _ step (trace (mark yDU or mark ysA)) (sym (group-two _ 9 10) ∙ reach-fails _ _ _ is (c .enum-told2 .given .1)))
 
@@ -60,7 +61,7 @@ returns-4 c =
     let g = d .before .before in
     let l = g .before .before .before .before in
     let a = l .before .before in
-    let step = steps-mark _ _ nUz (a .before .before .one-of .ensures) (a .c .given .1) in
+    let step = steps-mark _ _ nUz (a .before .before .full-mark .ensures) (a .c .given .1) in
     let is = reach-seen _ _ (firstOf (9 ∷ 10 ∷ [])) (l .look-back .ensures) (g .first-of .ensures) in
     let next = steps-group _ _ _ (group-two _ 9 10) is (d .d .given .1) in
     then-cut _ _ step (trace (mark yDU or mark ysA)) (along-step _ _ next (c .before .behind .ensures)) (c .before .before .deleted .ensures) (c .behind2 .ensures)

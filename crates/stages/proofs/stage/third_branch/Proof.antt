@@ -12,22 +12,23 @@ use Rattle.letters.specs.Numbered.{numbered, firstOf}
 use Rattle.letters.proofs.Laws.Sees.{sees-made}
 use Rattle.letters.proofs.Laws.Accord.{listens-unasked}
 use Rattle.letters.specs.Accord.{noAccord}
+use Rattle.marks.proofs.Laws.Marks.{reach-fails}
 use Rattle.stages.specs.Trail.{noStop, noTrail, noWay}
-use Rattle.stages.proofs.Laws.Trails.{steps-mark, steps-group, reach-fails, cut-none, after-none, open-cut, along-step, try-cut, try-none}
+use Rattle.stages.proofs.Laws.Trails.{steps-mark, steps-group, cut-none, after-none, open-cut, along-step, try-cut, try-none}
 use Rattle.stages.proofs.Laws.Branches.{afterLAr, cut-unset, someEnd-seen, reach-seen, group-four}
 use Rattle.stages.proofs.stage.third_branch.Statement.{statement}
 use Rattle.stages.proofs.stage.third_branch.Tie as tie
 
 returns : tie.Need-returns
 unfolding trace branch3 numbered
-returns c = cut-none _ _ _ (after-none _ _ (reach-fails _ _ _ (c .before .before .one-of .ensures) (c .enum-told .given .1)))
+returns c = cut-none _ _ _ (after-none _ _ (reach-fails _ _ _ (c .before .before .full-mark .ensures) (c .enum-told .given .1)))
 
 look-back-requires : tie.Need-look-back-requires
 unfolding numbered
 look-back-requires c κs =
     let a = c .before .before in
     let m = a .before .before in
-    open-cut _ _ (steps-mark _ _ lAr (m .one-of .ensures) (a .c .given .1)) (c .deleted .ensures) (m .before .before .pre .0 .opens)
+    open-cut _ _ (steps-mark _ _ lAr (m .full-mark .ensures) (a .c .given .1)) (c .deleted .ensures) (m .before .before .pre .0 .opens)
 
 returns-2 : tie.Need-returns-2
 unfolding trace try branch3 numbered noWay noTrail noStop noAccord
@@ -36,7 +37,7 @@ returns-2 c =
     let e = l .before in
     let a = e .before .before in
     let m = a .before .before in
-    let step = steps-mark _ _ lAr (m .one-of .ensures) (a .c .given .1) in
+    let step = steps-mark _ _ lAr (m .full-mark .ensures) (a .c .given .1) in
     let t = c .before in
     let fails = someEnd-seen _ _ (l .look-back .ensures) afterLAr (t .before .ends-after-lAr .ensures) (not-true _ (t .if1 .taken)) in
     try-none _ _ step (trace (mark DUr or mark yDU or mark ysA or mark ymUs)) (e .deleted .ensures) (m .before .before .pre .0 .opens)
@@ -56,7 +57,7 @@ returns-3 c =
     let e = l .before in
     let a = e .before .before in
     let m = a .before .before in
-    let step = steps-mark _ _ lAr (m .one-of .ensures) (a .c .given .1) in
+    let step = steps-mark _ _ lAr (m .full-mark .ensures) (a .c .given .1) in
     let is = reach-seen _ _ (firstOf afterLAr) (l .look-back .ensures) (g .first-of .ensures) in
     try-none _ _ step (trace (mark DUr or mark yDU or mark ysA or mark ymUs)) (e .deleted .ensures) (m .before .before .pre .0 .opens)
     (sym (group-four _ 7 9 10 11) ∙ reach-fails _ _ _ is (c .before .enum-told2 .given .1)) (c .behind2 .ensures)
@@ -70,7 +71,7 @@ returns-4 c =
     let l = g .before .before .before .before in
     let e = l .before in
     let a = e .before .before in
-    let step = steps-mark _ _ lAr (a .before .before .one-of .ensures) (a .c .given .1) in
+    let step = steps-mark _ _ lAr (a .before .before .full-mark .ensures) (a .c .given .1) in
     let is = reach-seen _ _ (firstOf afterLAr) (l .look-back .ensures) (g .first-of .ensures) in
     let next = steps-group _ _ _ (group-four _ 7 9 10 11) is (f .e .given .1) in
     try-cut _ _ step (trace (mark DUr or mark yDU or mark ysA or mark ymUs)) (e .deleted .ensures) (along-step _ _ next (c .before .behind3 .ensures))
