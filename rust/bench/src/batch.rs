@@ -3,8 +3,10 @@
 
 use crate::measure::{in_turn, passes};
 use compare::words::filled::filled;
+use compare::words::read_vocabulary;
 use fannavy::{LIMIT, TAILS, TAIL_LEAST};
 use std::hint::black_box;
+use std::path::Path;
 use std::time::{Duration, Instant};
 
 const COMPOUND: &str = "elektromanyetikuyum";
@@ -19,7 +21,19 @@ const STEMS: [&str; 8] = [
     "doğrulamabelgeleri",
     "uygunlukbeyannamesi",
 ];
+// Endings in harmony with a stem: A is a or e, I is ı or i, and a y that begins one stands after a vowel only.
 const ENDINGS: [&str; 8] = [
+    "dIr",
+    "lAr",
+    "yken",
+    "ymIş",
+    "sInIz",
+    "ydIlAr",
+    "ymIştIr",
+    "ymIşcAsInA",
+];
+// Endings behind any stem: harmony is looked for far back, and often in vain.
+const FOREIGN: [&str; 8] = [
     "dır",
     "ler",
     "yken",
@@ -41,8 +55,8 @@ struct Row {
     tails: Vec<String>,
 }
 
-/// The table, in Markdown; the error is a message that the answers differ.
-pub fn table(rounds: usize) -> Result<String, String> {
+/// The table, in Markdown; the error is a message about the vocabulary's file, or that the answers differ.
+pub fn table(vocabulary: &Path, rounds: usize) -> Result<String, String> {
     let mut table = format!(
         "Nanoseconds a tail, median of {rounds} rounds: one batch of a slice that is there, and of one that the host builds; and the suffix stage of
 each joined word, which the host builds anew, or behind the front that stays in a buffer. Ratio: the time of the batch of a slice that is there
@@ -51,7 +65,9 @@ over the host's; below 1, the batch is faster.
 | front and tails | tails | bytes a word | batch | slice built | words built anew | ratio | front kept | ratio |
 |---|--:|--:|--:|--:|--:|--:|--:|--:|"
     );
-    for row in rows() {
+    let mut rows = rows();
+    rows.insert(2, of_vocabulary(&read_vocabulary(vocabulary)?));
+    for row in rows {
         table.push('\n');
         table.push_str(&line(&row, rounds)?);
     }
@@ -67,7 +83,7 @@ fn rows() -> Vec<Row> {
     let far = LIMIT - TAIL_LEAST;
     let bare = filled("bcdfgkl", far);
     let vowel = format!("e{}", &bare[1..]);
-    let (one_vowel, ordinary) = (one_vowel(), ends(&ENDINGS));
+    let (one_vowel, ordinary) = (one_vowel(), ends(&ENDINGS, harmonic));
     vec![
         row(
             &format!("{far} bytes, a vowel at the start"),
@@ -77,9 +93,14 @@ fn rows() -> Vec<Row> {
         row(&format!("{far} bytes without a vowel"), &bare, &one_vowel),
         row("an ordinary compound", COMPOUND, &ordinary),
         row(
+            "the same, endings out of harmony",
+            COMPOUND,
+            &ends(&FOREIGN, joined),
+        ),
+        row(
             "the same, tails without an ending",
             COMPOUND,
-            &ends(&OTHERS),
+            &ends(&OTHERS, joined),
         ),
         row("a short front, tails with endings", "ev", &ordinary),
         row("an ordinary compound, one tail", COMPOUND, &ordinary[..1]),
@@ -102,16 +123,55 @@ fn one_vowel() -> Vec<String> {
     (0..TAILS).map(tail).collect()
 }
 
+// Tails as the vocabulary has them: the last 16 characters of words all over it, with endings and without.
+fn of_vocabulary(words: &[String]) -> Row {
+    let long: Vec<&String> = words
+        .iter()
+        .filter(|w| characters(w) >= TAIL_LEAST)
+        .collect();
+    let each = (long.len() / TAILS).max(1);
+    let tails = long.iter().step_by(each).take(TAILS);
+    Row {
+        name: "an ordinary compound, tails of the vocabulary".to_string(),
+        front: COMPOUND.to_string(),
+        tails: tails.map(|word| last(word)).collect(),
+    }
+}
+
 // The last 16 characters of every stem with each of these.
-fn ends(endings: &[&str]) -> Vec<String> {
+fn ends(endings: &[&str], join: fn(&str, &str) -> String) -> Vec<String> {
     let words = STEMS
         .iter()
-        .flat_map(|stem| endings.iter().map(move |ending| [*stem, ending].concat()));
+        .flat_map(|stem| endings.iter().map(move |ending| join(stem, ending)));
     words.map(|word| last(&word)).collect()
 }
 
+fn joined(stem: &str, ending: &str) -> String {
+    [stem, ending].concat()
+}
+
+// The last vowel decides; no stem's last one is rounded.
+fn harmonic(stem: &str, ending: &str) -> String {
+    let mut vowels = stem.chars().rev().filter(|&ch| is_vowel(ch));
+    let back = matches!(vowels.next(), Some('a' | 'ı'));
+    let ending = match stem.chars().last() {
+        Some(ch) if is_vowel(ch) => ending,
+        _ => ending.trim_start_matches('y'),
+    };
+    let (a, i) = if back { ("a", "ı") } else { ("e", "i") };
+    joined(stem, &ending.replace('A', a).replace('I', i))
+}
+
+fn is_vowel(ch: char) -> bool {
+    "aeıioöuü".contains(ch)
+}
+
+fn characters(word: &str) -> usize {
+    word.chars().count()
+}
+
 fn last(word: &str) -> String {
-    let more = word.chars().count() - TAIL_LEAST;
+    let more = characters(word) - TAIL_LEAST;
     word.chars().skip(more).collect()
 }
 
@@ -206,7 +266,7 @@ mod tests {
     fn tails_are_different_and_of_sixteen_characters() {
         for row in rows() {
             let mut tails = row.tails.iter();
-            assert!(tails.all(|tail| tail.chars().count() == TAIL_LEAST));
+            assert!(tails.all(|tail| characters(tail) == TAIL_LEAST));
             let different: BTreeSet<&String> = row.tails.iter().collect();
             assert_eq!(different.len(), row.tails.len(), "{}", row.name);
             assert!([1, ENDINGS.len(), TAILS].contains(&row.tails.len()));
@@ -221,6 +281,12 @@ mod tests {
     }
 
     #[test]
+    fn endings_follow_the_stem() {
+        assert_eq!(harmonic("göstergeler", "ymIştIr"), "göstergelermiştir");
+        assert_eq!(harmonic("yapması", "ydIlAr"), "yapmasıydılar");
+    }
+
+    #[test]
     fn the_sides_agree() {
         for row in rows() {
             let sums = batch(&row.front, &row.tails.join("\n"));
@@ -232,8 +298,9 @@ mod tests {
     #[test]
     fn endings_are_where_they_should_be() {
         let removed: Vec<usize> = rows().iter().map(removed).collect();
-        assert_eq!((removed[1], removed[3], removed[5]), (0, 0, 1));
-        for row in [0, 2, 4] {
+        assert_eq!((removed[1], removed[2], removed[4]), (0, TAILS, 0));
+        assert_eq!(removed[5..], [TAILS, 1, ENDINGS.len()]);
+        for row in [0, 3] {
             assert!(removed[row] >= TAILS / 2, "{removed:?}");
         }
     }

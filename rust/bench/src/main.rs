@@ -71,7 +71,8 @@ fn run(settings: &Settings) -> Result<(), String> {
     }
     calls(settings)?;
     snowball(settings)?;
-    println!("\n{}", batch::table(settings.rounds)?);
+    let batches = batch::table(&settings.vocabulary, settings.rounds)?;
+    println!("\n{batches}");
     programs(settings)
 }
 
