@@ -1,5 +1,5 @@
--- The last letters of the marks' keys, as the code tests them before it searches a table; U, A and D as in the marks' names.
--- Assumes nothing.
+-- The last letters of the marks' keys, as the code tests them before it searches a table, and the branches that they leave; U, A and D as in the
+-- marks' names. Assumes nothing.
 use Prim.Native.Nat.{ℕ}
 use Prim.Native.Char.{code}
 use mathlib.Core.Bool.{Bool, false, cond, _&&_, _||_}
@@ -45,7 +45,7 @@ someEnd ks a b c = any (λ k. mayEnd k a b c) ks
 unfoldable pub personEnd : ℕ → Bool
 personEnd a = (eqb a (code "r") || eqb a (code "z")) || (eqb a (code "m") || eqb a (code "n"))
 
--- with which branches of the suffix stage a text that ends in them may begin, and whether a mark that tests harmony may
+-- which branches of the suffix stage may fit a text that ends in them, and whether one may that begins with a mark which tests harmony
 unfoldable pub startsOf : ℕ → ℕ → ℕ → Starts
 startsOf a b c =
     record {
@@ -77,6 +77,6 @@ letterR = code "r"
 abbrev pub letterZ : ℕ
 letterZ = code "z"
 
--- with the first or the fifth at most
+-- the first or the fifth at most
 unfoldable pub firstOrFifth : Bool → Bool → Bool → Starts
 firstOrFifth one five heard = record { first = one; second = false; third = false; fourth = false; fifth = five; sixth = false; harmonic = heard }

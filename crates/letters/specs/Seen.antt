@@ -9,20 +9,7 @@ use Rattle.letters.specs.declared.seen.Seen.{Seen}
 use Rattle.letters.specs.declared.seen.Three.{Three}
 
 -- the three characters behind the record, 0 where there are fewer, and the places before them
-unfoldable pub seenAt : List ℕ → Cursor → Seen
-seenAt w c =
-    record {
-      c = c;
-      one = backBy w c 1 .cursor;
-      last = getD (behind w c) 0 0;
-      two = backBy w c 2 .cursor;
-      second = getD (behind w c) 1 0;
-      three = backBy w c 3 .cursor;
-      third = getD (behind w c) 2 0;
-    }
-
--- the characters and the places alone
-unfoldable pub threeAt : List ℕ → Cursor → Three
+abbrev pub threeAt : List ℕ → Cursor → Three
 threeAt w c =
     record {
       one = backBy w c 1 .cursor;
@@ -33,9 +20,13 @@ threeAt w c =
       third = getD (behind w c) 2 0;
     }
 
--- and with a record
-unfoldable pub seenFrom : Three → Cursor → Seen
+-- these with a record
+abbrev pub seenFrom : Three → Cursor → Seen
 seenFrom t c = record { c = c; one = t .one; last = t .last; two = t .two; second = t .second; three = t .three; third = t .third }
+
+-- and with the one that they stand behind
+unfoldable pub seenAt : List ℕ → Cursor → Seen
+seenAt w c = seenFrom (threeAt w c) c
 
 -- an open record with what is seen from it
 pub record Sees (w : List ℕ) (s : Seen) : Type 0 where

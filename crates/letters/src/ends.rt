@@ -1,4 +1,5 @@
-// The last letters of the marks' keys, tested before a table is searched: most marks fail by these alone.
+// The last letters of the marks' keys, tested before a table is searched: most marks fail by these alone, and most branches of the suffix stage
+// are ruled out by them.
 ghost use mathlib.Core.Path.{_≡_};
 ghost use mathlib.Core.List.{[], _∷_};
 ghost use Rattle.letters.specs.Ends.{isU, isA, isD, isKMN, mayEnd, someEnd, personEnd, letterA, letterK, letterM, letterN, letterR, letterZ, firstOrFifth, startsOf};
@@ -49,28 +50,28 @@ pub fn may_end(kind: u32, a: u32, b: u32, c: u32) -> bool
     }
 }
 
-// Whether the last character may end a person's ending: lAr, or one of those.
+// Whether the last character may end a person's ending: lAr, sUnUz, yUz, sUn or yUm.
 pub fn ends_person(a: u32) -> bool
     ensures { λ r. ⌜ r ≡ personEnd a ⌝ }
 {
     ((a == 0x72) | (a == 0x7A)) | ((a == 0x6D) | (a == 0x6E))
 }
 
-// Of some mark that may follow lAr: DUr, yDU, ysA, ymUs_.
+// Whether the last three may end a key of some mark that may follow lAr: DUr, yDU, ysA, ymUs_.
 pub fn ends_after_lAr(a: u32, b: u32, c: u32) -> bool
     ensures { λ r. ⌜ r ≡ someEnd (7 ∷ 9 ∷ 10 ∷ 11 ∷ []) a b c ⌝ }
 {
     may_end(7, a, b, c) | (may_end(9, a, b, c) | (may_end(10, a, b, c) | may_end(11, a, b, c)))
 }
 
-// Of some mark that must follow nUz: yDU, ysA.
+// The same of those that must follow nUz: yDU, ysA.
 pub fn ends_after_nUz(a: u32, b: u32, c: u32) -> bool
     ensures { λ r. ⌜ r ≡ someEnd (9 ∷ 10 ∷ []) a b c ⌝ }
 {
     may_end(9, a, b, c) | may_end(10, a, b, c)
 }
 
-// With which branches of the suffix stage a text may begin that has these last letters, and whether with a mark that tests harmony.
+// Which branches of the suffix stage may fit a text that ends in these letters, and whether one may that begins with a mark which tests harmony.
 pub struct Starts {
     pub first: bool,
     pub second: bool,
@@ -92,7 +93,7 @@ impl Starts {
         harmonic: false,
     };
 
-    // With the first or the fifth branch at most.
+    // The first or the fifth branch at most.
     fn first_or_fifth(first: bool, fifth: bool, harmonic: bool) -> Starts
         ensures { λ r. ⌜ r ≡ firstOrFifth first fifth harmonic ⌝ }
     {

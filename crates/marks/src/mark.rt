@@ -151,7 +151,8 @@ fn is_harmonic(kind: u32) -> bool
     }
 }
 
-// The mark with this number, its harmony test included; harmony is walked for only where it is not known.
+// The mark with this number, its harmony test included; harmony is walked for only where it is not known. With several callers it stays a
+// function of its own, and the tests of last letters before it go into those.
 pub fn full_mark(w: &[u8], s: Seen, told: Accord, kind: u32) -> Marked
     requires { ⌜ Sees (now w) s ⌝ }
     requires { ⌜ Listens (now w) (s .c) told ⌝ }
@@ -169,19 +170,6 @@ pub fn full_mark(w: &[u8], s: Seen, told: Accord, kind: u32) -> Marked
         return Marked::Fails;
     }
     Marked::To(s.c.moved_to(p.at), kind, t)
-}
-
-// The same, tried only where the last letters may be those of its keys. With several callers `full_mark` stays a function of its own, while
-// this one is small enough to stand in its callers, with the tests of one mark's letters alone.
-pub fn one_of(w: &[u8], s: Seen, told: Accord, kind: u32) -> Marked
-    requires { ⌜ Sees (now w) s ⌝ }
-    requires { ⌜ Listens (now w) (s .c) told ⌝ }
-    ensures { λ r. ⌜ r ≡ reach (now (w .entry)) (s .c) (traceOf (numbered kind) (behind (now (w .entry)) (s .c))) ⌝ }
-{
-    if !ends::may_end(kind, s.last, s.second, s.third) {
-        return Marked::Fails;
-    }
-    full_mark(w, s, told, kind)
 }
 
 // The first mark of a group that fits before the cursor.

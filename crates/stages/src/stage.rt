@@ -94,7 +94,10 @@ fn ymUs_alone(w: &[u8], s: Seen) -> Branch
     requires { ⌜ Sees (now w) s ⌝ }
     ensures { λ r. ⌜ r ≡ along (now (w .entry)) (s .c) (trace (mark ymUs) (behind (now (w .entry)) (s .c))) ⌝ }
 {
-    let Marked::To(e, kind, told) = mark::one_of(w, s, Accord::UNASKED, mark::YMUS) else {
+    if !ends::may_end(mark::YMUS, s.last, s.second, s.third) {
+        return Branch::Unfit;
+    }
+    let Marked::To(e, kind, told) = mark::full_mark(w, s, Accord::UNASKED, mark::YMUS) else {
         return Branch::Unfit;
     };
     Branch::Fits(e, Way::NONE.behind(kind, e.cursor, told))
@@ -109,20 +112,10 @@ fn person_and_ymUs(w: &[u8], s: Seen) -> Branch
     let Marked::To(d, kind, told) = mark::first_of(w, s, Accord::UNASKED, &PERSON) else {
         return Branch::Unfit;
     };
-    let Marked::To(e, next, heard) = mark::one_of(
-        w,
-        seen::look_back(w, d),
-        Accord::UNASKED,
-        mark::YMUS,
-    ) else {
+    let Branch::Fits(e, rest) = ymUs_alone(w, seen::look_back(w, d)) else {
         return Branch::Unfit;
     };
-    Branch::Fits(
-        e,
-        Way::NONE
-            .behind(next, e.cursor, heard)
-            .behind(kind, d.cursor, told),
-    )
+    Branch::Fits(e, rest.behind(kind, d.cursor, told))
 }
 
 // Line 314: ymUs_, yDU, ysA or yken.
@@ -218,20 +211,10 @@ fn fifth_branch(w: &[u8], s: Seen, t: Accord) -> Branch
         return Branch::Unfit;
     };
     let d = c.deleted();
-    let Marked::To(e, next, heard) = mark::one_of(
-        w,
-        seen::look_back(w, d),
-        Accord::UNASKED,
-        mark::YMUS,
-    ) else {
+    let Branch::Fits(e, rest) = ymUs_alone(w, seen::look_back(w, d)) else {
         return Branch::Fits(d, Way::NONE.behind(kind, c.cursor, told));
     };
-    Branch::Fits(
-        e.deleted(),
-        Way::NONE
-            .behind(next, e.cursor, heard)
-            .behind(kind, c.cursor, told),
-    )
+    Branch::Fits(e.deleted(), rest.behind(kind, c.cursor, told))
 }
 
 // Line 327: DUr, deleted; then a person's ending or nothing and ymUs_, if that fits whole.

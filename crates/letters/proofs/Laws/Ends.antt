@@ -1,6 +1,5 @@
 -- The last letters of the marks' keys: text that does not end as a mark's keys may has none of them at its end, so the mark fails there, and
--- so does a group whose marks all fail. A person's ending and ymUs_ never end alike. What letters that stand for more than one say of the
--- stage's branches. Which marks test harmony, what a mark is without, and that a mark which fits has its own number. Assumes nothing.
+-- so does a group whose marks all fail. A person's ending and ymUs_ never end alike. Which branches a, e and the letters of U leave. Which marks test harmony, what a mark is without, and that a mark which fits has its own number. Assumes nothing.
 use Prim.Native.Nat.{ℕ, zero, suc}
 use Prim.Native.Char.{code}
 use mathlib.Core.Path.{_≡_, refl, sym, ap, _∙_}
@@ -11,6 +10,7 @@ use mathlib.Mathlib.Data.Bool.Basic.{or-eq-false-eq-eq-false-and-eq-false as or-
 use lib.ListN.{getD}
 use lib.Dec.{eqb}
 use borrow.Author.Tests.{eqb-true}
+use Rattle.utf8.specs.declared.cursor.Cursor.{Cursor}
 use Rattle.utf8.specs.Behind.{behind}
 use Rattle.encoding.proofs.Laws.Booleans.{and-left, and-right, cond-cases, cond-test, cond-both}
 use Rattle.turkish.specs.Letters.{text, fromEnd, any, starts}
@@ -22,15 +22,9 @@ use Rattle.turkish.proofs.Laws.Tests.{every}
 use Rattle.turkish.proofs.Laws.Outcome.{Gives, unfit, post-all}
 use Rattle.turkish.proofs.Laws.Traces.{traceOf-none}
 use Rattle.letters.specs.declared.seen.Seen.{Seen}
-use Rattle.letters.specs.Seen.{seenAt, Sees}
+use Rattle.letters.specs.Seen.{seenAt}
 use Rattle.letters.specs.Ends.{isU, isA, isD, isKMN, mayEnd, someEnd, personEnd, letterA, firstOrFifth, startsOf}
 use Rattle.letters.specs.Numbered.{numbered, never, unharmonic, firstOf}
-
--- one of two, of which the other implies it
-pub or-absorb : (x y : Bool) → (x && y) || x ≡ x
-or-absorb true true = refl
-or-absorb true false = refl
-or-absorb false y = refl
 
 -- ---- keys ----
 
@@ -82,11 +76,11 @@ markOf-keyless m cs e = rw e (asking-fail (not (m .harmonic) || harmony cs))
 pub markOf-unfit : {p : ℕ → ℕ → ℕ → Bool} {m : Mark} → Tests p m → (cs : List ℕ) → p (getD cs 0 0) (getD cs 1 0) (getD cs 2 0) ≡ false → markOf m cs ≡ fail
 markOf-unfit {p} {m} tests cs e = markOf-keyless m cs (among-unfit p (m .keys) cs (tests .each (getD cs 0 0) (getD cs 1 0) (getD cs 2 0)) e)
 
--- a test of the three characters seen is one of the characters behind the record
-pub test-sees : (p : ℕ → ℕ → ℕ → Bool) (w : List ℕ) (s : Seen) → Sees w s
-    → p (s .last) (s .second) (s .third) ≡ p (getD (behind w (s .c)) 0 0) (getD (behind w (s .c)) 1 0) (getD (behind w (s .c)) 2 0)
+-- what is asked of the three characters seen is asked of those behind the record
+pub test-seen : {A : Type 0} (p : ℕ → ℕ → ℕ → A) (w : List ℕ) (c : Cursor) {s : Seen} → s ≡ seenAt w c
+    → p (s .last) (s .second) (s .third) ≡ p (getD (behind w c) 0 0) (getD (behind w c) 1 0) (getD (behind w c) 2 0)
 unfolding seenAt
-test-sees p w s sees = ap (λ (x : Seen). p (x .last) (x .second) (x .third)) (sees .is)
+test-seen p w c e = ap (λ (x : Seen). p (x .last) (x .second) (x .third)) e
 
 -- ---- marks by number ----
 
@@ -154,22 +148,28 @@ module _ (a b c : ℕ) where
       go true is = absurd (false≢true (rw (eqb-true a (code "ş") is) at e))
       go false is = refl
 
--- ---- the branches that a text may begin with ----
+-- ---- the branches that may fit ----
+
+-- a test with another, or that test, is that test
+pub or-absorb : (x y : Bool) → (x && y) || x ≡ x
+or-absorb true true = refl
+or-absorb true false = refl
+or-absorb false y = refl
 
 module _ (a b c : ℕ) where
   -- e is as a
-  pub starts-A : (a ≡ code "a") ⊎ (a ≡ code "e") → startsOf letterA b c ≡ startsOf a b c
+  pub startsOf-A : (a ≡ code "a") ⊎ (a ≡ code "e") → startsOf letterA b c ≡ startsOf a b c
   unfolding startsOf someEnd any mayEnd isU isA isD isKMN
-  starts-A (inl e) = rw e refl
-  starts-A (inr e) = rw e refl
+  startsOf-A (inl e) = rw e refl
+  startsOf-A (inr e) = rw e refl
 
   -- a U is the end of yDU alone
-  pub starts-U : (a ≡ code "i") ⊎ (a ≡ code "u") ⊎ (a ≡ code "ü") ⊎ (a ≡ code "ı") → firstOrFifth (isD b) false (isD b) ≡ startsOf a b c
+  pub startsOf-U : (a ≡ code "i") ⊎ (a ≡ code "u") ⊎ (a ≡ code "ü") ⊎ (a ≡ code "ı") → firstOrFifth (isD b) false (isD b) ≡ startsOf a b c
   unfolding startsOf firstOrFifth someEnd any mayEnd isU isA isD isKMN
-  starts-U (inl e) = rw e (simp or-false)
-  starts-U (inr (inl e)) = rw e (simp or-false)
-  starts-U (inr (inr (inl e))) = rw e (simp or-false)
-  starts-U (inr (inr (inr e))) = rw e (simp or-false)
+  startsOf-U (inl e) = rw e (simp or-false)
+  startsOf-U (inr (inl e)) = rw e (simp or-false)
+  startsOf-U (inr (inr (inl e))) = rw e (simp or-false)
+  startsOf-U (inr (inr (inr e))) = rw e (simp or-false)
 
 -- ---- harmony ----
 

@@ -23,7 +23,7 @@ use Rattle.letters.proofs.Laws.Part.{partFrom, partFrom-drop, low-curso
 
 -- the characters and places read before a record, with the record, are all that is seen
 pub seenFrom-three : (w : List ℕ) (c : Cursor) {t : Three} → t ≡ threeAt w c → seenFrom t c ≡ seenAt w c
-unfolding seenAt threeAt seenFrom
+unfolding seenAt
 seenFrom-three w c e = ap (λ (t : Three). seenFrom t c) e
 
 module _ (w : List ℕ) (c : Cursor) where
@@ -108,13 +108,11 @@ module _ (w : List ℕ) (c : Cursor) where
         -- the three characters and the places
         pub threeAt-made : _≡_ {A = Three} (record { one = low + a .at; two = low + b .at; three = low + d .at; last = a .ch; second = b .ch; third = d .ch })
             (threeAt w c)
-        unfolding threeAt
         threeAt-made = rw (first-ch, second-ch, third-ch, first-place, second-place, third-place)
 
         -- all that is seen
         seenAt-made : _≡_ {A = Seen} (record { c = c; one = low + a .at; last = a .ch; two = low + b .at; second = b .ch; three = low + d .at; third = d .ch })
             (seenAt w c)
-        unfolding seenFrom
         seenAt-made = seenFrom-three w c threeAt-made
 
 -- three bytes that are tested at one go

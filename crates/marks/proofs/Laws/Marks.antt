@@ -34,7 +34,7 @@ use Rattle.letters.specs.Search.{foundFrom, found}
 use Rattle.letters.specs.Seen.{Sees}
 use Rattle.letters.specs.Ends.{mayEnd}
 use Rattle.letters.proofs.Laws.Accord.{accord-passedOn}
-use Rattle.letters.proofs.Laws.Ends.{asking-fail, test-sees, markOf-unharmonic, numbered-kind}
+use Rattle.letters.proofs.Laws.Ends.{asking-fail, test-seen, markOf-unharmonic, numbered-kind}
 
 -- ---- a key found, as the grammar's ----
 
@@ -123,16 +123,20 @@ unfolding passes passedTo notPassed
 passes-not w c fail e m = refl
 passes-not w c (took k f) e m = absurd (false≢true (sym m ∙ ap (λ (x : Passed). x .moved) e))
 
+-- no answer both reaches and fails
+pub to-fails : {A : Type 0} {d : Cursor} {k : ℕ} {h : Accord} {r : Marked} → r ≡ To d k h → r ≡ Fails → A
+to-fails to fails = let z : _≡_ {A = ℕ} 0 1 = cc in absurd (omega arith)
+
 -- a command that reaches nothing keeps nothing
 pub reach-fails : (w : List ℕ) (c : Cursor) (o : Trace) {r : Marked} → r ≡ reach w c o → r ≡ Fails → o ≡ none
 unfolding reach
 reach-fails w c none is fails = refl
-reach-fails w c (keeps ts f) is fails = let z : _≡_ {A = ℕ} 0 1 = cc in absurd (omega arith)
+reach-fails w c (keeps ts f) is fails = to-fails is fails
 
 -- what the first takes, the group does
 reach-first : (w : List ℕ) (c : Cursor) (o q : Trace) {r : Cursor} {k : ℕ} {t : Accord} → To r k t ≡ reach w c o → To r k t ≡ reach w c (firstTrace o q)
 unfolding firstTrace reach
-reach-first w c none q e = let z : _≡_ {A = ℕ} 0 1 = cc in absurd (omega arith)
+reach-first w c none q e = to-fails refl e
 reach-first w c (keeps ts f) q e = e
 
 -- a mark by its key and joint, without its harmony test
@@ -183,7 +187,7 @@ firstOf-end w c group i h = rw (drop-of-length-le group {i = i} h)
 -- what the last letters seen rule out, the characters behind the record do
 pub mayEnd-sees : (w : List ℕ) (s : Seen) → Sees w s → (k : ℕ) {b : Bool} → b ≡ mayEnd k (s .last) (s .second) (s .third)
     → b ≡ mayEnd k (getD (behind w (s .c)) 0 0) (getD (behind w (s .c)) 1 0) (getD (behind w (s .c)) 2 0)
-mayEnd-sees w s sees k e = e ∙ test-sees (mayEnd k) w s sees
+mayEnd-sees w s sees k e = e ∙ test-seen (mayEnd k) w (s .c) (sees .is)
 
 -- a mark that tests no harmony agrees with any
 pub agrees-free : {h : Bool} (cs : List ℕ) → h ≡ false → not h || harmony cs ≡ true

@@ -12,7 +12,7 @@ use Rattle.letters.specs.declared.seen.Seen.{Seen}
 use Rattle.letters.specs.Passed.{notPassed, passes}
 use Rattle.letters.specs.Seen.{Sees}
 use Rattle.letters.specs.Numbered.{unharmonic, keyedBy}
-use Rattle.letters.proofs.Laws.Ends.{Tests, asking-fail, markOf-unfit, test-sees, markOf-unharmonic}
+use Rattle.letters.proofs.Laws.Ends.{Tests, asking-fail, markOf-unfit, test-seen, markOf-unharmonic}
 use Rattle.marks.proofs.Laws.Marks.{passes-not}
 use Rattle.nouns.specs.Marks.{markBy}
 
@@ -20,7 +20,7 @@ use Rattle.nouns.specs.Marks.{markBy}
 pub passes-unfit : {p : ℕ → ℕ → ℕ → Bool} {m : Mark} → Tests p m → (w : List ℕ) (s : Seen) → Sees w s → p (s .last) (s .second) (s .third) ≡ false
     → notPassed ≡ passes w (s .c) (markOf m (behind w (s .c)))
 unfolding passes
-passes-unfit {p} tests w s sees e = sym (ap (passes w (s .c)) (markOf-unfit tests (behind w (s .c)) (sym (test-sees p w s sees) ∙ e)))
+passes-unfit {p} tests w s sees e = sym (ap (passes w (s .c)) (markOf-unfit tests (behind w (s .c)) (sym (test-seen p w (s .c) (sees .is)) ∙ e)))
 
 -- a mark from its key and joint, whose answer is p
 module _ (ks : List (List ℕ)) (joint : Joint) (harmonic : Bool) (w : List ℕ) (c : Cursor) {p : Passed}

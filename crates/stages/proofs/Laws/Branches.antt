@@ -23,7 +23,7 @@ use Rattle.letters.specs.Seen.{seenAt}
 use Rattle.letters.specs.declared.ends.Starts.{Starts}
 use Rattle.letters.specs.Ends.{someEnd, personEnd, startsOf}
 use Rattle.letters.specs.Numbered.{numbered, firstOf}
-use Rattle.letters.proofs.Laws.Ends.{traceOf-unfit, someEnd-unfit, person-letters, person-not-ymUs}
+use Rattle.letters.proofs.Laws.Ends.{test-seen, traceOf-unfit, someEnd-unfit, person-letters, person-not-ymUs}
 use Rattle.letters.proofs.Laws.Sees.{seen-c}
 use Rattle.marks.specs.declared.marked.Marked.{Marked}
 use Rattle.marks.specs.declared.marked.Marked.the-variants.{To}
@@ -100,13 +100,11 @@ steps-person w c is to = rw (person-first (behind w c)) at (first-step w c (step
 module _ (w : List ℕ) (c : Cursor) {s : Seen} (is : s ≡ seenAt w c) where
   -- what the last letters seen rule out of a group
   pub someEnd-seen : (ks : List ℕ) {b : Bool} → b ≡ someEnd ks (s .last) (s .second) (s .third) → b ≡ false → firstOf ks (behind w c) ≡ none
-  unfolding seenAt
-  someEnd-seen ks e fails = someEnd-unfit ks (behind w c) (ap (λ (x : Seen). someEnd ks (x .last) (x .second) (x .third)) (sym is) ∙ sym e ∙ fails)
+  someEnd-seen ks e fails = someEnd-unfit ks (behind w c) (sym (test-seen (someEnd ks) w c is) ∙ sym e ∙ fails)
 
   -- the last letter seen is that behind the record
   last-seen : {b : Bool} → personEnd (s .last) ≡ b → personEnd (getD (behind w c) 0 0) ≡ b
-  unfolding seenAt
-  last-seen e = ap (λ (x : Seen). personEnd (x .last)) (sym is) ∙ e
+  last-seen e = sym (test-seen (λ x y z. personEnd x) w c is) ∙ e
 
   -- where it is that of a person's ending, and none fits, nor does ymUs_
   pub person-unfit : personEnd (s .last) ≡ true → firstOf personMarks (behind w c) ≡ none → trace (person then mark ymUs) (behind w c) ≡ none
@@ -117,15 +115,20 @@ module _ (w : List ℕ) (c : Cursor) {s : Seen} (is : s ≡ seenAt w c) where
   person-none : personEnd (s .last) ≡ false → firstOf personMarks (behind w c) ≡ none
   person-none fails = someEnd-unfit _ _ (person-letters _ _ _ (last-seen fails))
 
--- a command from what is seen is one from the record
+-- an answer from what is seen is one from the record
+from-seen : {R : Type 0} (f : List ℕ → Cursor → Trace → R) (w : List ℕ) (c : Cursor) (q : List ℕ → Trace) {s : Seen} {r : R} → s ≡ seenAt w c
+    → r ≡ f w (s .c) (q (behind w (s .c))) → r ≡ f w c (q (behind w c))
+from-seen f w c q e is = is ∙ ap (λ (x : Cursor). f w x (q (behind w x))) (seen-c w c e)
+
+-- a mark's or a group's
 pub reach-seen : (w : List ℕ) (c : Cursor) (q : List ℕ → Trace) {s : Seen} {r : Marked} → s ≡ seenAt w c → r ≡ reach w (s .c) (q (behind w (s .c)))
     → r ≡ reach w c (q (behind w c))
-reach-seen w c q e is = is ∙ ap (λ (x : Cursor). reach w x (q (behind w x))) (seen-c w c e)
+reach-seen = from-seen reach
 
--- and so where it keeps more than one mark
+-- that of what keeps more than one mark
 pub along-seen : (w : List ℕ) (c : Cursor) (q : List ℕ → Trace) {s : Seen} {r : Branch} → s ≡ seenAt w c → r ≡ along w (s .c) (q (behind w (s .c)))
     → r ≡ along w c (q (behind w c))
-along-seen w c q e is = is ∙ ap (λ (x : Cursor). along w x (q (behind w x))) (seen-c w c e)
+along-seen = from-seen along
 
 -- ymUs_ stands alone where the last letter seen is none of a person's ending
 pub along-alone : (w : List ℕ) (c : Cursor) {s : Seen} {r : Branch} → s ≡ seenAt w c → personEnd (s .last) ≡ false
@@ -135,11 +138,11 @@ along-alone w c e fails is = along-seen w c (traceOf ymUs) e is ∙ sym (ap (alo
 
 -- ---- what the last letters rule out ----
 
--- with which branches a text may begin
+-- which branches may fit a text
 abbrev pub startsAt : List ℕ → Starts
 startsAt cs = startsOf (getD cs 0 0) (getD cs 1 0) (getD cs 2 0)
 
--- a branch with which it may not begin keeps nothing
+-- one that may not keeps nothing
 module _ (cs : List ℕ) {m : Starts} (e : m ≡ startsAt cs) where
   pub first-out : m .first ≡ false → trace branch1 cs ≡ none
   unfolding startsOf branch1 numbered
@@ -222,14 +225,12 @@ module _ (w : List ℕ) {s : Seen} (is : s ≡ seenAt w (whole w)) where
   -- a branch from what is seen there is one on all the word's characters
   at-end : (b : Command) {r : Branch} → r ≡ cutTo w (s .c) (trace b (behind w (s .c))) → r ≡ cutTo w (whole w) (trace b (chars w))
   unfolding chars whole
-  at-end b e =
-      e ∙ ap (λ (c : Cursor). cutTo w c (trace b (behind w c))) (seen-c w (whole w) is)
-      ∙ ap (λ (cs : List ℕ). cutTo w (whole w) (trace b cs)) (behind-before w (length w) (length w))
+  at-end b e = from-seen cutTo w (whole w) (trace b) is e ∙ ap (λ (cs : List ℕ). cutTo w (whole w) (trace b cs)) (behind-before w (length w) (length w))
 
   -- and the last letters seen there are the word's
-  pub starts-end : {m : Starts} → m ≡ startsOf (s .last) (s .second) (s .third) → m ≡ startsAt (chars w)
-  unfolding chars whole seenAt
-  starts-end e = e ∙ ap (λ (x : Seen). startsOf (x .last) (x .second) (x .third)) is ∙ ap startsAt (behind-before w (length w) (length w))
+  pub startsAt-seen : {m : Starts} → m ≡ startsOf (s .last) (s .second) (s .third) → m ≡ startsAt (chars w)
+  unfolding chars whole
+  startsAt-seen e = e ∙ test-seen startsOf w (whole w) is ∙ ap startsAt (behind-before w (length w) (length w))
 
   module _ (b : Command) {r : Branch} (e : r ≡ cutTo w (s .c) (trace b (behind w (s .c)))) where
     -- a branch that does not fit keeps nothing

@@ -17,10 +17,11 @@ use Rattle.turkish.specs.Simple.Pieces.{Taken, Trace, none, keeps, total, moreT
 use Rattle.turkish.proofs.Laws.Traces.{total-append}
 use Rattle.letters.specs.Numbered.{numbered, firstOf}
 use Rattle.marks.specs.declared.marked.Marked.{Marked}
-use Rattle.marks.specs.declared.marked.Marked.the-variants.{To, Fails}
+use Rattle.marks.specs.declared.marked.Marked.the-variants.{To}
 use Rattle.letters.specs.declared.harmony.Accord.{Accord}
 use Rattle.letters.specs.Accord.{accordOf, passedOn, orAccord}
 use Rattle.marks.specs.Reach.{leading, leadingAccord, reach}
+use Rattle.marks.proofs.Laws.Marks.{to-fails}
 use Rattle.stages.specs.declared.trail.Trail.{Trail}
 use Rattle.stages.specs.declared.trail.Way.{Way}
 use Rattle.stages.specs.declared.trail.Branch.{Branch}
@@ -69,10 +70,6 @@ unfolding total wayOf trailOf heardAlong behindWay
 steps-taken w c t f d k h =
     let there = d ∙ ap (backBy w c) (add-zero (t .size)) in
     record { marks = t ∷ []; flag = f; keeps-is = refl; there = d; goes-on = λ ts. rw (there, k, h) }
-
--- no answer both reaches and fails
-to-fails : {A : Type 0} {d : Cursor} {k : ℕ} {h : Accord} {r : Marked} → r ≡ To d k h → r ≡ Fails → A
-to-fails to fails = let z : _≡_ {A = ℕ} 0 1 = cc in absurd (omega arith)
 
 -- an answer of one mark that reaches a record is a step to it
 steps-one : (w : List ℕ) (c : Cursor) {o : Trace} {r : Marked} {d : Cursor} {k : ℕ} {h : Accord} → One o → r ≡ reach w c o → r ≡ To d k h → Steps w c o d k h

@@ -1,5 +1,5 @@
 -- Texts written into an output, one after the other, are one text written at the first place: by the byte, and by a copy's loop.
--- So are a text's front and its end, where they overlap. Assumes nothing.
+-- So are a text's front and its end, where they leave no byte between them. Assumes nothing.
 use Prim.Native.Nat.{ℕ, _+_, _-_, _≤_, _<_}
 use mathlib.Core.Path.{_≡_, refl, ap, _∙_}
 use mathlib.Core.List.{List, [], _∷_, _++_, append-assoc}

@@ -6,7 +6,7 @@ use borrow.Author.Needs.{needs}
 use borrow.Author.Tests.{ne-eqb}
 use Rattle.turkish.specs.Letters.{any}
 use Rattle.letters.specs.Ends.{isU, isA, isD, isKMN, mayEnd, someEnd, firstOrFifth, startsOf}
-use Rattle.letters.proofs.Laws.Ends.{starts-A, starts-U}
+use Rattle.letters.proofs.Laws.Ends.{startsOf-A, startsOf-U}
 use Rattle.letters.proofs.ends.starts_of.Statement.{statement}
 use Rattle.letters.proofs.ends.starts_of.Tie as tie
 
@@ -26,7 +26,7 @@ returns-5 : tie.Need-returns-5
 returns-5 c = rw (c .before .match .keys5) (c .before-k .ensures)
 
 returns-6 : tie.Need-returns-6
-returns-6 c = c .before-A .ensures ∙ starts-A _ _ _ (c .before .match .keys6)
+returns-6 c = c .before-A .ensures ∙ startsOf-A _ _ _ (c .before .match .keys6)
 
 returns-7 : tie.Need-returns-7
 unfolding any isU isA isD isKMN mayEnd someEnd startsOf firstOrFifth
@@ -34,7 +34,7 @@ returns-7 c = rw (c .before .before .match .keys7, c .first-or-fifth .ensures, c
 
 returns-8 : tie.Need-returns-8
 returns-8 c =
-    c .first-or-fifth2 .ensures ∙ rw (c .before .before .is-D .ensures, c .before .is-D2 .ensures) (starts-U _ _ _ (c .before .before .before .match .keys8))
+    c .first-or-fifth2 .ensures ∙ rw (c .before .before .is-D .ensures, c .before .is-D2 .ensures) (startsOf-U _ _ _ (c .before .before .before .match .keys8))
 
 returns-9 : tie.Need-returns-9
 unfolding any isU isA isD isKMN mayEnd someEnd startsOf

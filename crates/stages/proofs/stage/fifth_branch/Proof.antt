@@ -1,5 +1,5 @@
 -- `stages::stage::fifth_branch` meets its contract: ymUs_ is tried from where a person's ending leads, after its deletion. In each answer a
--- is the place behind that ending's record, g behind the group, e behind the deletion, m behind ymUs_, and f behind that one's record.
+-- is the place behind that ending's record, g behind the group, d behind the deletion, y behind ymUs_, and e behind that one's record.
 -- Assumes nothing.
 use mathlib.Core.Path.{sym, _∙_}
 use borrow.Author.Needs.{needs}
@@ -9,12 +9,11 @@ use Rattle.turkish.specs.Simple.Pieces.{traceOf, trace}
 use Rattle.turkish.specs.Simple.Stage.{branch5}
 use Rattle.letters.specs.Numbered.{numbered}
 use Rattle.letters.proofs.Laws.Sees.{sees-made}
-use Rattle.letters.proofs.Laws.Accord.{listens-unasked}
 use Rattle.letters.specs.Accord.{noAccord}
 use Rattle.marks.proofs.Laws.Marks.{reach-fails}
 use Rattle.stages.specs.Trail.{noStop, noTrail, noWay}
-use Rattle.stages.proofs.Laws.Trails.{steps-mark, steps-group, cut-none, after-none, open-cut, along-step, try-cut, try-none}
-use Rattle.stages.proofs.Laws.Branches.{reach-seen, group-four}
+use Rattle.stages.proofs.Laws.Trails.{steps-group, along-unfit, cut-none, after-none, open-cut, try-cut, try-none}
+use Rattle.stages.proofs.Laws.Branches.{along-seen, group-four}
 use Rattle.stages.proofs.stage.fifth_branch.Statement.{statement}
 use Rattle.stages.proofs.stage.fifth_branch.Tie as tie
 
@@ -30,37 +29,35 @@ look-back-requires c κs =
     let step = steps-group _ _ _ (group-four _ 4 3 2 1) (g .first-of .ensures) (a .c .given .1) in
     open-cut _ _ step (c .deleted .ensures) (g .before .before .before .pre .0 .opens)
 
-one-of-requires : tie.Need-one-of-requires
-one-of-requires c κs = (sees-made _ _ (c .look-back .ensures) (look-back-requires (c .before) κs), listens-unasked _ (c .look-back .result .c))
+ymUs-alone-requires : tie.Need-ymUs-alone-requires
+ymUs-alone-requires c κs = sees-made _ _ (c .look-back .ensures) (look-back-requires (c .before) κs)
 
 returns-2 : tie.Need-returns-2
 unfolding trace try branch5 numbered noWay noTrail noStop noAccord
 returns-2 c =
-    let m = c .before .before .before in
-    let e = m .before .before in
-    let a = e .before .before in
+    let y = c .before .before .before in
+    let d = y .before .before in
+    let a = d .before .before in
     let g = a .before .before in
     let step = steps-group _ _ _ (group-four _ 4 3 2 1) (g .first-of .ensures) (a .c .given .1) in
-    let is = reach-seen _ _ (traceOf ymUs) (m .before .look-back .ensures) (m .one-of .ensures) in
-    try-none _ _ step (traceOf ymUs) (e .deleted .ensures) (g .before .before .before .pre .0 .opens)
-    (reach-fails _ _ _ is (c .before .enum-told2 .given .1)) (c .behind .ensures)
+    let is = along-seen _ _ (traceOf ymUs) (y .before .look-back .ensures) (y .ymUs-alone .ensures) in
+    try-none _ _ step (traceOf ymUs) (d .deleted .ensures) (g .before .before .before .pre .0 .opens)
+    (along-unfit _ _ _ is (c .before .enum-told2 .given .1)) (c .behind .ensures)
 
 returns-3 : tie.Need-returns-3
-unfolding trace try branch5 numbered noWay noTrail noStop noAccord
+unfolding trace try branch5 numbered
 returns-3 c =
-    let f = c .before .before .before .before in
-    let m = f .before .before in
-    let e = m .before .before in
-    let a = e .before .before in
+    let e = c .before .before .before in
+    let y = e .before .before in
+    let d = y .before .before in
+    let a = d .before .before in
     let g = a .before .before in
     let step = steps-group _ _ _ (group-four _ 4 3 2 1) (g .first-of .ensures) (a .c .given .1) in
-    let is = reach-seen _ _ (traceOf ymUs) (m .before .look-back .ensures) (m .one-of .ensures) in
-    try-cut _ _ step (traceOf ymUs) (e .deleted .ensures) (along-step _ _ (steps-mark _ _ ymUs is (f .e .given .1)) (c .before .behind2 .ensures))
-    (c .before .before .deleted2 .ensures) (c .behind3 .ensures)
+    let is = along-seen _ _ (traceOf ymUs) (y .before .look-back .ensures) (y .ymUs-alone .ensures) in
+    try-cut _ _ step (traceOf ymUs) (d .deleted .ensures) (sym (e .e .given .1) ∙ is) (c .before .deleted2 .ensures) (c .behind2 .ensures)
 
 pub fifth-branch-spec : {M : Type 1} → statement M
 fifth-branch-spec =
     tie.close
-    (tie.spec (λ c. search needs) (λ c κs. search needs) (λ c. search needs) (λ c. search needs) returns (λ c κs. search needs)
-    look-back-requires one-of-requires (λ c. search needs) (λ c. search needs) (λ c κs. search needs) returns-2 (λ c κs. search needs)
-    (λ c κs. search needs) (λ c κs. search needs) returns-3)
+    (tie.spec (λ c. search needs) (λ c κs. search needs) (λ c. search needs) (λ c. search needs) returns (λ c κs. search needs) look-back-requires ymUs-alone-requires
+    (λ c. search needs) (λ c. search needs) (λ c κs. search needs) returns-2 (λ c κs. search needs) (λ c κs. search needs) returns-3)

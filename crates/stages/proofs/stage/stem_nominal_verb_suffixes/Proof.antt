@@ -19,7 +19,7 @@ use Rattle.letters.proofs.Laws.Sees.{sees-made}
 use Rattle.letters.proofs.Laws.Accord.{listens-if}
 use Rattle.stages.specs.Outcome.{whole}
 use Rattle.stages.proofs.Laws.Branches.{startsAt, first-out, second-out, third-out, fourth-out, fifth-out, sixth-out, passed-over}
-use Rattle.stages.proofs.Laws.Branches.{open-whole, starts-end, branch-unfit, outcome-none, outcome-last, outcome-cut}
+use Rattle.stages.proofs.Laws.Branches.{open-whole, startsAt-seen, branch-unfit, outcome-none, outcome-last, outcome-cut}
 use Rattle.stages.proofs.stage.stem_nominal_verb_suffixes.Statement.{statement}
 use Rattle.stages.proofs.stage.stem_nominal_verb_suffixes.Tie as tie
 
@@ -38,9 +38,9 @@ ended c = c .look-back .ensures
 sees : (c : tie.After-look-back) → Sees (word c) (c .look-back .result)
 sees c = sees-made (word c) (whole (word c)) (ended c) (open-whole (word c))
 
--- with these branches it may begin
+-- these branches may fit it
 begins : (c : tie.After-starts-of) → c .starts-of .result ≡ startsAt (chars (word (c .before)))
-begins c = starts-end (word (c .before)) (ended (c .before)) (c .starts-of .ensures)
+begins c = startsAt-seen (word (c .before)) (ended (c .before)) (c .starts-of .ensures)
 
 -- before the branches, the place where the end is seen, and what each of them requires
 abbrev end : tie.After-told-at-end → tie.After-look-back

@@ -1,11 +1,9 @@
 -- `letters::seen::Three::from` meets its contract: it makes the record. Assumes nothing.
 use mathlib.Core.Path.{refl}
-use Rattle.letters.specs.Seen.{seenFrom}
 use Rattle.letters.proofs.seen.Three.from.Statement.{statement}
 use Rattle.letters.proofs.seen.Three.from.Tie as tie
 
 returns : tie.Need-returns
-unfolding seenFrom
 returns c = refl
 
 pub from-spec : {M : Type 1} → statement M
