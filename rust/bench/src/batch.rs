@@ -3,6 +3,7 @@
 
 use crate::measure::{in_turn, passes};
 use compare::words::filled::filled;
+use compare::words::letters::VOWELS;
 use compare::words::read_vocabulary;
 use fannavy::{LIMIT, TAILS, TAIL_LEAST};
 use std::hint::black_box;
@@ -21,7 +22,8 @@ const STEMS: [&str; 8] = [
     "doğrulamabelgeleri",
     "uygunlukbeyannamesi",
 ];
-// Endings in harmony with a stem: A is a or e, I is ı or i, and a y that begins one stands after a vowel only.
+// Endings in harmony with a stem, in the letters of turkish.sbl: A is a or e, I is ı or i, and a y that begins one
+// stands after a vowel only.
 const ENDINGS: [&str; 8] = [
     "dIr",
     "lAr",
@@ -32,8 +34,8 @@ const ENDINGS: [&str; 8] = [
     "ymIştIr",
     "ymIşcAsInA",
 ];
-// Endings behind any stem: harmony is looked for far back, and often in vain.
-const FOREIGN: [&str; 8] = [
+// The same behind every stem, in harmony with it or not; a y stands behind consonants too.
+const UNCHANGED: [&str; 8] = [
     "dır",
     "ler",
     "yken",
@@ -66,7 +68,7 @@ over the host's; below 1, the batch is faster.
 |---|--:|--:|--:|--:|--:|--:|--:|--:|"
     );
     let mut rows = rows();
-    rows.insert(2, of_vocabulary(&read_vocabulary(vocabulary)?));
+    rows.push(of_vocabulary(&read_vocabulary(vocabulary)?)?);
     for row in rows {
         table.push('\n');
         table.push_str(&line(&row, rounds)?);
@@ -91,11 +93,15 @@ fn rows() -> Vec<Row> {
             &one_vowel,
         ),
         row(&format!("{far} bytes without a vowel"), &bare, &one_vowel),
-        row("an ordinary compound", COMPOUND, &ordinary),
         row(
-            "the same, endings out of harmony",
+            "an ordinary compound, an ending on each tail",
             COMPOUND,
-            &ends(&FOREIGN, joined),
+            &ordinary,
+        ),
+        row(
+            "the same, eight endings alike behind every stem",
+            COMPOUND,
+            &ends(&UNCHANGED, joined),
         ),
         row(
             "the same, tails without an ending",
@@ -124,18 +130,20 @@ fn one_vowel() -> Vec<String> {
 }
 
 // Tails as the vocabulary has them: the last 16 characters of words all over it, with endings and without.
-fn of_vocabulary(words: &[String]) -> Row {
-    let long: Vec<&String> = words
-        .iter()
-        .filter(|w| characters(w) >= TAIL_LEAST)
-        .collect();
-    let each = (long.len() / TAILS).max(1);
-    let tails = long.iter().step_by(each).take(TAILS);
-    Row {
+fn of_vocabulary(words: &[String]) -> Result<Row, String> {
+    let long = |word: &&String| characters(word) >= TAIL_LEAST;
+    let long: Vec<&String> = words.iter().filter(long).collect();
+    if long.len() < TAILS {
+        return Err(format!(
+            "the vocabulary has fewer than {TAILS} words of {TAIL_LEAST} characters"
+        ));
+    }
+    let tail = |i: usize| last(long[i * long.len() / TAILS]);
+    Ok(Row {
         name: "an ordinary compound, tails of the vocabulary".to_string(),
         front: COMPOUND.to_string(),
-        tails: tails.map(|word| last(word)).collect(),
-    }
+        tails: (0..TAILS).map(tail).collect(),
+    })
 }
 
 // The last 16 characters of every stem with each of these.
@@ -163,7 +171,7 @@ fn harmonic(stem: &str, ending: &str) -> String {
 }
 
 fn is_vowel(ch: char) -> bool {
-    "aeıioöuü".contains(ch)
+    VOWELS.contains(ch)
 }
 
 fn characters(word: &str) -> usize {
@@ -303,5 +311,35 @@ mod tests {
         for row in [0, 3] {
             assert!(removed[row] >= TAILS / 2, "{removed:?}");
         }
+    }
+
+    // Of how many words harmony holds past a vowel that is no partner.
+    fn loans(row: &Row) -> usize {
+        let words = row.tails.iter().map(|tail| [&row.front[..], tail].concat());
+        let loan = |word: &String| {
+            let stage = fannavy::stage(word.as_bytes()).expect("a word");
+            stage.loan
+        };
+        words.filter(loan).count()
+    }
+
+    #[test]
+    fn endings_of_an_ordinary_compound_are_in_harmony() {
+        let rows = rows();
+        assert_eq!(loans(&rows[2]), 0);
+        assert!(loans(&rows[3]) > 0);
+    }
+
+    #[test]
+    fn tails_come_from_all_over_the_vocabulary() {
+        let words: Vec<String> = (0..1000).map(|i| format!("kısaca{i:016}")).collect();
+        let row = of_vocabulary(&words).expect("long words");
+        assert_eq!(
+            (row.tails[0].as_str(), row.tails.len()),
+            (&words[0][7..], TAILS)
+        );
+        assert_eq!(row.tails[TAILS - 1], words[984][7..]);
+        assert!(of_vocabulary(&words[..TAILS - 1]).is_err());
+        assert!(of_vocabulary(&vec!["kısa".to_string(); TAILS]).is_err());
     }
 }
