@@ -291,7 +291,7 @@ typedef struct {
  * A tail has FANNAVY_TAIL_LEAST characters or more, so that what becomes of it depends on no letter of
  * the front but its vowels. A shorter ending takes the compound's last characters with it: cut the
  * compound that many characters before its end, and put these before every ending. It pays from about
- * eight tails on, behind a long front from about sixteen; for fewer, fannavy_stage of each word is as
+ * ten tails on, behind a long front from about twenty; for fewer, fannavy_stage of each word is as
  * fast or faster.
  *
  *   count       how many tails there are. So many entries of each buffer are written, in the order of
