@@ -2,3 +2,4 @@
 pub mod Tab
 pub mod LineRefusals
 pub mod LineText
+pub mod Listed

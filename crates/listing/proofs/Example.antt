@@ -1,5 +1,6 @@
 -- Document 01's two lines of `stemlist`, each with its last field, by computation over the definitions. Assumes nothing.
 use mathlib.Core.Path.{_≡_, refl}
+use mathlib.Core.Bool.{false}
 use Rattle.encoding.specs.Encoding.{encode, encodeAll, decode, continuation}
 use Rattle.encoding.specs.Validity.{table37, due, refused, leadIn, lead, next, accepts, isText}
 use Rattle.utf8.specs.Characters.{width, goesOn, lastWidth, charAt, lastChar, beforeWithin, before}
@@ -17,12 +18,13 @@ use Rattle.turkish.specs.Answers.{entered, called, succeeded, left, syllableChe
 use Rattle.turkish.specs.WordPass.{passStage, pass}
 use Rattle.turkish.specs.Calls.{chars, bytes, limit, refusal, accepted, stageText, passText, wholeText}
 use Rattle.lines.specs.Line.{lineRefusal, yesNo, oneZero, answers, fields, listLine}
+use Rattle.lines.specs.Listed.{listed}
 use Rattle.turkish.specs.Lines.{unclosed, linesFrom}
 use Rattle.listing.specs.Listing.{listAll, listing}
 
 -- the input lines `evler` and `siniz` give document 01's two lines and a field more; the second ends in three tabs
-pub example-lines : listing (text "evler\nsiniz\n") ≡ text "evler\tY\tY\t0\tev\tev\tev\nsiniz\tY\tY\t1\t\t\t\n"
-unfolding tab lf lineRefusal yesNo oneZero answers fields listLine unclosed linesFrom listAll listing
+pub example-lines : listing false (text "evler\nsiniz\n") ≡ text "evler\tY\tY\t0\tev\tev\tev\nsiniz\tY\tY\t1\t\t\t\n"
+unfolding tab lf lineRefusal yesNo oneZero answers fields listLine listed unclosed linesFrom listAll listing
     stageText passText wholeText accepted refusal limit chars bytes
     encodeAll encode decode isText accepts next lead leadIn table37 due refused before beforeWithin lastChar charAt lastWidth width goesOn continuation
     pass passStage wholeRun syllableCheck suffixStage stemmed repairOfSource repaired entered called succeeded left

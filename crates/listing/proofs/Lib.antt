@@ -5,4 +5,5 @@ pub mod Lines
 pub mod Example
 pub mod Blocks
 pub mod Calls
+pub mod Parts
 pub mod Laws

@@ -1,7 +1,7 @@
 -- The lines of an input and what each gives, case by case as document 01 has it. Assumes nothing.
 use Prim.Native.Nat.{ℕ, _≤_, _<_}
 use mathlib.Core.Path.{_≡_, refl}
-use mathlib.Core.Bool.{true, false}
+use mathlib.Core.Bool.{Bool, true, false}
 use mathlib.Core.List.{List, [], _∷_, _++_, append-nil}
 use lib.ListN.{length}
 use borrow.Author.Tests.{eqb-true, le-ltb}
@@ -11,6 +11,7 @@ use Rattle.turkish.specs.Lines.{unclosed, linesFrom}
 use Rattle.turkish.specs.Calls.{limit, refusal, accepted}
 use Rattle.turkish.proofs.Laws.Lines.{linesFrom-line, linesFrom-last}
 use Rattle.lines.specs.Line.{lineRefusal, fields, refusedLine, listLine}
+use Rattle.lines.specs.Listed.{listed}
 use Rattle.listing.specs.Listing.{listAll, listing}
 use Rattle.listing.proofs.Laws.Held.{listLine-long}
 
@@ -40,16 +41,17 @@ module _ (w : List ℕ) where
 -- ---- the lines of an input ----
 
 -- so a word ended by a line feed gives its line, and then comes the listing of what follows
-pub listing-line : (w rest : List ℕ) → has w lf ≡ false → listing (w ++ (lf ∷ rest)) ≡ listLine w ++ listing rest
+pub listing-line : (folded : Bool) (w rest : List ℕ) → has w lf ≡ false
+    → listing folded (w ++ (lf ∷ rest)) ≡ listLine (listed folded w) ++ listing folded rest
 unfolding listing listAll
-listing-line w rest n = rw (linesFrom-line [] w rest n)
+listing-line folded w rest n = rw (linesFrom-line [] w rest n)
 
 -- a last one that is not closed gives its line, if it is not empty
-pub listing-last : (b : ℕ) (w : List ℕ) → has (b ∷ w) lf ≡ false → listing (b ∷ w) ≡ listLine (b ∷ w)
+pub listing-last : (folded : Bool) (b : ℕ) (w : List ℕ) → has (b ∷ w) lf ≡ false → listing folded (b ∷ w) ≡ listLine (listed folded (b ∷ w))
 unfolding listing listAll unclosed
-listing-last b w n = rw (linesFrom-last [] (b ∷ w) n, append-nil)
+listing-last folded b w n = rw (linesFrom-last [] (b ∷ w) n, append-nil)
 
 -- and an empty input gives nothing
-pub listing-nothing : listing [] ≡ []
+pub listing-nothing : (folded : Bool) → listing folded [] ≡ []
 unfolding listing listAll linesFrom unclosed
-listing-nothing = refl
+listing-nothing folded = refl

@@ -1,14 +1,15 @@
 -- The file to open first: what the listing promises, in the words of document 01's section "stemlist". Each theorem is proved in a line
 -- from the files named for what they prove. That the code gives these definitions' answers is the contracts' part. Assumes nothing.
 use Prim.Native.Nat.{ℕ, _-_, _≤_, _<_}
-use mathlib.Core.Path.{_≡_}
-use mathlib.Core.Bool.{true, false}
-use mathlib.Core.List.{List, [], _∷_, _++_, flatten}
+use mathlib.Core.Path.{_≡_, ap}
+use mathlib.Core.Bool.{Bool, true, false}
+use mathlib.Core.List.{List, [], _∷_, _++_, flatten, map}
 use lib.ListN.{length, take, drop}
 use Rattle.encoding.specs.Validity.{isText}
 use Rattle.turkish.specs.Letters.{text, tab, lf, has}
-use Rattle.turkish.specs.Calls.{limit, accepted}
+use Rattle.turkish.specs.Calls.{limit, accepted, foldText}
 use Rattle.lines.specs.Line.{fields, listLine}
+use Rattle.lines.specs.Listed.{listed}
 use Rattle.listing.specs.Listing.{listing}
 use Rattle.lines.specs.Room.{lineRoom}
 use Rattle.listing.specs.Feed.{most}
@@ -18,22 +19,37 @@ use Rattle.listing.proofs.Lines as Lines
 use Rattle.listing.proofs.Example.{example-lines}
 use Rattle.listing.proofs.Blocks.{blocks-listing}
 use Rattle.listing.proofs.Calls.{writtenBy-listing}
+use Rattle.listing.proofs.Parts.{closed, listing-parts, listing-all-parts}
 use Rattle.lines.proofs.Laws.LineText.{listLine-size}
+use Rattle.lines.proofs.Laws.Listed.{listed-plain, listed-folded, listed-refused}
 use Rattle.listing.proofs.Laws.OneCall.{feeding-call}
 
 -- ---- words ended by LF ----
 
 -- a word ended by LF gives one line, and then comes the listing of what follows it
-pub one-line-a-word : (w rest : List ℕ) → has w lf ≡ false → listing (w ++ (lf ∷ rest)) ≡ listLine w ++ listing rest
+pub one-line-a-word : (folded : Bool) (w rest : List ℕ) → has w lf ≡ false
+    → listing folded (w ++ (lf ∷ rest)) ≡ listLine (listed folded w) ++ listing folded rest
 one-line-a-word = Lines.listing-line
 
 -- a last line without LF counts if it is not empty
-pub last-line-counts : (b : ℕ) (w : List ℕ) → has (b ∷ w) lf ≡ false → listing (b ∷ w) ≡ listLine (b ∷ w)
+pub last-line-counts : (folded : Bool) (b : ℕ) (w : List ℕ) → has (b ∷ w) lf ≡ false → listing folded (b ∷ w) ≡ listLine (listed folded (b ∷ w))
 last-line-counts = Lines.listing-last
 
 -- an empty input gives nothing
-pub empty-input-empty : listing [] ≡ []
+pub empty-input-empty : (folded : Bool) → listing folded [] ≡ []
 empty-input-empty = Lines.listing-nothing
+
+-- ---- as they stand or folded ----
+
+-- where folded forms are not asked for, each word is listed as it stands
+pub plain-line : (w : List ℕ) → listed false w ≡ w
+plain-line = listed-plain
+
+-- asked for folded forms, the listing of a word is that of its folded text, where the word is accepted; another word is refused as it
+-- stands
+pub folded-line : (w : List ℕ)
+    → (accepted w ≡ true → listLine (listed true w) ≡ listLine (foldText w)) × (accepted w ≡ false → listLine (listed true w) ≡ listLine w)
+folded-line w = (λ a. ap listLine (listed-folded w a), λ r. ap listLine (listed-refused true w r))
 
 -- ---- the line of a word ----
 
@@ -49,7 +65,7 @@ pub refused-lines : (w : List ℕ)
 refused-lines w = (Lines.listLine-over w, Lines.listLine-not-text w, Lines.listLine-tab w)
 
 -- the input lines `evler` and `siniz` give document 01's two lines, each with the whole run's text for its last field
-pub evler-siniz : listing (text "evler\nsiniz\n") ≡ text "evler\tY\tY\t0\tev\tev\tev\nsiniz\tY\tY\t1\t\t\t\n"
+pub evler-siniz : listing false (text "evler\nsiniz\n") ≡ text "evler\tY\tY\t0\tev\tev\tev\nsiniz\tY\tY\t1\t\t\t\n"
 evler-siniz = example-lines
 
 -- any line fits the room for one
@@ -59,18 +75,28 @@ lines-fit = listLine-size
 -- ---- a stream in blocks ----
 
 -- a stream cut into any blocks gives the listing of the whole
-pub any-blocks : (blocks : List (List ℕ)) → fedAll [] blocks ≡ listing (flatten blocks)
+pub any-blocks : (folded : Bool) (blocks : List (List ℕ)) → fedAll folded [] blocks ≡ listing folded (flatten blocks)
 any-blocks = blocks-listing
 
 -- whatever calls of `feed` are made, with whatever outputs, they write the listing of what they take, `finish` closing it
-pub any-calls : (calls : List Call) (line : List ℕ) → length line ≡ most → writtenBy calls line 0 ≡ listing (flatten (takenBy calls line 0))
+pub any-calls : (folded : Bool) (calls : List Call) (line : List ℕ) → length line ≡ most
+    → writtenBy folded calls line 0 ≡ listing folded (flatten (takenBy folded calls line 0))
 any-calls = writtenBy-listing
 
-module _ (block : List ℕ) (from : ℕ) (line : List ℕ) (held : ℕ) (out : List ℕ) (l : length line ≡ most) (h : held ≤ most) where
+module _ (folded : Bool) (block : List ℕ) (from : ℕ) (line : List ℕ) (held : ℕ) (out : List ℕ) (l : length line ≡ most) (h : held ≤ most) where
   -- where a line has room in the output a call takes something of what is left of its block
-  pub calls-go-on : lineRoom ≤ length out → from < length block → from < feeding block from line held out .used
-  calls-go-on r k = feeding-call block from line held out l h .used-more k r
+  pub calls-go-on : lineRoom ≤ length out → from < length block → from < feeding folded block from line held out .used
+  calls-go-on r k = feeding-call folded block from line held out l h .used-more k r
 
   -- and it skips nothing: what it takes and what it leaves for the next call make up the block
-  pub calls-skip-nothing : let s = feeding block from line held out in drop from block ≡ take (s .used - from) (drop from block) ++ drop (s .used) block
-  calls-skip-nothing = feeding-call block from line held out l h .parts
+  pub calls-skip-nothing : let s = feeding folded block from line held out in drop from block ≡ take (s .used - from) (drop from block) ++ drop (s .used) block
+  calls-skip-nothing = feeding-call folded block from line held out l h .parts
+
+-- a list cut behind a line feed may be listed in parts: the listing of both together is the listings one after the other
+pub any-parts : (folded : Bool) (a b : List ℕ) → listing folded (a ++ (lf ∷ b)) ≡ listing folded (a ++ (lf ∷ [])) ++ listing folded b
+any-parts = listing-parts
+
+-- so may one cut into any number of such parts: `closed` is a list with a line feed behind it, and the last part need not end in one
+pub any-number-of-parts : (folded : Bool) (parts : List (List ℕ)) (last : List ℕ)
+    → listing folded (flatten (map closed parts) ++ last) ≡ flatten (map (λ a. listing folded (closed a)) parts) ++ listing folded last
+any-number-of-parts = listing-all-parts

@@ -1,12 +1,13 @@
 -- What one call feeds of a block, and all that it leaves: how far it goes, the line's bytes and the output. Assumes nothing.
 use Prim.Native.Nat.{ℕ, _+_, _-_}
-use mathlib.Core.Bool.{cond}
+use mathlib.Core.Bool.{Bool, cond}
 use mathlib.Core.List.{List, [], _∷_}
 use lib.ListN.{length, take, drop, set}
 use lib.Dec.{eqb, ltb}
 use Rattle.turkish.specs.Letters.{lf}
 use Rattle.writing.specs.Put.{put}
 use Rattle.lines.specs.Line.{listLine}
+use Rattle.lines.specs.Listed.{listed}
 use Rattle.lines.specs.Room.{lineRoom}
 use Rattle.listing.specs.Feed.{most}
 
@@ -27,24 +28,23 @@ unfoldable pub heldNext : ℕ → ℕ
 heldNext held = cond (ltb held most) (held + 1) held
 
 -- a line feed: the line held is written, and none is held
-unfoldable pub endLine : Fed → Fed
-endLine s =
-    standing (s .used + 1) (s .line) 0
-    (put (s .written) (listLine (take (s .held) (s .line))) (s .out))
-    (s .written + length (listLine (take (s .held) (s .line))))
+unfoldable pub endLine : Bool → Fed → Fed
+endLine folded s =
+    let text = listLine (listed folded (take (s .held) (s .line))) in
+    standing (s .used + 1) (s .line) 0 (put (s .written) text (s .out)) (s .written + length text)
 
 -- another byte: it is stored after those held, where the line has a place for it; all other bytes stay
 unfoldable pub holdByte : ℕ → Fed → Fed
 holdByte b s = standing (s .used + 1) (set (s .line) (s .held) b) (heldNext (s .held)) (s .out) (s .written)
 
-unfoldable pub feedByte : ℕ → Fed → Fed
-feedByte b s = cond (eqb b lf) (endLine s) (holdByte b s)
+unfoldable pub feedByte : Bool → ℕ → Fed → Fed
+feedByte folded b s = cond (eqb b lf) (endLine folded s) (holdByte b s)
 
 -- bytes fed one after the other, as long as the output has room for a whole line
-unfoldable pub feedBytes : List ℕ → Fed → Fed
-feedBytes [] s = s
-feedBytes (b ∷ bs) s = cond (ltb (length (s .out) - s .written) lineRoom) s (feedBytes bs (feedByte b s))
+unfoldable pub feedBytes : Bool → List ℕ → Fed → Fed
+feedBytes folded [] s = s
+feedBytes folded (b ∷ bs) s = cond (ltb (length (s .out) - s .written) lineRoom) s (feedBytes folded bs (feedByte folded b s))
 
 -- one call: the block from place `from` on, to the front of the output
-unfoldable pub feeding : List ℕ → ℕ → List ℕ → ℕ → List ℕ → Fed
-feeding block from line held out = feedBytes (drop from block) (standing from line held out 0)
+unfoldable pub feeding : Bool → List ℕ → ℕ → List ℕ → ℕ → List ℕ → Fed
+feeding folded block from line held out = feedBytes folded (drop from block) (standing from line held out 0)

@@ -1,6 +1,6 @@
 // The step that takes a block of input: it holds the line read so far, writes the line of each word that ends in the block, and
 // stops where the output has no room for one more line.
-use lines::line;
+use lines::listed;
 use words::refusal;
 ghost use mathlib.Core.Path.{_≡_};
 ghost use Prim.Native.Nat.{_+_, _≤_};
@@ -38,18 +38,25 @@ fn hold_byte(line: &mut [u8], held: usize, b: u8) -> usize
 }
 
 // One byte of the input: a line feed ends the line held, and any other byte is held.
-fn feed_byte(b: u8, line: &mut [u8], held: usize, out: &mut [u8], at: usize) -> Progress
+fn feed_byte(
+    folded: bool,
+    b: u8,
+    line: &mut [u8],
+    held: usize,
+    out: &mut [u8],
+    at: usize,
+) -> Progress
     requires { ⌜ length (now line) ≡ most ⌝ }
     requires { ⌜ held ≤ most ⌝ }
     requires { ⌜ at + lineRoom ≤ length (now out) ⌝ }
     ensures { λ r. ⌜ r .used ≡ 1 ⌝ }
-    ensures { λ r. ⌜ r .held ≡ feedByte b (standing 0 (now (line .entry)) held (now (out .entry)) at) .held ⌝ }
-    ensures { λ r. ⌜ r .written ≡ feedByte b (standing 0 (now (line .entry)) held (now (out .entry)) at) .written ⌝ }
-    ensures { λ r. ⌜ now (line .exit) ≡ feedByte b (standing 0 (now (line .entry)) held (now (out .entry)) at) .line ⌝ }
-    ensures { λ r. ⌜ now (out .exit) ≡ feedByte b (standing 0 (now (line .entry)) held (now (out .entry)) at) .out ⌝ }
+    ensures { λ r. ⌜ r .held ≡ feedByte folded b (standing 0 (now (line .entry)) held (now (out .entry)) at) .held ⌝ }
+    ensures { λ r. ⌜ r .written ≡ feedByte folded b (standing 0 (now (line .entry)) held (now (out .entry)) at) .written ⌝ }
+    ensures { λ r. ⌜ now (line .exit) ≡ feedByte folded b (standing 0 (now (line .entry)) held (now (out .entry)) at) .line ⌝ }
+    ensures { λ r. ⌜ now (out .exit) ≡ feedByte folded b (standing 0 (now (line .entry)) held (now (out .entry)) at) .out ⌝ }
 {
     if b == 0x0A {
-        let end = line::put_line(out, at, &line[..held]);
+        let end = listed::put_listed(out, at, &line[..held], folded);
         return Progress {
             used: 1,
             held: 0,
@@ -64,16 +71,23 @@ fn feed_byte(b: u8, line: &mut [u8], held: usize, out: &mut [u8], at: usize) -> 
 }
 
 // The block from place `from` on, to the front of the output, as long as there is room for a whole line: how far that is, what is held
-// of the line then and what is written.
-pub fn feed(block: &[u8], from: usize, line: &mut [u8], held: usize, out: &mut [u8]) -> Progress
+// of the line then and what is written. The words are listed as they stand or as their folded forms.
+pub fn feed(
+    folded: bool,
+    block: &[u8],
+    from: usize,
+    line: &mut [u8],
+    held: usize,
+    out: &mut [u8],
+) -> Progress
     requires { ⌜ from ≤ length (now block) ⌝ }
     requires { ⌜ length (now line) ≡ most ⌝ }
     requires { ⌜ held ≤ most ⌝ }
-    ensures { λ r. ⌜ r .used ≡ feeding (now (block .entry)) from (now (line .entry)) held (now (out .entry)) .used ⌝ }
-    ensures { λ r. ⌜ r .held ≡ feeding (now (block .entry)) from (now (line .entry)) held (now (out .entry)) .held ⌝ }
-    ensures { λ r. ⌜ r .written ≡ feeding (now (block .entry)) from (now (line .entry)) held (now (out .entry)) .written ⌝ }
-    ensures { λ r. ⌜ now (line .exit) ≡ feeding (now (block .entry)) from (now (line .entry)) held (now (out .entry)) .line ⌝ }
-    ensures { λ r. ⌜ now (out .exit) ≡ feeding (now (block .entry)) from (now (line .entry)) held (now (out .entry)) .out ⌝ }
+    ensures { λ r. ⌜ r .used ≡ feeding folded (now (block .entry)) from (now (line .entry)) held (now (out .entry)) .used ⌝ }
+    ensures { λ r. ⌜ r .held ≡ feeding folded (now (block .entry)) from (now (line .entry)) held (now (out .entry)) .held ⌝ }
+    ensures { λ r. ⌜ r .written ≡ feeding folded (now (block .entry)) from (now (line .entry)) held (now (out .entry)) .written ⌝ }
+    ensures { λ r. ⌜ now (line .exit) ≡ feeding folded (now (block .entry)) from (now (line .entry)) held (now (out .entry)) .line ⌝ }
+    ensures { λ r. ⌜ now (out .exit) ≡ feeding folded (now (block .entry)) from (now (line .entry)) held (now (out .entry)) .out ⌝ }
 {
     let mut i = from;
     let mut h = held;
@@ -86,7 +100,7 @@ pub fn feed(block: &[u8], from: usize, line: &mut [u8], held: usize, out: &mut [
                 written: o,
             };
         }
-        let p = feed_byte(block[i], line, h, out, o);
+        let p = feed_byte(folded, block[i], line, h, out, o);
         i += 1;
         h = p.held;
         o = p.written;
@@ -99,14 +113,14 @@ pub fn feed(block: &[u8], from: usize, line: &mut [u8], held: usize, out: &mut [
 }
 
 // The line that the input's end closes, if it is not empty, to the front of the output.
-pub fn finish(line: &[u8], held: usize, out: &mut [u8]) -> usize
+pub fn finish(folded: bool, line: &[u8], held: usize, out: &mut [u8]) -> usize
     requires { ⌜ held ≤ length (now line) ⌝ }
     requires { ⌜ lineRoom ≤ length (now out) ⌝ }
-    ensures { λ r. ⌜ r ≡ length (lastOut (take held (now (line .entry)))) ⌝ }
-    ensures { λ r. ⌜ now (out .exit) ≡ put 0 (lastOut (take held (now (line .entry)))) (now (out .entry)) ⌝ }
+    ensures { λ r. ⌜ r ≡ length (lastOut folded (take held (now (line .entry)))) ⌝ }
+    ensures { λ r. ⌜ now (out .exit) ≡ put 0 (lastOut folded (take held (now (line .entry)))) (now (out .entry)) ⌝ }
 {
     if held == 0 {
         return 0;
     }
-    line::put_line(out, 0, &line[..held])
+    listed::put_listed(out, 0, &line[..held], folded)
 }

@@ -36,6 +36,7 @@ pub struct Input<'a> {
 /// or complained.
 pub fn run(
     program: &Path,
+    arguments: &[&str],
     input: Input,
     limit: Duration,
     take: impl FnMut(&[u8]) -> bool,
@@ -43,6 +44,7 @@ pub fn run(
     let failed = |error: io::Error| format!("{}: {error}", program.display());
     let (stdin, sender) = open(input.feed).map_err(failed)?;
     let mut child = Command::new(program)
+        .args(arguments)
         .stdin(stdin)
         .stdout(Stdio::piped())
         .stderr(Stdio::piped())
@@ -188,7 +190,7 @@ mod tests {
     fn through(program: &str, bytes: &[u8], times: usize, feed: Feed) -> (Vec<u8>, bool) {
         let mut output = Vec::new();
         let input = Input { bytes, times, feed };
-        let outcome = run(Path::new(program), input, PATIENCE, |block| {
+        let outcome = run(Path::new(program), &[], input, PATIENCE, |block| {
             output.extend_from_slice(block);
             true
         });
@@ -219,7 +221,7 @@ mod tests {
             times: 1_000_000,
             feed: Feed::Pipe(1000),
         };
-        assert!(run(Path::new("cat"), input, PATIENCE, |_| false).is_ok());
+        assert!(run(Path::new("cat"), &[], input, PATIENCE, |_| false).is_ok());
     }
 
     #[test]
@@ -230,7 +232,8 @@ mod tests {
                 times: 1,
                 feed: Feed::Pipe(100),
             };
-            let outcome = run(Path::new("sh"), input, Duration::from_millis(200), |_| true);
+            let patience = Duration::from_millis(200);
+            let outcome = run(Path::new("sh"), &[], input, patience, |_| true);
             let message = outcome.expect_err("it hangs");
             assert!(message.contains("neither output"), "{message}");
         }

@@ -1,21 +1,50 @@
 //! A list of words and the oracle's listing of it, to which a program's output is held byte by byte.
 
+use crate::folded::folded;
 use crate::report::Difference;
+use fannavy::LIMIT;
 
 // As much of a wrong line as is shown.
 const WRONG: usize = 8192;
 
-/// The bytes of a list, and its listing.
+/// The bytes of a list, its listing, and the arguments that ask for it.
 pub struct List {
     pub input: Vec<u8>,
+    pub arguments: &'static [&'static str],
     listing: Vec<u8>,
 }
 
 impl List {
     pub fn new(input: Vec<u8>) -> List {
-        let mut listing = Vec::with_capacity(4 * input.len());
-        listing::list(input.as_slice(), &mut listing).expect("memory can be written");
-        List { input, listing }
+        let listing = listing(&input);
+        List {
+            input,
+            arguments: &[],
+            listing,
+        }
+    }
+
+    /// The words listed as their folded forms; those that the fold refuses, as they stand.
+    pub fn folded(input: Vec<u8>) -> List {
+        let lines: Vec<_> = input.split(|&byte| byte == b'\n').map(small).collect();
+        List {
+            listing: listing(&lines.join(&b'\n')),
+            arguments: &["--fold"],
+            input,
+        }
+    }
+}
+
+fn listing(input: &[u8]) -> Vec<u8> {
+    let mut listing = Vec::with_capacity(4 * input.len());
+    listing::list(input, &mut listing).expect("memory can be written");
+    listing
+}
+
+fn small(word: &[u8]) -> Vec<u8> {
+    match str::from_utf8(word) {
+        Ok(text) if word.len() <= LIMIT => folded(text).into_bytes(),
+        _ => word.to_vec(),
     }
 }
 
@@ -149,6 +178,14 @@ mod tests {
     fn reported(times: usize, output: &str, what: &str) {
         let report = report(times, output).expect("a difference");
         assert!(report.contains(what), "{report}");
+    }
+
+    #[test]
+    fn words_are_folded_but_those_that_are_refused() {
+        let long = "İ".repeat(LIMIT / 2 + 1);
+        let folded = List::folded(format!("EV\nevler\n{long}\na\tB").into_bytes());
+        let want = format!("{GOOD}!\t1\n!\t4\n");
+        assert_eq!(String::from_utf8(folded.listing).as_deref(), Ok(&*want));
     }
 
     #[test]

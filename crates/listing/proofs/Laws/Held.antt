@@ -1,5 +1,5 @@
--- What is held of a line: a byte more, and that the part held gives the output of the whole line, since a line over the limit is
--- refused whatever it is. Assumes nothing.
+-- What is held of a line: a byte more, and that the part held gives the output of the whole line, since a line over the limit is not
+-- folded, and is refused whatever it is. Assumes nothing.
 use Prim.Native.Nat.{ℕ, _+_, _≤_, _<_, zero, suc}
 use mathlib.Core.Path.{_≡_, refl, sym, ap, _∙_}
 use mathlib.Core.Bool.{Bool, true, false}
@@ -12,8 +12,11 @@ use lib.Dec.{eqb, ltb}
 use borrow.Author.Tests.{lt-ltb, le-ltb}
 use Rattle.encoding.proofs.Laws.Booleans.{lt-or-le}
 use Rattle.turkish.specs.Letters.{lf}
-use Rattle.turkish.specs.Calls.{limit, refusal}
+use Rattle.turkish.specs.Calls.{limit, refusal, accepted}
+use Rattle.turkish.proofs.Laws.Accepted.{refusal-long}
 use Rattle.lines.specs.Line.{lineRefusal, refusedLine, listLine}
+use Rattle.lines.specs.Listed.{listed}
+use Rattle.lines.proofs.Laws.Listed.{listed-refused}
 use Rattle.turkish.specs.Lines.{unclosed}
 use Rattle.listing.specs.Listing.{listAll}
 use Rattle.listing.specs.Feed.{most, hold, lastOut}
@@ -45,36 +48,44 @@ pub listLine-long : (w : List ℕ) → limit < length w → listLine w ≡ refus
 unfolding listLine lineRefusal refusal
 listLine-long w h = rw (lt-ltb limit (length w) h)
 
+-- and is not folded
+listed-long : (folded : Bool) (w : List ℕ) → limit < length w → listed folded w ≡ w
+unfolding accepted
+listed-long folded w h = listed-refused folded w (rw (← refusal-long w h))
+
 -- so the part held of a line gives the line's output
-pub listLine-held : (line : List ℕ) → listLine (take most line) ≡ listLine line
+pub listLine-held : (folded : Bool) (line : List ℕ) → listLine (listed folded (take most line)) ≡ listLine (listed folded line)
 unfolding most
-listLine-held line =
+listLine-held folded line =
     lt-or-le limit (length line)
-    (λ h. listLine-long (take most line) (omega (arith, length-take most line)) ∙ sym (listLine-long line h))
+    (λ h.
+    let long : limit < length (take most line) = omega (arith, length-take most line) in
+    rw (listed-long folded (take most line) long, listed-long folded line h) (listLine-long (take most line) long ∙ sym (listLine-long line h)))
     (λ h. rw (take-all most line (omega arith)))
 
 -- the end of the input writes the line held, if it is not empty
-pub lastOut-line : (line : List ℕ) → 0 < length line → lastOut line ≡ listLine line
+pub lastOut-line : (folded : Bool) (line : List ℕ) → 0 < length line → lastOut folded line ≡ listLine (listed folded line)
 unfolding lastOut unclosed listAll
-lastOut-line [] h = absurd (omega arith)
-lastOut-line (b ∷ bs) h = append-nil _
+lastOut-line folded [] h = absurd (omega arith)
+lastOut-line folded (b ∷ bs) h = append-nil _
 
 -- there too the part held gives the line's output
-pub lastOut-held : (line : List ℕ) → lastOut (take most line) ≡ lastOut line
+pub lastOut-held : (folded : Bool) (line : List ℕ) → lastOut folded (take most line) ≡ lastOut folded line
 unfolding most limit
-lastOut-held [] = refl
-lastOut-held (b ∷ bs) =
-    lastOut-line (take most (b ∷ bs)) (omega (arith, length-take most (b ∷ bs))) ∙ listLine-held (b ∷ bs)
-    ∙ sym (lastOut-line (b ∷ bs) (omega arith))
+lastOut-held folded [] = refl
+lastOut-held folded (b ∷ bs) =
+    lastOut-line folded (take most (b ∷ bs)) (omega (arith, length-take most (b ∷ bs))) ∙ listLine-held folded (b ∷ bs)
+    ∙ sym (lastOut-line folded (b ∷ bs) (omega arith))
 
 -- where none is held of a line nothing is written at the end
-pub lastOut-none : (line : List ℕ) (held : ℕ) → held ≡ 0 → lastOut (take held line) ≡ []
+pub lastOut-none : (folded : Bool) (line : List ℕ) (held : ℕ) → held ≡ 0 → lastOut folded (take held line) ≡ []
 unfolding lastOut unclosed listAll
-lastOut-none line held e = rw e
+lastOut-none folded line held e = rw e
 
 -- and where some is held, that
-pub lastOut-some : (line : List ℕ) (held : ℕ) → 0 < held → held ≤ length line → lastOut (take held line) ≡ listLine (take held line)
-lastOut-some line held h l = lastOut-line (take held line) (omega (arith, length-take held line))
+pub lastOut-some : (folded : Bool) (line : List ℕ) (held : ℕ) → 0 < held → held ≤ length line
+    → lastOut folded (take held line) ≡ listLine (listed folded (take held line))
+lastOut-some folded line held h l = lastOut-line folded (take held line) (omega (arith, length-take held line))
 
 -- ---- the bytes that hold a line ----
 

@@ -17,32 +17,23 @@ slice-reshare-prefix-write-all : tie.Need-slice-reshare-prefix-write-all
 slice-reshare-prefix-write-all c =
     let finish = c .before .before in
     let a = finish .before .before .before .before .args in
-    omega (arith, put-end 0 (lastOut (take (a .held) (now (a .line)))) (now (a .out)) zero-le, ap length (finish .finish .ensures .1))
+    omega (arith, put-end 0 (lastOut (a .folded) (take (a .held) (now (a .line)))) (now (a .out)) zero-le, ap length (finish .finish .ensures .1))
 
 slice-aggregate-write-all : tie.Need-slice-aggregate-write-all
 slice-aggregate-write-all c =
     let finish = c .before .before .before in
     let a = finish .before .before .before .before .args in
-    let written = put-end 0 (lastOut (take (a .held) (now (a .line)))) (now (a .out)) zero-le in
-    omega (arith, written, ap length (finish .finish .ensures .1), length-take (finish .finish .result) (finish .finish .last .1 .1 .0))
+    let written = put-end 0 (lastOut (a .folded) (take (a .held) (now (a .line)))) (now (a .out)) zero-le in
+    omega (arith, written, ap length (finish .finish .ensures .1), length-take (finish .finish .result) (finish .finish .last .1 .1 .1 .0))
 
 write-all-requires : tie.Need-write-all-requires
 write-all-requires c κs = search needs
-
-output-failed-requires : tie.Need-output-failed-requires
-output-failed-requires c κs = search needs
 
 same-length : tie.Need-same-length
 same-length c = search needs
 
 returns : tie.Need-returns
 returns c = search needs
-
-same-length-2 : tie.Need-same-length-2
-same-length-2 c = search needs
-
-returns-2 : tie.Need-returns-2
-returns-2 c = search needs
 
 pub close-spec : {M : Type 1} → statement M
 close-spec =
@@ -52,8 +43,5 @@ close-spec =
     slice-reshare-prefix-write-all
     slice-aggregate-write-all
     write-all-requires
-    output-failed-requires
     same-length
-    returns
-    same-length-2
-    returns-2)
+    returns)

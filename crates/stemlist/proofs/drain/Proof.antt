@@ -13,12 +13,12 @@ use Rattle.stemlist.proofs.drain.Statement.{statement}
 use Rattle.stemlist.proofs.drain.Tie as tie
 
 abbrev Inv-loop : tie.InvT-loop
-Inv-loop block line₀ held out₀ used₀ h₀ line out used h =
+Inv-loop folded block line₀ held out₀ used₀ h₀ line out used h =
     (length line ≡ most) × (length out ≡ length out₀) × (used ≤ length block) × (h ≤ most)
     × (fedLine (take h line) (drop used block) ≡ fedLine (take held line₀) block)
 
 abbrev μ-loop : tie.MeasureT-loop
-μ-loop block line₀ held out₀ used₀ h₀ line out used h = length block - used
+μ-loop folded block line₀ held out₀ used₀ h₀ line out used h = length block - used
 
 loop-holds : tie.Need-loop-holds Inv-loop μ-loop
 loop-holds c = (omega arith, omega arith, omega arith, omega arith, refl)
@@ -30,15 +30,17 @@ slice-reshare-prefix-write-all : tie.Need-slice-reshare-prefix-write-all Inv-loo
 slice-reshare-prefix-write-all c =
     let feed = c .before .before .before .before in
     let l = feed .before .before .before .before .loop in
-    let call = feeding-call (now (feed .before .before .before .before .before .before .before .before .args .block)) (l .used) (l .line) (l .h) (l .out) (l .inv .0) (l .inv .3) in
+    let a = feed .before .before .before .before .before .before .before .before .args in
+    let call = feeding-call (a .folded) (now (a .block)) (l .used) (l .line) (l .h) (l .out) (l .inv .0) (l .inv .3) in
     omega (arith, feed .feed .ensures .1 .1 .0, call .within .written-le, call .out-length)
 
 slice-aggregate-write-all : tie.Need-slice-aggregate-write-all Inv-loop μ-loop
 slice-aggregate-write-all c =
     let feed = c .before .before .before .before .before in
     let l = feed .before .before .before .before .loop in
-    let call = feeding-call (now (feed .before .before .before .before .before .before .before .before .args .block)) (l .used) (l .line) (l .h) (l .out) (l .inv .0) (l .inv .3) in
-    omega (arith, feed .feed .ensures .1 .1 .0, call .within .written-le, length-take (feed .feed .result .written) (feed .feed .last .1 .1 .1 .1 .0))
+    let a = feed .before .before .before .before .before .before .before .before .args in
+    let call = feeding-call (a .folded) (now (a .block)) (l .used) (l .line) (l .h) (l .out) (l .inv .0) (l .inv .3) in
+    omega (arith, feed .feed .ensures .1 .1 .0, call .within .written-le, length-take (feed .feed .result .written) (feed .feed .last .1 .1 .1 .1 .1 .0))
 
 write-all-requires : tie.Need-write-all-requires Inv-loop μ-loop
 write-all-requires c κs = search needs
@@ -53,21 +55,24 @@ returns : tie.Need-returns Inv-loop μ-loop
 returns c =
     let feed = c .before .before .before .before .before .before .before in
     let l = feed .before .before .before .before .loop in
-    let call = feeding-call (now (feed .before .before .before .before .before .before .before .before .args .block)) (l .used) (l .line) (l .h) (l .out) (l .inv .0) (l .inv .3) in
+    let a = feed .before .before .before .before .before .before .before .before .args in
+    let call = feeding-call (a .folded) (now (a .block)) (l .used) (l .line) (l .h) (l .out) (l .inv .0) (l .inv .3) in
     (omega (arith, feed .feed .ensures .1 .0, call .within .held-le), (λ e. absurd (false≢true e), λ e. absurd (false≢true e)))
 
 loop-less : tie.Need-loop-less Inv-loop μ-loop
 loop-less c =
     let feed = c .before .before .before .before .before .before .before in
     let l = feed .before .before .before .before .loop in
-    let call = feeding-call (now (feed .before .before .before .before .before .before .before .before .args .block)) (l .used) (l .line) (l .h) (l .out) (l .inv .0) (l .inv .3) in
+    let a = feed .before .before .before .before .before .before .before .before .args in
+    let call = feeding-call (a .folded) (now (a .block)) (l .used) (l .line) (l .h) (l .out) (l .inv .0) (l .inv .3) in
     omega (arith, feed .feed .ensures .0, call .used-more (omega arith) (omega arith))
 
 loop-again : tie.Need-loop-again Inv-loop μ-loop
 loop-again c =
     let feed = c .before .before .before .before .before .before .before in
     let l = feed .before .before .before .before .loop in
-    let call = feeding-call (now (feed .before .before .before .before .before .before .before .before .args .block)) (l .used) (l .line) (l .h) (l .out) (l .inv .0) (l .inv .3) in
+    let a = feed .before .before .before .before .before .before .before .before .args in
+    let call = feeding-call (a .folded) (now (a .block)) (l .used) (l .line) (l .h) (l .out) (l .inv .0) (l .inv .3) in
     let f = feed .feed .ensures in (
       omega arith,
       omega arith,

@@ -5,6 +5,7 @@ use crate::child::{self, Feed, Input};
 use crate::listed::{Held, List};
 use crate::report::{Difference, Report};
 use crate::words::damaged::EDGE_BYTES;
+use crate::words::headings::{self, capitals};
 use crate::words::random::Random;
 use crate::words::Words;
 use fannavy::LIMIT;
@@ -39,6 +40,7 @@ pub fn run(words: &Words, program: &Path, report: &mut Report) -> Result<(), Dif
     runs.all_words(words)?;
     let mixed = mixed(words);
     runs.in_writes(&mixed)?;
+    runs.headings(&mixed)?;
     runs.lengths()?;
     runs.random_bytes(words.random(8))?;
     runs.stream(words, mixed)
@@ -65,7 +67,7 @@ impl Runs<'_> {
         };
         let mut held = Held::new(list, times);
         let mut told = 0;
-        let outcome = child::run(self.program, input, PATIENCE, |block| {
+        let outcome = child::run(self.program, list.arguments, input, PATIENCE, |block| {
             let go_on = held.take(block);
             self.report.lines(held.lines() - told);
             told = held.lines();
@@ -123,6 +125,23 @@ impl Runs<'_> {
             self.hold("a list byte by byte", &list, 1, Feed::Packets(1))?;
         }
         Ok(())
+    }
+
+    // Headings, which the program folds, and the mixed list as it is and in capitals, in writes of two
+    // sizes.
+    fn headings(&mut self, mixed: &[u8]) -> Result<(), Difference> {
+        let mut list = mixed.to_vec();
+        list.extend_from_slice(capitals(&String::from_utf8_lossy(mixed)).as_bytes());
+        let mut add = |word: &str| {
+            list.extend_from_slice(word.as_bytes());
+            list.push(b'\n');
+            Ok(())
+        };
+        headings::each(&mut add)?;
+        headings::each_run(&mut add)?;
+        let list = List::folded(list);
+        self.hold("a list of headings", &list, 1, WHOLE)?;
+        self.hold("a list of headings by sevens", &list, 1, Feed::Pipe(7))
     }
 
     // Lines of every length up to a byte past the limit, and a very long one, of several make-ups, by

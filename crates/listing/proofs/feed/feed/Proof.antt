@@ -13,12 +13,12 @@ use Rattle.listing.proofs.feed.feed.Statement.{statement}
 use Rattle.listing.proofs.feed.feed.Tie as tie
 
 abbrev Inv-loop : tie.InvT-loop
-Inv-loop block from line₀ held out₀ i₀ h₀ o₀ line out i h o =
+Inv-loop folded block from line₀ held out₀ i₀ h₀ o₀ line out i h o =
     (i ≤ length block) × (Within (standing i line h out o)) × (length out ≡ length out₀)
-    × (feedBytes (drop i block) (standing i line h out o) ≡ feeding block from line₀ held out₀)
+    × (feedBytes folded (drop i block) (standing i line h out o) ≡ feeding folded block from line₀ held out₀)
 
 abbrev μ-loop : tie.MeasureT-loop
-μ-loop block from line₀ held out₀ i₀ h₀ o₀ line out i h o = length block - i
+μ-loop folded block from line₀ held out₀ i₀ h₀ o₀ line out i h o = length block - i
 
 loop-holds : tie.Need-loop-holds Inv-loop μ-loop
 unfolding feeding
@@ -37,7 +37,7 @@ returns : tie.Need-returns Inv-loop μ-loop
 unfolding lineRoom limit
 returns c =
     let l = c .before .before .loop in
-    left-parts (sym (feedBytes-full _ (l .i) _ (omega arith)) ∙ l .inv .3)
+    left-parts (sym (feedBytes-full _ _ (l .i) _ (omega arith)) ∙ l .inv .3)
 
 shared-slice-read-feed-byte : tie.Need-shared-slice-read-feed-byte Inv-loop μ-loop
 shared-slice-read-feed-byte c = omega arith
@@ -57,12 +57,13 @@ unfolding lineRoom limit
 loop-again c =
     let byte = c .before .before .before .before in
     let l = byte .before .before .before .before .before .before .loop in
-    let block = now (byte .before .before .before .before .before .before .before .before .before .before .args .block) in
+    let a = byte .before .before .before .before .before .before .before .before .before .before .args in
+    let block = now (a .block) in
     let f = byte .feed-byte .ensures in (
       omega arith,
-      within-turn (getD block (l .i) 0) (l .i) (l .line) (l .h) (l .out) (l .o) (f .1) (l .inv .1),
+      within-turn (a .folded) (getD block (l .i) 0) (l .i) (l .line) (l .h) (l .out) (l .o) (f .1) (l .inv .1),
       omega arith,
-      feedBytes-turn block (l .i) (l .line) (l .h) (l .out) (l .o) (omega arith) (omega arith) (f .1) (l .inv .3),
+      feedBytes-turn (a .folded) block (l .i) (l .line) (l .h) (l .out) (l .o) (omega arith) (omega arith) (f .1) (l .inv .3),
     )
 
 same-length-3 : tie.Need-same-length-3 Inv-loop μ-loop
@@ -72,7 +73,7 @@ same-length-4 : tie.Need-same-length-4 Inv-loop μ-loop
 same-length-4 c = omega arith
 
 returns-2 : tie.Need-returns-2 Inv-loop μ-loop
-returns-2 c = let l = c .before .loop in left-parts (sym (feedBytes-end _ (l .i) _ (omega arith)) ∙ l .inv .3)
+returns-2 c = let l = c .before .loop in left-parts (sym (feedBytes-end _ _ (l .i) _ (omega arith)) ∙ l .inv .3)
 
 pub feed-spec : {M : Type 1} → statement M
 feed-spec =

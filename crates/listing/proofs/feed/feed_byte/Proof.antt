@@ -10,14 +10,14 @@ use Rattle.listing.proofs.Laws.Fed.{feedByte-lf, feedByte-other}
 use Rattle.listing.proofs.feed.feed_byte.Statement.{statement}
 use Rattle.listing.proofs.feed.feed_byte.Tie as tie
 
-slice-reshare-prefix-put-line : tie.Need-slice-reshare-prefix-put-line
-slice-reshare-prefix-put-line c = search needs
+slice-reshare-prefix-put-listed : tie.Need-slice-reshare-prefix-put-listed
+slice-reshare-prefix-put-listed c = search needs
 
-slice-aggregate-put-line : tie.Need-slice-aggregate-put-line
-slice-aggregate-put-line c = let a = c .before .before .before .before .before .args in omega (arith, length-take (a .held) (now (a .line)))
+slice-aggregate-put-listed : tie.Need-slice-aggregate-put-listed
+slice-aggregate-put-listed c = let a = c .before .before .before .before .before .args in omega (arith, length-take (a .held) (now (a .line)))
 
-put-line-requires : tie.Need-put-line-requires
-put-line-requires c κs = search needs
+put-listed-requires : tie.Need-put-listed-requires
+put-listed-requires c κs = search needs
 
 same-length : tie.Need-same-length
 same-length c = search needs
@@ -30,8 +30,8 @@ unfolding endLine
 returns c =
     let a = c .before .before .before .before .before .before .before .before .args in
     let e : a .b ≡ 0x0A = omega arith in
-    let put = c .before .before .put-line .ensures in
-    rw (feedByte-lf (a .b) (standing 0 (now (a .line)) (a .held) (now (a .out)) (a .at)) e) (refl, (refl, (put .0, (refl, put .1))))
+    let put = c .before .before .put-listed .ensures in
+    rw (feedByte-lf (a .folded) (a .b) (standing 0 (now (a .line)) (a .held) (now (a .out)) (a .at)) e) (refl, (refl, (put .0, (refl, put .1))))
 
 hold-byte-requires : tie.Need-hold-byte-requires
 hold-byte-requires c κs = search needs
@@ -44,15 +44,15 @@ unfolding holdByte
 returns-2 c =
     let a = c .before .before .before .before .before .before .before .args in
     let hold = c .before .before .hold-byte .ensures in
-    rw (feedByte-other (a .b) (standing 0 (now (a .line)) (a .held) (now (a .out)) (a .at)) (λ e. omega arith)) (refl, (hold .0, (refl, (hold .1, refl))))
+    rw (feedByte-other (a .folded) (a .b) (standing 0 (now (a .line)) (a .held) (now (a .out)) (a .at)) (λ e. omega arith)) (refl, (hold .0, (refl, (hold .1, refl))))
 
 pub feed-byte-spec : {M : Type 1} → statement M
 feed-byte-spec =
     tie.close
     (tie.spec
-    slice-reshare-prefix-put-line
-    slice-aggregate-put-line
-    put-line-requires
+    slice-reshare-prefix-put-listed
+    slice-aggregate-put-listed
+    put-listed-requires
     same-length
     same-length-2
     returns

@@ -11,13 +11,13 @@ use Rattle.listing.proofs.feed.finish.Statement.{statement}
 use Rattle.listing.proofs.feed.finish.Tie as tie
 
 returns : tie.Need-returns
-returns c = let a = c .before .before .before .args in rw (lastOut-none (now (a .line)) (a .held) (omega arith)) (refl, put-nothing 0 (now (a .out)))
+returns c = let a = c .before .before .before .args in rw (lastOut-none (a .folded) (now (a .line)) (a .held) (omega arith)) (refl, put-nothing 0 (now (a .out)))
 
-slice-aggregate-put-line : tie.Need-slice-aggregate-put-line
-slice-aggregate-put-line c = let a = c .before .before .before .before .before .args in omega (arith, length-take (a .held) (now (a .line)))
+slice-aggregate-put-listed : tie.Need-slice-aggregate-put-listed
+slice-aggregate-put-listed c = let a = c .before .before .before .before .before .args in omega (arith, length-take (a .held) (now (a .line)))
 
-put-line-requires : tie.Need-put-line-requires
-put-line-requires c κs = search needs
+put-listed-requires : tie.Need-put-listed-requires
+put-listed-requires c κs = search needs
 
 same-length : tie.Need-same-length
 same-length c = search needs
@@ -25,8 +25,8 @@ same-length c = search needs
 returns-2 : tie.Need-returns-2
 returns-2 c =
     let a = c .before .before .before .before .before .before .before .before .args in
-    rw (lastOut-some (now (a .line)) (a .held) (omega arith) (omega arith)) (omega arith, c .before .before .put-line .ensures .1)
+    rw (lastOut-some (a .folded) (now (a .line)) (a .held) (omega arith) (omega arith)) (omega arith, c .before .before .put-listed .ensures .1)
 
 pub finish-spec : {M : Type 1} → statement M
 finish-spec =
-    tie.close (tie.spec returns slice-aggregate-put-line put-line-requires same-length returns-2)
+    tie.close (tie.spec returns slice-aggregate-put-listed put-listed-requires same-length returns-2)
