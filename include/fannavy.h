@@ -7,7 +7,9 @@
  * fannavy_fold.
  *
  * Lent memory, in every call:
- *   - no pointer is null, not even where its length is 0;
+ *   - a pointer may be null where its length is 0, as that of an empty std::string_view is. (The archive
+ *     itself takes no null pointer; the functions at the end of this file keep one from it. A language
+ *     that calls the archive past this header has to do the same);
  *   - the word and the output of one call do not overlap; where a call takes more than these, nothing
  *     that it writes overlaps anything else that it is lent;
  *   - the call reads the n bytes of the word and writes the first `length` bytes of the output
@@ -30,20 +32,33 @@
 extern "C" {
 #endif
 
+/* The version, of this header and of the archive beside it. */
+#define FANNAVY_VERSION "0.1.0"
+
 /* The longest word, in bytes: one byte more is refused. */
 #define FANNAVY_LIMIT 96
 
+/*
+ * Any integer as a size_t, for the three sizes that follow. In C++ this is no old-style cast, and never
+ * one from size_t to itself, which some warn of: with 0LL the sum has another type.
+ */
+#ifdef __cplusplus
+#define FANNAVY_SIZE_(n) (static_cast<size_t>((n) + 0LL))
+#else
+#define FANNAVY_SIZE_(n) ((size_t)(n))
+#endif
+
 /* The least output for a word of n bytes, of fannavy_postlude, fannavy_pass and fannavy_whole. */
-#define FANNAVY_PASS_ROOM(n) ((size_t)(n) + 2)
+#define FANNAVY_PASS_ROOM(n) (FANNAVY_SIZE_(n) + 2)
 
 /* The least output for a word of n bytes, of fannavy_noun. */
-#define FANNAVY_NOUN_ROOM(n) ((size_t)(n))
+#define FANNAVY_NOUN_ROOM(n) FANNAVY_SIZE_(n)
 
 /*
  * An output that always suffices for the fold of a word of n bytes. fannavy_fold itself asks only for
  * as many bytes as the folded text has.
  */
-#define FANNAVY_FOLD_ROOM(n) (2 * (size_t)(n))
+#define FANNAVY_FOLD_ROOM(n) (2 * FANNAVY_SIZE_(n))
 
 /* The least output whatever the word: of fannavy_pieces; of fannavy_pieces_text. */
 #define FANNAVY_PIECES_ROOM 9
@@ -193,7 +208,7 @@ typedef struct {
  *   yes   an ending was removed; where none was, the word is copied
  *
  * `room` is the output's size, FANNAVY_NOUN_ROOM(n) or more whatever the word: 0 for the empty word,
- * whose output's pointer still is not null. Refuses by the numbers 1, 2 and 3.
+ * whose output may be null. Refuses by the numbers 1, 2 and 3.
  */
 FannavyNoun fannavy_noun(const uint8_t *w, size_t n, uint8_t *out, size_t room);
 
@@ -312,6 +327,69 @@ typedef struct {
 FannavyBatch fannavy_batch(const uint8_t *front, size_t front_n, const uint8_t *tails,
                            size_t tails_n, uint8_t *lengths, size_t lengths_room, uint8_t *answers,
                            size_t answers_room, uint8_t *flags, size_t flags_room);
+
+/*
+ * Null pointers. The archive takes references, which are never null, not even to nothing. So from here on
+ * a call's name, and its address, mean the function below that has an underscore more: where a length is
+ * 0, it lends the archive a byte of its own, which is neither read nor written.
+ */
+#ifdef __cplusplus
+#define FANNAVY_INLINE_ inline
+#else
+#define FANNAVY_INLINE_ static inline
+#endif
+
+/* A call on a word. */
+#define FANNAVY_READS_(Answer, call)                                                                   \
+    FANNAVY_INLINE_ Answer call##_(const uint8_t *w, size_t n) {                                       \
+        uint8_t none = 0;                                                                              \
+        return call(n == 0 ? &none : w, n);                                                            \
+    }
+
+/* A call on a word and an output. */
+#define FANNAVY_WRITES_(Answer, call)                                                                  \
+    FANNAVY_INLINE_ Answer call##_(const uint8_t *w, size_t n, uint8_t *out, size_t room) {            \
+        uint8_t none = 0;                                                                              \
+        return call(n == 0 ? &none : w, n, room == 0 ? &none : out, room);                             \
+    }
+
+FANNAVY_READS_(bool, fannavy_is_utf8)
+FANNAVY_READS_(FannavySyllable, fannavy_syllable)
+FANNAVY_READS_(FannavyStage, fannavy_stage)
+FANNAVY_WRITES_(FannavyPostlude, fannavy_postlude)
+FANNAVY_WRITES_(FannavyFold, fannavy_fold)
+FANNAVY_WRITES_(FannavyPass, fannavy_pass)
+FANNAVY_WRITES_(FannavyNoun, fannavy_noun)
+FANNAVY_WRITES_(FannavyWhole, fannavy_whole)
+FANNAVY_WRITES_(FannavyPieces, fannavy_pieces)
+FANNAVY_WRITES_(FannavyPiecesText, fannavy_pieces_text)
+
+FANNAVY_INLINE_ FannavyBatch fannavy_batch_(const uint8_t *front, size_t front_n, const uint8_t *tails,
+                                            size_t tails_n, uint8_t *lengths, size_t lengths_room,
+                                            uint8_t *answers, size_t answers_room, uint8_t *flags,
+                                            size_t flags_room) {
+    uint8_t none = 0;
+    return fannavy_batch(front_n == 0 ? &none : front, front_n, tails_n == 0 ? &none : tails, tails_n,
+                         lengths_room == 0 ? &none : lengths, lengths_room,
+                         answers_room == 0 ? &none : answers, answers_room,
+                         flags_room == 0 ? &none : flags, flags_room);
+}
+
+#define fannavy_is_utf8 fannavy_is_utf8_
+#define fannavy_syllable fannavy_syllable_
+#define fannavy_stage fannavy_stage_
+#define fannavy_postlude fannavy_postlude_
+#define fannavy_fold fannavy_fold_
+#define fannavy_pass fannavy_pass_
+#define fannavy_noun fannavy_noun_
+#define fannavy_whole fannavy_whole_
+#define fannavy_pieces fannavy_pieces_
+#define fannavy_pieces_text fannavy_pieces_text_
+#define fannavy_batch fannavy_batch_
+
+#undef FANNAVY_WRITES_
+#undef FANNAVY_READS_
+#undef FANNAVY_INLINE_
 
 #ifdef __cplusplus
 }
