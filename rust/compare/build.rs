@@ -1,6 +1,6 @@
-// Links libprobe.a; ../link.rs says where it is looked for. The package fannavy links libfannavy.a.
+// Links libprobe.a; link.rs of the package fannavy, which links libfannavy.a, says where it is looked for.
 
-#[path = "../link.rs"]
+#[path = "../fannavy/link.rs"]
 mod link;
 
 fn main() {

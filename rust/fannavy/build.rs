@@ -1,6 +1,5 @@
-// Links libfannavy.a; ../link.rs says where it is looked for.
+// Links libfannavy.a; link.rs says where it is looked for.
 
-#[path = "../link.rs"]
 mod link;
 
 fn main() {

@@ -120,14 +120,14 @@ thread_local! {
 
 #[cfg(any(feature = "oracle", feature = "libstemmer"))]
 fn whole(word: &str, output: &mut Output) -> usize {
-    fannavy::whole(word.as_bytes(), output).map_or(REFUSED, <[u8]>::len)
+    fannavy::whole(word.as_bytes(), output).map_or(REFUSED, str::len)
 }
 
 /// The fold, of headings. The crate has none: its counterpart is the rule, character by character.
 pub const FOLD: Pair = Pair {
     name: "fold",
     takes_text: true,
-    proved: |word, output| fannavy::fold(word.as_bytes(), output).map_or(REFUSED, <[u8]>::len),
+    proved: |word, output| fannavy::fold(word.as_bytes(), output).map_or(REFUSED, str::len),
     rust: |word, _| folded(word).len(),
 };
 

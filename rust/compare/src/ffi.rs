@@ -2,7 +2,10 @@
 //! Nothing checks these lines against the Rattle source: a slice passes as a pointer, never null, and
 //! then a length.
 
-pub use fannavy::ffi::*;
+#[path = "../../fannavy/src/exports.rs"]
+mod exports;
+
+pub use exports::*;
 
 /// What a step of the cursor answers: whether it moved, the code point met (0 where none was), and
 /// the cursor record after it.

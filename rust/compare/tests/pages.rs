@@ -23,6 +23,10 @@ fn the_pages_name_the_limit() {
             format!("\n.TP\n.B 1\nover {LIMIT} bytes\n"),
         ),
         ("stemlist", format!("1 over {LIMIT} bytes,")),
+        (
+            "libexec/clashes",
+            format!("why[1] = \"over {LIMIT} bytes\""),
+        ),
     ] {
         let text = fs::read_to_string(root.join(page)).expect(page);
         assert!(text.contains(&words), "{page} does not say: {words}");

@@ -1,13 +1,13 @@
 //! The suffix stage of many words with one front.
 
 use crate::ffi;
-use crate::refusal::refused;
 use crate::{Refusal, TAILS};
 #[cfg(doc)]
 use crate::{Stage, TAIL_LEAST};
 
 /// What the suffix stage answers of one word of a batch.
 #[derive(Clone, Copy, Debug, PartialEq, Eq)]
+#[must_use]
 pub struct Answer {
     /// How many bytes of the word are kept, the front's among them: the length of [`Stage::kept`].
     pub kept: usize,
@@ -19,6 +19,7 @@ pub struct Answer {
 
 /// The answers of a batch, one for each tail.
 #[derive(Clone, Copy, Debug, PartialEq, Eq)]
+#[must_use]
 pub struct Batch {
     lengths: [u8; TAILS],
     answers: [u8; TAILS],
@@ -28,6 +29,11 @@ pub struct Batch {
 
 impl Batch {
     /// The answers in the order of the tails.
+    ///
+    /// # Panics
+    ///
+    /// As it goes, and only where libfannavy.a is of another edition than this crate.
+    #[must_use]
     pub fn iter(&self) -> impl ExactSizeIterator<Item = Answer> + '_ {
         (0..self.count).map(|i| Answer {
             kept: self.lengths[i].into(),
@@ -55,10 +61,18 @@ impl Batch {
 /// assert_eq!(fannavy::batch(b"ev", b"ler\n"), Err(Refusal::TailsRefused));
 /// # Ok::<(), fannavy::Refusal>(())
 /// ```
+///
+/// # Errors
+///
+/// Of the front, a tail or a joined word, number 1, [`Refusal::OverLimit`]; 2, [`Refusal::NotUtf8`]. Then
+/// 6, [`Refusal::TailsRefused`].
+///
+/// # Panics
+///
+/// Only where libfannavy.a is of another edition than this crate.
 pub fn batch(front: &[u8], tails: &[u8]) -> Result<Batch, Refusal> {
     let [mut lengths, mut answers, mut flags] = [[0; TAILS]; 3];
-    let answer = ffi::batch(front, tails, &mut lengths, &mut answers, &mut flags);
-    refused(answer.refusal)?;
+    let answer = ffi::batch(front, tails, &mut lengths, &mut answers, &mut flags)?;
     Ok(Batch {
         lengths,
         answers,
@@ -89,6 +103,7 @@ fn told(byte: u8) -> bool {
 mod tests {
     use super::*;
     use crate::{stage, LIMIT};
+    use std::prelude::rust_2021::*;
 
     const FRONT: &str = "elektromanyetik";
     const LIST: [&str; 4] = [

@@ -1,160 +1,70 @@
-//! The exports of libfannavy.a, as include/fannavy.h has them, and the only unsafe code here. Nothing
-//! checks these lines against the Rattle source: a slice passes as a pointer, never null, and then a
-//! length. The comparison with the Rust calls through them.
+//! The exports as safe calls: slices in, and out the answer or the refusal, with the word as text.
+//!
+//! The header asks of a caller, under "Lent memory", that no pointer is null, that as many bytes are
+//! behind each as its length says, and that nothing written overlaps anything else that is lent. Slices
+//! are so by themselves: an empty one is not null either, and an exclusive one overlaps no other.
 
-#[repr(C)]
-#[derive(Clone, Copy, Debug, PartialEq, Eq)]
-pub struct FannavySyllable {
-    pub refusal: u32,
-    pub yes: bool,
+use crate::exports::*;
+use crate::refusal::{refused, Refusal};
+
+/// What a call answers of a word that it took: the word, which then is text, and the answer.
+type Taken<'a, A> = Result<(&'a str, A), Refusal>;
+
+// The calls that are lent a word alone.
+macro_rules! on_word {
+    ($($call:ident: $export:ident -> $answer:ty;)+) => {$(
+        pub(crate) fn $call(w: &[u8]) -> Taken<'_, $answer> {
+            // SAFETY: a slice, as the header asks.
+            let answer = unsafe { $export(w.as_ptr(), w.len()) };
+            refused(answer.refusal)?;
+            // SAFETY: the call took the word.
+            Ok((unsafe { taken(w) }, answer))
+        }
+    )+};
 }
 
-#[repr(C)]
-#[derive(Clone, Copy, Debug, PartialEq, Eq)]
-pub struct FannavyStage {
-    pub refusal: u32,
-    pub length: usize,
-    pub yes: bool,
-    pub flag: bool,
-    pub harmonic: bool,
-    pub last: usize,
-    pub partner: usize,
-    pub loan: bool,
+on_word! {
+    syllable: fannavy_syllable -> FannavySyllable;
+    stage: fannavy_stage -> FannavyStage;
 }
 
-#[repr(C)]
-#[derive(Clone, Copy, Debug, PartialEq, Eq)]
-pub struct FannavyPostlude {
-    pub refusal: u32,
-    pub length: usize,
-    pub yes: bool,
+// The calls that are lent an output too.
+macro_rules! into_output {
+    ($($call:ident: $export:ident -> $answer:ty;)+) => {$(
+        pub(crate) fn $call<'a>(w: &'a [u8], out: &mut [u8]) -> Taken<'a, $answer> {
+            // SAFETY: slices, as the header asks; the one that is written is exclusive.
+            let answer = unsafe { $export(w.as_ptr(), w.len(), out.as_mut_ptr(), out.len()) };
+            refused(answer.refusal)?;
+            // SAFETY: the call took the word.
+            Ok((unsafe { taken(w) }, answer))
+        }
+    )+};
 }
 
-#[repr(C)]
-#[derive(Clone, Copy, Debug, PartialEq, Eq)]
-pub struct FannavyFold {
-    pub refusal: u32,
-    pub length: usize,
+into_output! {
+    postlude: fannavy_postlude -> FannavyPostlude;
+    pass: fannavy_pass -> FannavyPass;
+    noun: fannavy_noun -> FannavyNoun;
+    whole: fannavy_whole -> FannavyWhole;
+    pieces: fannavy_pieces -> FannavyPieces;
+    pieces_text: fannavy_pieces_text -> FannavyPiecesText;
 }
-
-#[repr(C)]
-#[derive(Clone, Copy, Debug, PartialEq, Eq)]
-pub struct FannavyPass {
-    pub refusal: u32,
-    pub length: usize,
-    pub syllable: bool,
-    pub yes: bool,
-    pub flag: bool,
-}
-
-#[repr(C)]
-#[derive(Clone, Copy, Debug, PartialEq, Eq)]
-pub struct FannavyNoun {
-    pub refusal: u32,
-    pub length: usize,
-    pub yes: bool,
-}
-
-#[repr(C)]
-#[derive(Clone, Copy, Debug, PartialEq, Eq)]
-pub struct FannavyWhole {
-    pub refusal: u32,
-    pub length: usize,
-}
-
-#[repr(C)]
-#[derive(Clone, Copy, Debug, PartialEq, Eq)]
-pub struct FannavyPieces {
-    pub refusal: u32,
-    pub length: usize,
-    pub count: usize,
-}
-
-#[repr(C)]
-#[derive(Clone, Copy, Debug, PartialEq, Eq)]
-pub struct FannavyPiecesText {
-    pub refusal: u32,
-    pub length: usize,
-}
-
-#[repr(C)]
-#[derive(Clone, Copy, Debug, PartialEq, Eq)]
-pub struct FannavyBatch {
-    pub refusal: u32,
-    pub count: usize,
-}
-
-extern "C" {
-    pub fn fannavy_is_utf8(w: *const u8, n: usize) -> bool;
-    pub fn fannavy_syllable(w: *const u8, n: usize) -> FannavySyllable;
-    pub fn fannavy_stage(w: *const u8, n: usize) -> FannavyStage;
-    pub fn fannavy_postlude(w: *const u8, n: usize, out: *mut u8, room: usize) -> FannavyPostlude;
-    pub fn fannavy_fold(w: *const u8, n: usize, out: *mut u8, room: usize) -> FannavyFold;
-    pub fn fannavy_pass(w: *const u8, n: usize, out: *mut u8, room: usize) -> FannavyPass;
-    pub fn fannavy_noun(w: *const u8, n: usize, out: *mut u8, room: usize) -> FannavyNoun;
-    pub fn fannavy_whole(w: *const u8, n: usize, out: *mut u8, room: usize) -> FannavyWhole;
-    pub fn fannavy_pieces(w: *const u8, n: usize, out: *mut u8, room: usize) -> FannavyPieces;
-    pub fn fannavy_pieces_text(
-        w: *const u8,
-        n: usize,
-        out: *mut u8,
-        room: usize,
-    ) -> FannavyPiecesText;
-    pub fn fannavy_batch(
-        front: *const u8,
-        front_n: usize,
-        tails: *const u8,
-        tails_n: usize,
-        lengths: *mut u8,
-        lengths_room: usize,
-        answers: *mut u8,
-        answers_room: usize,
-        flags: *mut u8,
-        flags_room: usize,
-    ) -> FannavyBatch;
-}
-
-// Each call on slices. A reference is what the archive asks for: not null, as long as it says, and
-// an exclusive one overlaps no other.
 
 pub(crate) fn is_utf8(w: &[u8]) -> bool {
+    // SAFETY: a slice, as the header asks.
     unsafe { fannavy_is_utf8(w.as_ptr(), w.len()) }
 }
 
-pub(crate) fn syllable(w: &[u8]) -> FannavySyllable {
-    unsafe { fannavy_syllable(w.as_ptr(), w.len()) }
-}
-
-pub(crate) fn stage(w: &[u8]) -> FannavyStage {
-    unsafe { fannavy_stage(w.as_ptr(), w.len()) }
-}
-
-pub(crate) fn postlude(w: &[u8], out: &mut [u8]) -> FannavyPostlude {
-    unsafe { fannavy_postlude(w.as_ptr(), w.len(), out.as_mut_ptr(), out.len()) }
-}
-
-pub(crate) fn fold(w: &[u8], out: &mut [u8]) -> FannavyFold {
-    unsafe { fannavy_fold(w.as_ptr(), w.len(), out.as_mut_ptr(), out.len()) }
-}
-
-pub(crate) fn pass(w: &[u8], out: &mut [u8]) -> FannavyPass {
-    unsafe { fannavy_pass(w.as_ptr(), w.len(), out.as_mut_ptr(), out.len()) }
-}
-
-pub(crate) fn noun(w: &[u8], out: &mut [u8]) -> FannavyNoun {
-    unsafe { fannavy_noun(w.as_ptr(), w.len(), out.as_mut_ptr(), out.len()) }
-}
-
-pub(crate) fn whole(w: &[u8], out: &mut [u8]) -> FannavyWhole {
-    unsafe { fannavy_whole(w.as_ptr(), w.len(), out.as_mut_ptr(), out.len()) }
-}
-
-pub(crate) fn pieces(w: &[u8], out: &mut [u8]) -> FannavyPieces {
-    unsafe { fannavy_pieces(w.as_ptr(), w.len(), out.as_mut_ptr(), out.len()) }
-}
-
-pub(crate) fn pieces_text(w: &[u8], out: &mut [u8]) -> FannavyPiecesText {
-    unsafe { fannavy_pieces_text(w.as_ptr(), w.len(), out.as_mut_ptr(), out.len()) }
+/// The folded text.
+pub(crate) fn fold<'a>(w: &[u8], out: &'a mut [u8]) -> Result<&'a str, Refusal> {
+    // SAFETY: slices, as the header asks; the one that is written is exclusive.
+    let answer = unsafe { fannavy_fold(w.as_ptr(), w.len(), out.as_mut_ptr(), out.len()) };
+    refused(answer.refusal)?;
+    let text = &out[..answer.length];
+    debug_assert!(str::from_utf8(text).is_ok());
+    // SAFETY: the call took the word, and the folded text of a text is a text, `folded-is-text` of
+    // crates/turkish/proofs/Theorems.antt; that it is what was written is the call's contract.
+    Ok(unsafe { str::from_utf8_unchecked(text) })
 }
 
 pub(crate) fn batch(
@@ -163,8 +73,9 @@ pub(crate) fn batch(
     lengths: &mut [u8],
     answers: &mut [u8],
     flags: &mut [u8],
-) -> FannavyBatch {
-    unsafe {
+) -> Result<FannavyBatch, Refusal> {
+    // SAFETY: slices, as the header asks; the three that are written are exclusive.
+    let answer = unsafe {
         fannavy_batch(
             front.as_ptr(),
             front.len(),
@@ -177,5 +88,20 @@ pub(crate) fn batch(
             flags.as_mut_ptr(),
             flags.len(),
         )
-    }
+    };
+    refused(answer.refusal)?;
+    Ok(answer)
+}
+
+/// A word that a call took, as text.
+///
+/// # Safety
+///
+/// A call on the word answered without a refusal.
+unsafe fn taken(word: &[u8]) -> &str {
+    debug_assert!(str::from_utf8(word).is_ok());
+    // SAFETY: a word that is not refused is UTF-8, and that is the encoding of scalar values: two theorems
+    // `accepts-exactly`, of crates/turkish and of crates/encoding, in their proofs/Theorems.antt; that the
+    // call refuses all others is its contract.
+    unsafe { str::from_utf8_unchecked(word) }
 }

@@ -1,7 +1,7 @@
 //! The sizes of the C header, read from it as the crate is compiled, so that hosts are told each once.
 
 /// The header's text.
-pub(crate) const TEXT: &str = include_str!("../../../include/fannavy.h");
+pub(crate) const TEXT: &str = include_str!("../include/fannavy.h");
 
 /// The number that the header defines under this name; a constant made by it does not compile where there
 /// is none.
@@ -65,6 +65,7 @@ const fn number(mut text: &[u8]) -> usize {
 #[cfg(test)]
 mod tests {
     use super::*;
+    use std::format;
 
     #[test]
     fn a_size_is_the_definition_s_own() {

@@ -3,7 +3,7 @@
 #[cfg(doc)]
 use crate::Stage;
 use crate::PIECES_ROOM;
-use std::cmp::Reverse;
+use core::cmp::Reverse;
 
 // The bytes in which the archive tells a piece, and how many pieces a word has at most.
 const BYTES: usize = 3;
@@ -55,6 +55,7 @@ pub enum Kind {
 
 impl Kind {
     /// The number under which the archive and its header know the kind, 1 to 12.
+    #[must_use]
     pub const fn number(self) -> u8 {
         match self {
             Kind::YUm(_) => 1,
@@ -73,11 +74,13 @@ impl Kind {
     }
 
     /// The mark's name, as the text form has it.
+    #[must_use]
     pub const fn name(self) -> &'static str {
         NAMES[self.number() as usize - 1]
     }
 
     /// How the piece joined; none for the six kinds that ask for no y.
+    #[must_use]
     pub const fn joining(self) -> Option<Joining> {
         match self {
             Kind::YUm(joining)
@@ -111,6 +114,7 @@ pub(crate) fn all(joining: Joining) -> [Kind; 12] {
 
 /// A piece of a word: its letters are `word[first..=last]`, with the y that joined it.
 #[derive(Clone, Copy, Debug, PartialEq, Eq)]
+#[must_use]
 pub struct Piece {
     /// What it is, and how it joined.
     pub kind: Kind,
@@ -123,9 +127,10 @@ pub struct Piece {
 /// What the suffix stage removed: up to three pieces, which lie end to end from the end of the text
 /// kept to the word's end.
 #[derive(Clone, Copy, Debug, PartialEq, Eq)]
+#[must_use]
 pub struct Pieces<'a> {
     /// What is kept, as [`Stage::kept`]: the whole word where there is no piece.
-    pub kept: &'a [u8],
+    pub kept: &'a str,
     list: [Option<Piece>; MOST],
 }
 
@@ -140,7 +145,7 @@ impl Pieces<'_> {
 // The first `count` pieces of a buffer, which may stand in any order there. As with refusals, only
 // another edition's archive has more than there is room for.
 pub(crate) fn read<'a>(
-    word: &'a [u8],
+    word: &'a str,
     kept: usize,
     buffer: &[u8; PIECES_ROOM],
     count: usize,
@@ -151,7 +156,7 @@ pub(crate) fn read<'a>(
     );
     let mut list = [None; MOST];
     for (entry, bytes) in list.iter_mut().zip(buffer.as_chunks().0).take(count) {
-        *entry = Some(piece(word, kept, *bytes));
+        *entry = Some(piece(word.as_bytes(), kept, *bytes));
     }
     list.sort_unstable_by_key(|piece| Reverse(piece.map(|piece: Piece| piece.first)));
     Pieces {
@@ -188,6 +193,7 @@ fn known(number: u8, joining: Joining) -> Kind {
 #[cfg(test)]
 mod tests {
     use super::*;
+    use std::prelude::rust_2021::*;
 
     #[test]
     fn numbers_and_joints_come_back() {
@@ -210,12 +216,12 @@ mod tests {
     #[test]
     #[should_panic(expected = "gives 4 pieces")]
     fn a_piece_too_many_is_not_passed_over() {
-        read(b"evler", 2, &[5, 0, 2, 5, 0, 2, 5, 0, 2], MOST + 1);
+        let _ = read("evler", 2, &[5, 0, 2, 5, 0, 2, 5, 0, 2], MOST + 1);
     }
 
     #[test]
     fn any_order_is_read_alike() {
-        let word = "aymışsınızcasına".as_bytes();
+        let word = "aymışsınızcasına";
         let [one, two, three] = [[8, 13, 19], [4, 6, 12], [11, 0, 5]];
         let sorted = read(word, 1, &[8, 13, 19, 4, 6, 12, 11, 0, 5], 3);
         for order in [
@@ -234,8 +240,8 @@ mod tests {
 
     #[test]
     fn entries_past_the_count_are_not_read() {
-        let pieces = read(b"evler", 2, &[5, 0, 2, 0, 0, 0, 0, 0, 0], 1);
+        let pieces = read("evler", 2, &[5, 0, 2, 0, 0, 0, 0, 0, 0], 1);
         assert_eq!(pieces.iter().count(), 1);
-        assert_eq!(pieces.kept, b"ev");
+        assert_eq!(pieces.kept, "ev");
     }
 }

@@ -3,28 +3,29 @@
 #[cfg(doc)]
 use crate::{batch, PIECES_ROOM, PIECES_TEXT_ROOM};
 use crate::{LIMIT, TAILS, TAIL_LEAST};
-use std::error::Error;
-use std::fmt::{self, Display, Formatter};
+use core::error::Error;
+use core::fmt::{self, Display, Formatter};
 
 /// Why a call refused, the first that applies in this order. A refused call changes no byte of its
 /// output.
 #[derive(Clone, Copy, Debug, PartialEq, Eq, Hash)]
 pub enum Refusal {
-    /// The word is longer than [`LIMIT`] bytes; of a [`batch()`], its front, a tail or a joined word.
+    /// Number 1: the word is longer than [`LIMIT`] bytes; of a [`batch()`], its front, a tail or a joined word.
     OverLimit,
-    /// The word, or one of these, is not UTF-8.
+    /// Number 2: the word, or one of these, is not UTF-8.
     NotUtf8,
-    /// A [`batch()`] has more than [`TAILS`] tails, or one of fewer than [`TAIL_LEAST`] characters.
+    /// Number 6: a [`batch()`] has more than [`TAILS`] tails, or one of fewer than [`TAIL_LEAST`] characters.
     TailsRefused,
-    /// The output is shorter than the call needs.
+    /// Number 3: the output is shorter than the call needs.
     OutputTooShort,
-    /// The buffer for pieces is shorter than [`PIECES_ROOM`] bytes, or for their text than
+    /// Number 5: the buffer for pieces is shorter than [`PIECES_ROOM`] bytes, or for their text than
     /// [`PIECES_TEXT_ROOM`].
     BufferTooShort,
 }
 
 impl Refusal {
     /// The number under which the archive and its header know the refusal.
+    #[must_use]
     pub const fn number(self) -> u32 {
         match self {
             Refusal::OverLimit => 1,
@@ -72,6 +73,7 @@ pub(crate) fn refused(number: u32) -> Result<(), Refusal> {
 #[cfg(test)]
 mod tests {
     use super::*;
+    use std::string::ToString;
 
     const ALL: [Refusal; 5] = [
         Refusal::OverLimit,

@@ -31,10 +31,10 @@ pub fn run(words: &Words, report: &mut Report) -> Outcome {
 fn compare(by: &str, word: &str, stem: &str, lent: &mut Lent, report: &mut Report) -> Outcome {
     lent.set(word.as_bytes());
     let expected = match word.len() {
-        ..=LIMIT => Ok(stem.to_string()),
-        _ => Err(Refusal::OverLimit),
+        ..=LIMIT => Ok(stem),
+        _ => Err(&Refusal::OverLimit),
     };
     let call = format_args!("the binding's stem, and in Rust's place {by}");
-    report.same(lent, call, fannavy::stem(word), expected)?;
+    report.same(lent, call, fannavy::stem(word).as_deref(), expected)?;
     report.done(lent)
 }
