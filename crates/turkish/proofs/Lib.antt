@@ -16,7 +16,9 @@ pub mod HeardTheorems
 pub mod Shapes
 pub mod PieceLines
 pub mod ReadBack
+pub mod PieceTexts
 pub mod Sizes
+pub mod Texts
 pub mod Folds
 pub mod FoldWords
 pub mod Tables

@@ -27,6 +27,15 @@ gained-elim P v p q r s z =
     (cond-both P (has (text "ou") v) _ _ r
     (cond-both P (has (text "öü") v) _ _ s z)))
 
+-- what holds of p, ç, t, k and of a character holds of the character hardened
+pub hard-elim : (P : ℕ → Type 0) (c : ℕ) → P (code "p") → P (code "ç") → P (code "t") → P (code "k") → P c → P (hard c)
+unfolding hard hardIn hardenings
+hard-elim P c p q r s z =
+    cond-both P (starts (fromEnd "b") (c ∷ [])) _ _ p
+    (cond-both P (starts (fromEnd "c") (c ∷ [])) _ _ q
+    (cond-both P (starts (fromEnd "d") (c ∷ [])) _ _ r
+    (cond-both P (starts (fromEnd "ğ") (c ∷ [])) _ _ s z)))
+
 -- a gained vowel does not harden
 pub hard-gained : (v : ℕ) → hard (gained v) ≡ gained v
 unfolding hard hardIn hardenings starts fromEnd text

@@ -2,33 +2,29 @@
 -- the stage hands back: a front of the word, the bytes of the characters kept. Assumes nothing.
 use Prim.Native.Nat.{ℕ, zero, suc, _+_, _≤_}
 use mathlib.Core.Path.{_≡_, refl, sym, ap, _∙_}
-use mathlib.Core.Bool.{Bool, true}
+use mathlib.Core.Bool.{true}
 use mathlib.Core.List.{List, [], _∷_, _++_}
 use native.Mathlib.Omega.{arith}
 use lib.ListN.{length, take, drop, take-append-drop, length-append}
 use lib.Seq.{length-take-le, drop-drop}
-use lib.Dec.{leb}
-use borrow.Author.Tests.{leb-true}
 use Rattle.encoding.specs.Encoding.{encode}
 use Rattle.encoding.specs.Text.{TextOf}
-use Rattle.encoding.proofs.Laws.Booleans.{and-left, and-right, cond-test}
+use Rattle.encoding.proofs.Laws.Booleans.{cond-test}
 use Rattle.utf8.proofs.Laws.Characters.{back-le}
 use Rattle.utf8.proofs.TextCharacters.{take-back}
-use Rattle.turkish.specs.Letters.{starts}
 use Rattle.turkish.specs.Vowels.{lastVowel}
 use Rattle.turkish.specs.Simple.Harmony.{moreThanOneSyllable}
 use Rattle.turkish.specs.Simple.Stage.{stage, kept, keptLength}
-use Rattle.turkish.specs.Simple.Postlude.{reserved, gained, appends, appendU, Hardening, hardenings, hardIn, hard, harden, postlude}
+use Rattle.turkish.specs.Simple.Postlude.{reserved, gained, appends, appendU, hard, harden, postlude}
 use Rattle.turkish.specs.Simple.Nouns as nouns
 use Rattle.turkish.specs.Simple.Nouns.{Rest, whole, cut, parted, nounRest, restText}
 use Rattle.turkish.specs.Simple.WholeRun as runs
 use Rattle.turkish.specs.WordPass.{Passed, pass}
 use Rattle.turkish.specs.Calls.{chars, bytes, accepted, stageText, stagePart, postludeText, passText, nounText, wholeText}
-use Rattle.turkish.proofs.Laws.Tests.{every}
 use Rattle.turkish.proofs.Laws.Accepted.{accepted-text, bytes-chars}
 use Rattle.turkish.proofs.Laws.Words.{bytes-append, length-bytes-cons}
 use Rattle.turkish.proofs.Source.Calls.{suffixStage-text, postludeOf-text, simplePass, pass-simple, nounText-simple, wholeText-simple}
-use Rattle.turkish.proofs.PostludeRules.{gained-elim, postlude-one}
+use Rattle.turkish.proofs.PostludeRules.{gained-elim, hard-elim, postlude-one}
 
 -- ---- characters ----
 
@@ -43,22 +39,10 @@ gained-size : (v : ℕ) → length (encode (gained v)) ≤ 2
 unfolding encode
 gained-size v = gained-elim (λ c. length (encode c) ≤ 2) v (omega arith) (omega arith) (omega arith) (omega arith) (omega arith)
 
--- what a key of A_23 becomes takes two bytes at most
-becomesTwo : Hardening → Bool
-becomesTwo h = leb (length (encode (h .becomes))) 2
-
--- so a hardened character takes two bytes more at most
-hardIn-size : (hs : List Hardening) (c : ℕ) → every becomesTwo hs ≡ true → length (encode (hardIn hs c)) ≤ length (encode c) + 2
-unfolding hardIn every becomesTwo
-hardIn-size [] c e = omega arith
-hardIn-size (h ∷ hs) c e =
-    let l : length (encode (h .becomes)) ≤ 2 = leb-true _ 2 (and-left (becomesTwo h) (every becomesTwo hs) e) in
-    cond-test (λ d. length (encode d) ≤ length (encode c) + 2) (starts (h .key) (c ∷ [])) (λ t. omega arith)
-    (hardIn-size hs c (and-right (becomesTwo h) (every becomesTwo hs) e))
-
+-- a hardened character takes two bytes more at most
 hard-size : (c : ℕ) → length (encode (hard c)) ≤ length (encode c) + 2
-unfolding hard
-hard-size c = hardIn-size hardenings c (unfold hardenings every becomesTwo encode in refl)
+unfolding encode
+hard-size c = hard-elim (λ d. length (encode d) ≤ length (encode c) + 2) c (omega arith) (omega arith) (omega arith) (omega arith) (omega arith)
 
 -- ---- texts ----
 

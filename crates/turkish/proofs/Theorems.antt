@@ -70,6 +70,7 @@ use Rattle.turkish.proofs.Nothing.{left-empty}
 use Rattle.turkish.proofs.Laws.Syllables.{moreThanOneSyllable-no}
 use Rattle.turkish.proofs.Sizes.{postludeText-size, passText-size, nounText-size, wholeText-size, stageText-length, stagePart-front}
 use Rattle.turkish.proofs.NounParts.{nounText-part, nounText-changes}
+use Rattle.turkish.proofs.Texts.{calls-text}
 use Rattle.turkish.proofs.Folds.{foldText-doubled, foldText-before, foldText-text, foldText-foldText, foldCall-fits, foldCall-short, foldCall-long}
 use Rattle.turkish.proofs.Folds.{letters-I-text, letters-I-length, letters-I-folded, letters-ı-length}
 use Rattle.turkish.proofs.FoldWords as FoldWords
@@ -77,6 +78,7 @@ use Rattle.turkish.proofs.Tables.{one-key, key-letters, key-start}
 use Rattle.turkish.proofs.PostludeRules.{postlude-one}
 use Rattle.turkish.proofs.PieceTheorems.{at-most-three-pieces, kinds-1-to-12, end-to-end, together-removed, covered-once, pieces-within, joined-told, buffer-fits, buffer-bytes, text-fits}
 use Rattle.turkish.proofs.ReadBack.{lines-tell-word, texts-tell-word, calls-tell-word}
+use Rattle.turkish.proofs.PieceTexts.{textOf-text}
 use Rattle.turkish.proofs.PieceWords as PieceWords
 use Rattle.turkish.proofs.HeardTheorems.{harmony-finds, not-harmonic, none-tests, key-vowel}
 use Rattle.turkish.proofs.HeardWords as HeardWords
@@ -115,6 +117,12 @@ pub outputs-suffice : (w : List ℕ) → accepted w ≡ true
     × (length (nounText w) ≤ length w) × (length (wholeText w) ≤ length w + 2)
 outputs-suffice w a =
     (postludeText-size w a, passText-size w a, foldText-doubled w (accepted-iff w .0 a .1) .0, nounText-size w a, wholeText-size w a)
+
+-- what the calls give of an accepted word is UTF-8, as `folded-is-text` says of the fold
+pub texts-are-text : (w : List ℕ) → accepted w ≡ true
+    → (isText (stageText w) ≡ true) × (isText (postludeText w) ≡ true) × (isText (passText w) ≡ true)
+    × (isText (nounText w) ≡ true) × (isText (wholeText w) ≡ true)
+texts-are-text = calls-text
 
 -- ---- demand 2: turkish.sbl, and the simple forms that the code's contracts rest on ----
 
@@ -279,6 +287,10 @@ pub forms-fit : (w : List ℕ) {ps : List Span} → accepted w ≡ true → List
     → (length (bufferOf w ps) ≤ piecesRoom) × (length (textOf w ps) ≤ textRoom)
     × (length (bufferOf w ps) ≡ length (bufferOf w (spansOf w))) × (length (textOf w ps) ≡ length (textOf w (spansOf w)))
 forms-fit w a r = (buffer-fits w r, text-fits w a r, sym (bufferOf-perm w r), sym (textOf-perm w r))
+
+-- in every order their text form is UTF-8
+pub pieces-are-text : (w : List ℕ) {ps : List Span} → accepted w ≡ true → List·Permᴰ (spansOf w) ps → isText (textOf w ps) ≡ true
+pieces-are-text = textOf-text
 
 -- a refused call leaves its buffer as it was
 pub refused-pieces-stay : (w before after : List ℕ)

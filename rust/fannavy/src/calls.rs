@@ -2,7 +2,6 @@
 
 use crate::ffi;
 use crate::pieces::{self, Pieces};
-use crate::text::{looked_through, written};
 #[cfg(doc)]
 use crate::{fold_room, noun_room, pass_room, Kind, PIECES_TEXT_ROOM};
 use crate::{Refusal, PIECES_ROOM};
@@ -157,9 +156,9 @@ pub fn stage(word: &[u8]) -> Result<Stage<'_>, Refusal> {
 ///
 /// Only where libfannavy.a is of another edition than this crate.
 pub fn postlude<'a>(word: &[u8], out: &'a mut [u8]) -> Result<Postlude<'a>, Refusal> {
-    let (word, answer) = ffi::postlude(word, out)?;
+    let (text, answer) = ffi::postlude(word, out)?;
     Ok(Postlude {
-        text: written(word, &out[..answer.length]),
+        text,
         yes: answer.yes,
     })
 }
@@ -186,7 +185,8 @@ pub fn postlude<'a>(word: &[u8], out: &'a mut [u8]) -> Result<Postlude<'a>, Refu
 ///
 /// Only where libfannavy.a is of another edition than this crate.
 pub fn fold<'a>(word: &[u8], out: &'a mut [u8]) -> Result<&'a str, Refusal> {
-    ffi::fold(word, out)
+    let (text, _) = ffi::fold(word, out)?;
+    Ok(text)
 }
 
 /// The word pass: the suffix stage of a word that has two vowels or more, and the postlude of what
@@ -209,9 +209,9 @@ pub fn fold<'a>(word: &[u8], out: &'a mut [u8]) -> Result<&'a str, Refusal> {
 ///
 /// Only where libfannavy.a is of another edition than this crate.
 pub fn pass<'a>(word: &[u8], out: &'a mut [u8]) -> Result<Pass<'a>, Refusal> {
-    let (word, answer) = ffi::pass(word, out)?;
+    let (text, answer) = ffi::pass(word, out)?;
     Ok(Pass {
-        text: written(word, &out[..answer.length]),
+        text,
         syllable: answer.syllable,
         yes: answer.yes,
         flag: answer.flag,
@@ -243,9 +243,9 @@ pub fn pass<'a>(word: &[u8], out: &'a mut [u8]) -> Result<Pass<'a>, Refusal> {
 ///
 /// Only where libfannavy.a is of another edition than this crate.
 pub fn noun<'a>(word: &[u8], out: &'a mut [u8]) -> Result<Noun<'a>, Refusal> {
-    let (word, answer) = ffi::noun(word, out)?;
+    let (text, answer) = ffi::noun(word, out)?;
     Ok(Noun {
-        text: written(word, &out[..answer.length]),
+        text,
         yes: answer.yes,
     })
 }
@@ -271,8 +271,8 @@ pub fn noun<'a>(word: &[u8], out: &'a mut [u8]) -> Result<Noun<'a>, Refusal> {
 ///
 /// Only where libfannavy.a is of another edition than this crate.
 pub fn whole<'a>(word: &[u8], out: &'a mut [u8]) -> Result<&'a str, Refusal> {
-    let (word, answer) = ffi::whole(word, out)?;
-    Ok(written(word, &out[..answer.length]))
+    let (text, _) = ffi::whole(word, out)?;
+    Ok(text)
 }
 
 /// What the suffix stage removed, in pieces: one for each mark that it kept.
@@ -328,8 +328,8 @@ pub fn pieces(word: &[u8]) -> Result<Pieces<'_>, Refusal> {
 ///
 /// Only where libfannavy.a is of another edition than this crate.
 pub fn pieces_text<'a>(word: &[u8], out: &'a mut [u8]) -> Result<&'a str, Refusal> {
-    let (_, answer) = ffi::pieces_text(word, out)?;
-    Ok(looked_through(&out[..answer.length]))
+    let (text, _) = ffi::pieces_text(word, out)?;
+    Ok(text)
 }
 
 #[cfg(test)]

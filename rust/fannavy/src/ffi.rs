@@ -28,43 +28,39 @@ on_word! {
     stage: fannavy_stage -> FannavyStage;
 }
 
-// The calls that are lent an output too.
-macro_rules! into_output {
+// The calls that write a text: the text, and the answer.
+macro_rules! into_text {
     ($($call:ident: $export:ident -> $answer:ty;)+) => {$(
-        pub(crate) fn $call<'a>(w: &'a [u8], out: &mut [u8]) -> Taken<'a, $answer> {
+        pub(crate) fn $call<'a>(w: &[u8], out: &'a mut [u8]) -> Result<(&'a str, $answer), Refusal> {
             // SAFETY: slices, as the header asks; the one that is written is exclusive.
             let answer = unsafe { $export(w.as_ptr(), w.len(), out.as_mut_ptr(), out.len()) };
             refused(answer.refusal)?;
-            // SAFETY: the call took the word.
-            Ok((unsafe { taken(w) }, answer))
+            // SAFETY: the call took the word, and so many bytes are what it wrote.
+            Ok((unsafe { written(&out[..answer.length]) }, answer))
         }
     )+};
 }
 
-into_output! {
+into_text! {
     postlude: fannavy_postlude -> FannavyPostlude;
+    fold: fannavy_fold -> FannavyFold;
     pass: fannavy_pass -> FannavyPass;
     noun: fannavy_noun -> FannavyNoun;
     whole: fannavy_whole -> FannavyWhole;
-    pieces: fannavy_pieces -> FannavyPieces;
     pieces_text: fannavy_pieces_text -> FannavyPiecesText;
+}
+
+pub(crate) fn pieces<'a>(w: &'a [u8], out: &mut [u8]) -> Taken<'a, FannavyPieces> {
+    // SAFETY: slices, as the header asks; the one that is written is exclusive.
+    let answer = unsafe { fannavy_pieces(w.as_ptr(), w.len(), out.as_mut_ptr(), out.len()) };
+    refused(answer.refusal)?;
+    // SAFETY: the call took the word.
+    Ok((unsafe { taken(w) }, answer))
 }
 
 pub(crate) fn is_utf8(w: &[u8]) -> bool {
     // SAFETY: a slice, as the header asks.
     unsafe { fannavy_is_utf8(w.as_ptr(), w.len()) }
-}
-
-/// The folded text.
-pub(crate) fn fold<'a>(w: &[u8], out: &'a mut [u8]) -> Result<&'a str, Refusal> {
-    // SAFETY: slices, as the header asks; the one that is written is exclusive.
-    let answer = unsafe { fannavy_fold(w.as_ptr(), w.len(), out.as_mut_ptr(), out.len()) };
-    refused(answer.refusal)?;
-    let text = &out[..answer.length];
-    debug_assert!(str::from_utf8(text).is_ok());
-    // SAFETY: the call took the word, and the folded text of a text is a text, `folded-is-text` of
-    // crates/turkish/proofs/Theorems.antt; that it is what was written is the call's contract.
-    Ok(unsafe { str::from_utf8_unchecked(text) })
 }
 
 pub(crate) fn batch(
@@ -104,4 +100,17 @@ unsafe fn taken(word: &[u8]) -> &str {
     // `accepts-exactly`, of crates/turkish and of crates/encoding, in their proofs/Theorems.antt; that the
     // call refuses all others is its contract.
     unsafe { str::from_utf8_unchecked(word) }
+}
+
+/// What a call wrote, as text.
+///
+/// # Safety
+///
+/// A call that writes a text answered without a refusal, and these are the bytes that it wrote.
+unsafe fn written(bytes: &[u8]) -> &str {
+    debug_assert!(str::from_utf8(bytes).is_ok());
+    // SAFETY: what these calls give of a word that is not refused is UTF-8: the theorems `texts-are-text`,
+    // `folded-is-text` and `pieces-are-text` in crates/turkish/proofs/Theorems.antt; that it is what was
+    // written is each call's contract.
+    unsafe { str::from_utf8_unchecked(bytes) }
 }

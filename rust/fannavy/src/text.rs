@@ -1,4 +1,4 @@
-//! A short text without allocation, and what a call wrote as text.
+//! A short text without allocation.
 
 use core::borrow::Borrow;
 use core::cmp::Ordering;
@@ -123,22 +123,6 @@ impl<const N: usize> Hash for Text<N> {
     }
 }
 
-/// What a call wrote of a word, as text. That it is text no theorem says, so it is tested here; but mostly it
-/// is the word's own beginning, and to compare these takes less time than to look it through.
-pub(crate) fn written<'a>(word: &str, bytes: &'a [u8]) -> &'a str {
-    match word.get(..bytes.len()) {
-        // SAFETY: these are the bytes of a `str`.
-        Some(front) if front.as_bytes() == bytes => unsafe { str::from_utf8_unchecked(bytes) },
-        _ => looked_through(bytes),
-    }
-}
-
-/// Bytes that are text, as they are of every archive of this crate's edition.
-#[cold]
-pub(crate) fn looked_through(bytes: &[u8]) -> &str {
-    str::from_utf8(bytes).expect("libfannavy.a writes text")
-}
-
 #[cfg(test)]
 mod tests {
     use super::*;
@@ -187,33 +171,5 @@ mod tests {
     #[should_panic(expected = "out of range")]
     fn a_text_that_is_too_long_is_not_cut() {
         let _ = Text::<4>::new("evler");
-    }
-
-    #[test]
-    fn what_is_written_is_the_word_s_beginning_or_any_text() {
-        for (word, text) in [
-            ("", ""),
-            ("", "ı"),
-            ("evler", "ev"),
-            ("ağaç", "ağaç"),
-            ("ağ", "ak"),
-            ("kanad", "kanadı"),
-            // The word has no boundary where the text ends.
-            ("ağ", "at"),
-        ] {
-            assert_eq!(written(word, text.as_bytes()), text);
-        }
-    }
-
-    #[test]
-    #[should_panic(expected = "writes text")]
-    fn half_a_character_of_the_word_is_no_text() {
-        written("ağ", b"a\xC4");
-    }
-
-    #[test]
-    #[should_panic(expected = "writes text")]
-    fn other_bytes_are_looked_through() {
-        written("ağaç", b"ev\xFF");
     }
 }
