@@ -16,6 +16,16 @@ test_parallel_lists_in_parts() {
     done
 }
 
+# Each part into a list of its own, whose number is the part's.
+test_parallel_lists_a_file_in_parts() {
+    local count
+    many_words >words
+    parallel --pipepart -a words --block 50k "'$stemlist' > list.{#}"
+    count=$(ls list.* | wc -l)
+    [ "$count" -gt 5 ]
+    for i in $(seq "$count"); do cat "list.$i"; done | cmp <("$stemlist" <words) -
+}
+
 # A map step of an engine that hands each worker lines: any cut at line ends, the parts' lists put together in their order.
 test_parts_put_together() {
     many_words >words
