@@ -7,8 +7,8 @@ use lib.ListN.{length, take, drop}
 use lib.Dec.{eqb, ltb}
 use Rattle.encoding.specs.Encoding.{continuation}
 use Rattle.turkish.specs.Letters.{lf}
-use Rattle.turkish.specs.Fronts.{endLength}
-use Rattle.turkish.specs.BatchCalls.{mostTails, some}
+use Rattle.theorems.specs.Fronts.{endLength}
+use Rattle.batches.specs.BatchCalls.{mostTails, some}
 use Rattle.batch.specs.declared.tails.Line.{Line}
 use Rattle.batch.specs.declared.tails.Survey.{Survey}
 use Rattle.batch.specs.declared.tails.Tails.{Tails}

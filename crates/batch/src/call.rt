@@ -4,7 +4,7 @@ use crate::refusal;
 use crate::tails;
 use turkish::answer::BatchAnswer;
 ghost use mathlib.Core.Path.{_≡_};
-ghost use Rattle.turkish.specs.BatchCalls.{batch, batchCall, lengthsAfter, answersAfter, flagsAfter};
+ghost use Rattle.batches.specs.BatchCalls.{batch, batchCall, lengthsAfter, answersAfter, flagsAfter};
 
 // How many tails there are; of each joined word, in order, the length kept, yes or no and the flag, to buffers of 64 entries or more.
 pub fn batch_words(

@@ -11,7 +11,7 @@ ghost use mathlib.Core.List.{_++_};
 ghost use lib.ListN.{length, take, set};
 ghost use Rattle.writing.specs.Put.{put};
 ghost use Rattle.turkish.specs.Calls.{limit};
-ghost use Rattle.turkish.specs.BatchCalls.{bit, batch, batchRefusal, tailsIn, lengthsAfter, answersAfter, flagsAfter};
+ghost use Rattle.batches.specs.BatchCalls.{bit, batch, batchRefusal, tailsIn, lengthsAfter, answersAfter, flagsAfter};
 ghost use Rattle.batch.specs.Tails.{Surveyed};
 ghost use Rattle.batch.specs.Fate.{fateOf};
 

@@ -4,7 +4,7 @@ use crate::tails::Survey;
 use encoding::validity;
 use words::refusal;
 ghost use mathlib.Core.Path.{_≡_};
-ghost use Rattle.turkish.specs.BatchCalls.{tailsIn, wordsRefusal, roomsRefusal, numberOf};
+ghost use Rattle.batches.specs.BatchCalls.{tailsIn, wordsRefusal, roomsRefusal, numberOf};
 ghost use Rattle.batch.specs.Tails.{Sized};
 
 // 1 where the front or a joined word is over the limit, 2 where the front or a tail is not UTF-8. The slice is checked once: a line feed goes on

@@ -5,7 +5,7 @@ ghost use mathlib.Core.Path.{_≡_};
 ghost use Prim.Native.Nat.{_-_, _≤_};
 ghost use lib.ListN.{length, take, drop};
 ghost use Rattle.turkish.specs.Letters.{lf, has};
-ghost use Rattle.turkish.specs.BatchCalls.{tailsIn};
+ghost use Rattle.batches.specs.BatchCalls.{tailsIn};
 ghost use Rattle.batch.specs.Tails.{block, leads, lineAt, Surveyed};
 
 // The bytes that are passed in one step.

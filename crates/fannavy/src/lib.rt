@@ -25,7 +25,7 @@ ghost use mathlib.Core.Path.{_≡_};
 ghost use lib.ListN.{length};
 ghost use Rattle.encoding.specs.Validity.{isText};
 ghost use Rattle.turkish.specs.Calls.{syllableCall, stageCall, postludeCall, postludeOut, foldCall, foldOut, passCall, passOut, nounCall, nounOut, wholeCall, wholeOut};
-ghost use Rattle.turkish.specs.BatchCalls.{batch, batchCall, lengthsAfter, answersAfter, flagsAfter};
+ghost use Rattle.batches.specs.BatchCalls.{batch, batchCall, lengthsAfter, answersAfter, flagsAfter};
 ghost use Rattle.turkish.specs.PieceCalls.{piecesCall, PiecesOut, piecesTextCall, PiecesTextOut};
 
 // Whether the bytes are UTF-8. Takes any slice.

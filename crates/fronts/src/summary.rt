@@ -5,7 +5,7 @@ use utf8::step;
 ghost use mathlib.Core.Path.{_≡_};
 ghost use mathlib.Core.Bool.{true};
 ghost use Rattle.turkish.specs.Calls.{accepted};
-ghost use Rattle.turkish.specs.Summary.{vowelNumber, summary, raised, added};
+ghost use Rattle.batches.specs.Summary.{vowelNumber, summary, raised, added};
 ghost use Rattle.fronts.specs.Counted.{Countable, Counted};
 
 // A vowel's number, from 1 in the order of turkish.sbl's `vowel`; 0 for any other character.

@@ -1,7 +1,7 @@
 -- What joins a mark's key, as the code names it. Assumes nothing.
-use Rattle.turkish.specs.Simple.Grammar as Grammar
-use Rattle.turkish.specs.Simple.Marks.{unjoined, byY}
-use Rattle.turkish.specs.Simple.NounMarks.{byN, byS, byU}
+use Rattle.theorems.specs.Simple.Grammar as Grammar
+use Rattle.theorems.specs.Simple.Marks.{unjoined, byY}
+use Rattle.theorems.specs.Simple.NounMarks.{byN, byS, byU}
 use Rattle.letters.specs.declared.joint.Joint.{Joint}
 use Rattle.letters.specs.declared.joint.Joint.the-variants.{Unjoined, Y, N, S, U}
 

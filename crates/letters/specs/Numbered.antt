@@ -3,9 +3,9 @@ use Prim.Native.Nat.{ℕ}
 use mathlib.Core.Bool.{true, false, cond}
 use mathlib.Core.List.{List, [], _∷_}
 use lib.Dec.{eqb}
-use Rattle.turkish.specs.Simple.Grammar.{Joint, Mark}
-use Rattle.turkish.specs.Simple.Pieces.{Trace, none, firstTrace, traceOf}
-use Rattle.turkish.specs.Simple.Marks.{unjoined, yUm, sUn, yUz, sUnUz, lAr, nUz, DUr, cAsInA, yDU, ysA, ymUs, yken}
+use Rattle.theorems.specs.Simple.Grammar.{Joint, Mark}
+use Rattle.theorems.specs.Simple.Pieces.{Trace, none, firstTrace, traceOf}
+use Rattle.theorems.specs.Simple.Marks.{unjoined, yUm, sUn, yUz, sUnUz, lAr, nUz, DUr, cAsInA, yDU, ysA, ymUs, yken}
 
 -- a mark that never fits
 unfoldable pub never : Mark

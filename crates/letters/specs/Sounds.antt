@@ -4,7 +4,7 @@ use mathlib.Core.Bool.{Bool, cond, _||_}
 use mathlib.Core.List.{List, [], _∷_}
 use lib.Dec.{eqb}
 use Rattle.turkish.specs.Vowels.{vowel}
-use Rattle.turkish.specs.Simple.Harmony.{partnersIn, partnerTable}
+use Rattle.theorems.specs.Simple.Harmony.{partnersIn, partnerTable}
 use Rattle.letters.specs.declared.vowel.Vowel.{Vowel}
 use Rattle.letters.specs.declared.vowel.Sound.{Sound}
 use Rattle.letters.specs.declared.vowel.Sound.the-variants.{AVowel, NoVowel}

@@ -2,7 +2,7 @@
 use Prim.Native.Nat.{ℕ}
 use mathlib.Core.Bool.{Bool}
 use mathlib.Core.List.{List}
-use Rattle.turkish.specs.Simple.Grammar.{Joint, Mark}
+use Rattle.theorems.specs.Simple.Grammar.{Joint, Mark}
 
 unfoldable pub markBy : List (List ℕ) → Joint → Bool → Mark
 markBy keys joint harmonic = record { kind = 0; harmonic = harmonic; keys = keys; joint = joint }

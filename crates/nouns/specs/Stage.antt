@@ -8,11 +8,11 @@ use lib.Dec.{eqb}
 use Rattle.utf8.specs.declared.cursor.Cursor.{Cursor}
 use Rattle.utf8.specs.Characters.{before}
 use Rattle.utf8.specs.Behind.{backBy}
-use Rattle.turkish.specs.Simple.Grammar.{markOf}
-use Rattle.turkish.specs.Simple.Marks.{lAr}
-use Rattle.turkish.specs.Simple.NounMarks.{possessives, lArI, yU, nU, nUn, yA, DA, ndAn, ylA}
-use Rattle.turkish.specs.Simple.Nouns.{Taking, both, either, perhaps, plural, possessed, owned, ownedBySU, chain, afterNdAn, afterDAn, afterNUn, afterDA, pronominal, afterPronominal}
-use Rattle.turkish.specs.Simple.Nouns.{Rest, whole, cut, parted, cutBy, partedBy, nounRest}
+use Rattle.theorems.specs.Simple.Grammar.{markOf}
+use Rattle.theorems.specs.Simple.Marks.{lAr}
+use Rattle.theorems.specs.Simple.NounMarks.{possessives, lArI, yU, nU, nUn, yA, DA, ndAn, ylA}
+use Rattle.theorems.specs.Simple.Nouns.{Taking, both, either, perhaps, plural, possessed, owned, ownedBySU, chain, afterNdAn, afterDAn, afterNUn, afterDA, pronominal, afterPronominal}
+use Rattle.theorems.specs.Simple.Nouns.{Rest, whole, cut, parted, cutBy, partedBy, nounRest}
 use Rattle.letters.specs.declared.harmony.Told.{Told}
 use Rattle.letters.specs.declared.seen.Seen.{Seen}
 use Rattle.letters.specs.Ends.{isA, isU}

@@ -11,7 +11,7 @@ use letters::seen::Seen;
 ghost use mathlib.Core.Path.{_≡_};
 ghost use Prim.Native.Nat.{_<_};
 ghost use Rattle.utf8.specs.Behind.{behind};
-ghost use Rattle.turkish.specs.Simple.Grammar.{markOf};
+ghost use Rattle.theorems.specs.Simple.Grammar.{markOf};
 ghost use Rattle.letters.specs.Keys.{rows};
 ghost use Rattle.letters.specs.Seen.{Sees};
 ghost use Rattle.letters.specs.Told.{Hears};

@@ -4,8 +4,8 @@ use mathlib.Core.Bool.{Bool, true, false}
 use mathlib.Core.List.{List}
 use lib.ListN.{length}
 use Rattle.utf8.specs.declared.cursor.Cursor.{Cursor}
-use Rattle.turkish.specs.Simple.Stage.{stage, keptLength}
-use Rattle.turkish.specs.Simple.Pieces.{stageMarks}
+use Rattle.theorems.specs.Simple.Stage.{stage, keptLength}
+use Rattle.theorems.specs.Simple.Pieces.{stageMarks}
 use Rattle.turkish.specs.Calls.{chars}
 use Rattle.stages.specs.declared.stage.Outcome.{Outcome}
 use Rattle.letters.specs.declared.harmony.Accord.{Accord}

@@ -1,27 +1,8 @@
--- `Theorems` is the file to open first; the others prove it, each named for what it proves, from the laws.
-pub mod Theorems
-pub mod Near
-pub mod Fronts
-pub mod Nothing
-pub mod Joined
-pub mod BatchTheorems
-pub mod BatchWords
+-- Words with their outcome, computed from the definitions, and the limit's number: enough to refuse a definition that says something else. The
+-- theorems for every word are the crate `theorems`'.
 pub mod Starred
-pub mod NounParts
 pub mod NounWords
 pub mod PieceWords
 pub mod HeardWords
-pub mod PieceTheorems
-pub mod HeardTheorems
-pub mod Shapes
-pub mod PieceLines
-pub mod ReadBack
-pub mod PieceTexts
-pub mod Sizes
-pub mod Texts
-pub mod Folds
 pub mod FoldWords
-pub mod Tables
-pub mod PostludeRules
-pub mod Source
-pub mod Laws
+pub mod Limit

@@ -1,11 +1,11 @@
 -- What the calls on pieces give for a word of bytes, refused calls included (document 02, request 1). The contracts cite these.
 -- Assumes nothing.
-use Prim.Native.Nat.{ℕ, _+_, _-_, _≤_}
+use Prim.Native.Nat.{ℕ, _+_, _-_}
 use mathlib.Core.Path.{_≡_}
-use mathlib.Core.Bool.{cond, _&&_}
+use mathlib.Core.Bool.{cond}
 use mathlib.Core.List.{List, [], _∷_, _++_, map, List·Permᴰ}
 use lib.ListN.{length, take, drop}
-use lib.Dec.{eqb, ltb, leb}
+use lib.Dec.{eqb}
 use Rattle.turkish.specs.declared.answer.PiecesAnswer.{PiecesAnswer}
 use Rattle.turkish.specs.declared.answer.PiecesTextAnswer.{PiecesTextAnswer}
 use Rattle.turkish.specs.declared.endings.Joining.{Joining}
@@ -159,28 +159,3 @@ piecesTextCall w room =
 -- the buffer after the call
 pub record PiecesTextOut (w before after : List ℕ) : Type 0 where
   pub lines : InSomeOrder (textOf w) (given w (piecesTextRefusal w (length before))) before after
-
--- ---- terms of the theorems ----
-
--- pieces that lie end to end from one offset down to another: none is empty, and each ends where the one before it begins
-pub data EndToEnd : ℕ → List Span → ℕ → Type 0 where
-  empty : {n : ℕ} → EndToEnd n [] n
-  onward : {m n : ℕ} (p : Span) {ps : List Span} → p .first ≤ p .last → p .last + 1 ≡ n → EndToEnd (p .first) ps m → EndToEnd n (p ∷ ps) m
-
--- 1 where a number lies from m up to n and is not n, else 0
-unfoldable pub between : ℕ → ℕ → ℕ → ℕ
-between m n i = cond (leb m i && ltb i n) 1 0
-
--- how many of the pieces have the byte at an offset
-unfoldable pub covering : ℕ → List Span → ℕ
-covering i [] = 0
-covering i (p ∷ ps) = between (p .first) (p .last + 1) i + covering i ps
-
--- the pieces' own bytes, in the word's order: the last one kept stands first
-unfoldable pub spelled : List ℕ → List Span → List ℕ
-spelled w [] = []
-spelled w (p ∷ ps) = spelled w ps ++ lettersOf w p
-
--- the most bytes that the suffix stage removes
-unfoldable pub mostBytes : ℕ
-mostBytes = 20

@@ -97,7 +97,7 @@ pub(crate) fn batch(
 unsafe fn taken(word: &[u8]) -> &str {
     debug_assert!(str::from_utf8(word).is_ok());
     // SAFETY: a word that is not refused is UTF-8, and that is the encoding of scalar values: two theorems
-    // `accepts-exactly`, of crates/turkish and of crates/encoding, in their proofs/Theorems.antt; that the
+    // `accepts-exactly`, of crates/theorems and of crates/encoding, in their proofs/Theorems.antt; that the
     // call refuses all others is its contract.
     unsafe { str::from_utf8_unchecked(word) }
 }
@@ -110,7 +110,7 @@ unsafe fn taken(word: &[u8]) -> &str {
 unsafe fn written(bytes: &[u8]) -> &str {
     debug_assert!(str::from_utf8(bytes).is_ok());
     // SAFETY: what these calls give of a word that is not refused is UTF-8: the theorems `texts-are-text`,
-    // `folded-is-text` and `pieces-are-text` in crates/turkish/proofs/Theorems.antt; that it is what was
+    // `folded-is-text` and `pieces-are-text` in crates/theorems/proofs/Theorems.antt; that it is what was
     // written is each call's contract.
     unsafe { str::from_utf8_unchecked(bytes) }
 }

@@ -11,12 +11,12 @@ use borrow.Author.Tests.{eq-eqb}
 use Rattle.encoding.proofs.Laws.Booleans.{lt-or-le}
 use Rattle.turkish.specs.Lines.{linesFrom}
 use Rattle.turkish.specs.Calls.{limit, accepted, written, stageCall}
-use Rattle.turkish.specs.Fronts.{long}
-use Rattle.turkish.specs.Summary.{summary}
-use Rattle.turkish.specs.BatchCalls.{Batch, mostTails, tailsIn, joinedWords, batchRefusal, entriesAfter, bit, lengthsAfter, answersAfter, flagsAfter}
-use Rattle.turkish.proofs.Laws.Accepted.{accepted-iff}
-use Rattle.turkish.proofs.Laws.Batches.{batch-answered}
-use Rattle.turkish.proofs.BatchTheorems.{length-joined}
+use Rattle.theorems.specs.Fronts.{long}
+use Rattle.batches.specs.Summary.{summary}
+use Rattle.batches.specs.BatchCalls.{Batch, mostTails, tailsIn, joinedWords, batchRefusal, entriesAfter, bit, lengthsAfter, answersAfter, flagsAfter}
+use Rattle.theorems.proofs.Laws.Accepted.{accepted-iff}
+use Rattle.batches.proofs.Laws.Batches.{batch-answered}
+use Rattle.batches.proofs.BatchTheorems.{length-joined}
 use Rattle.writing.specs.Put.{put}
 use Rattle.writing.proofs.Laws.Put.{length-put}
 use Rattle.fronts.specs.StandIn.{standIn}

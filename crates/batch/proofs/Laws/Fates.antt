@@ -11,13 +11,13 @@ use Rattle.encoding.specs.Text.{TextOf}
 use Rattle.encoding.proofs.CheckExact.{isText-iff}
 use Rattle.utf8.proofs.Laws.Characters.{back-le}
 use Rattle.turkish.specs.Calls.{chars, accepted, stageCall}
-use Rattle.turkish.specs.Fronts.{endLength, long, Alike}
-use Rattle.turkish.specs.Summary.{summary}
-use Rattle.turkish.specs.Simple.Stage.{Staged, stage, keptLength}
-use Rattle.turkish.proofs.Laws.Accepted.{accepted-text}
-use Rattle.turkish.proofs.Source.Calls.{suffixStage-yes, suffixStage-flag}
-use Rattle.turkish.proofs.Sizes.{stageText-length}
-use Rattle.turkish.proofs.Joined.{keptLength-joined, stage-joined, kept-joined}
+use Rattle.theorems.specs.Fronts.{endLength, long, Alike}
+use Rattle.batches.specs.Summary.{summary}
+use Rattle.theorems.specs.Simple.Stage.{Staged, stage, keptLength}
+use Rattle.theorems.proofs.Laws.Accepted.{accepted-text}
+use Rattle.theorems.proofs.Source.Calls.{suffixStage-yes, suffixStage-flag}
+use Rattle.theorems.proofs.Sizes.{stageText-length}
+use Rattle.batches.proofs.Joined.{keptLength-joined, stage-joined, kept-joined}
 use Rattle.fronts.specs.StandIn.{standIn}
 use Rattle.fronts.proofs.Laws.StandIn.{standIn-text, standIn-alike}
 use Rattle.stages.specs.declared.stage.Outcome.{Outcome}

@@ -19,16 +19,16 @@ use Rattle.utf8.proofs.TextCharacters.{before-whole}
 use Rattle.turkish.specs.Letters.{lf}
 use Rattle.turkish.specs.Lines.{unclosed, linesFrom}
 use Rattle.turkish.specs.Calls.{chars, limit, refusal}
-use Rattle.turkish.specs.Fronts.{endLength, long}
+use Rattle.theorems.specs.Fronts.{endLength, long}
 use Rattle.turkish.specs.declared.answer.BatchAnswer.{BatchAnswer}
-use Rattle.turkish.specs.BatchCalls.{Batch, mostTails, some, refusedUnder, joinedWords, tailsIn, wordsRefusal, tailsRefusal, roomsRefusal, firstRefusal, numberOf}
-use Rattle.turkish.specs.BatchCalls.{batchRefusal, batchCall, lengthsAfter, answersAfter, flagsAfter}
-use Rattle.turkish.proofs.Laws.Tests.{every}
-use Rattle.turkish.proofs.Laws.Members.{every-of}
-use Rattle.turkish.proofs.Laws.Accepted.{accepted-iff}
-use Rattle.turkish.proofs.Laws.Batches.{words-accepted}
-use Rattle.turkish.proofs.BatchTheorems.{entries-refused}
-use Rattle.turkish.proofs.Joined.{text-joined}
+use Rattle.batches.specs.BatchCalls.{Batch, mostTails, some, refusedUnder, joinedWords, tailsIn, wordsRefusal, tailsRefusal, roomsRefusal, firstRefusal, numberOf}
+use Rattle.batches.specs.BatchCalls.{batchRefusal, batchCall, lengthsAfter, answersAfter, flagsAfter}
+use Rattle.theorems.proofs.Laws.Tests.{every}
+use Rattle.theorems.proofs.Laws.Members.{every-of}
+use Rattle.theorems.proofs.Laws.Accepted.{accepted-iff}
+use Rattle.batches.proofs.Laws.Batches.{words-accepted}
+use Rattle.batches.proofs.BatchTheorems.{entries-refused}
+use Rattle.theorems.proofs.Texts.{text-joined}
 use Rattle.batch.specs.Tails.{leads, longest, few}
 
 -- ---- lines that are texts ----

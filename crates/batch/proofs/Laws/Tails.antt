@@ -15,9 +15,9 @@ use Rattle.encoding.specs.Encoding.{continuation}
 use Rattle.encoding.proofs.Laws.Booleans.{cond-cases}
 use Rattle.turkish.specs.Letters.{lf, any, has}
 use Rattle.turkish.specs.Lines.{unclosed, linesFrom}
-use Rattle.turkish.specs.Fronts.{endLength}
-use Rattle.turkish.specs.BatchCalls.{mostTails, tailsIn, some}
-use Rattle.turkish.proofs.Laws.Tests.{eqb-comm, has-none}
+use Rattle.theorems.specs.Fronts.{endLength}
+use Rattle.batches.specs.BatchCalls.{mostTails, tailsIn, some}
+use Rattle.theorems.proofs.Laws.Tests.{eqb-comm, has-none}
 use Rattle.batch.specs.declared.tails.Line.{Line}
 use Rattle.batch.specs.Tails.{lineOf, leads, lineAt, longest, few, endsFrom, Surveyed}
 

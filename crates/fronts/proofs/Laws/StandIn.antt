@@ -22,14 +22,14 @@ use Rattle.utf8.proofs.WholeLiterals.{same-equal}
 use Rattle.turkish.specs.declared.summary.Summary.{Summary}
 use Rattle.turkish.specs.Letters.{text, any, has}
 use Rattle.turkish.specs.Vowels.{vowels, vowel, lastVowel, beforeLastVowel}
-use Rattle.turkish.specs.Simple.Harmony.{toFirst}
+use Rattle.theorems.specs.Simple.Harmony.{toFirst}
 use Rattle.turkish.specs.Calls.{chars}
-use Rattle.turkish.specs.Fronts.{Alike}
-use Rattle.turkish.specs.Summary.{vowelNumber, times, summaryOf}
-use Rattle.turkish.proofs.Laws.Members.{every-append}
-use Rattle.turkish.proofs.Laws.Tests.{every, every-at, any-reverse}
-use Rattle.turkish.proofs.Laws.Vowels.{has-member}
-use Rattle.turkish.proofs.Laws.Summary.{times-none, last-or-none}
+use Rattle.theorems.specs.Fronts.{Alike}
+use Rattle.batches.specs.Summary.{vowelNumber, times, summaryOf}
+use Rattle.theorems.proofs.Laws.Members.{every-append}
+use Rattle.theorems.proofs.Laws.Tests.{every, every-at, any-reverse}
+use Rattle.theorems.proofs.Laws.Vowels.{has-member}
+use Rattle.batches.proofs.Laws.Summary.{times-none, last-or-none}
 use Rattle.writing.specs.Put.{put}
 use Rattle.writing.proofs.Laws.Put.{Wrote, wrote-text, wrote-all}
 use Rattle.fronts.specs.StandIn.{numbered, counted, standIn, mostVowelBytes, standInRoom}

@@ -21,13 +21,13 @@ use Rattle.utf8.proofs.Theorems.{step-on-whole}
 use Rattle.turkish.specs.declared.summary.Summary.{Summary}
 use Rattle.turkish.specs.Letters.{text, any, has}
 use Rattle.turkish.specs.Vowels.{vowels, vowel}
-use Rattle.turkish.specs.Simple.Harmony.{toFirst}
+use Rattle.theorems.specs.Simple.Harmony.{toFirst}
 use Rattle.turkish.specs.Calls.{chars, limit, accepted}
-use Rattle.turkish.specs.Summary.{vowelNumber, summaryOf, summary, raised, added}
-use Rattle.turkish.proofs.Laws.Harmony.{toFirst-some}
-use Rattle.turkish.proofs.Laws.Accepted.{accepted-iff, accepted-text}
-use Rattle.turkish.proofs.Laws.Summary.{summaryOf-cons, summaryOf-counts, summaryOf-last}
-use Rattle.turkish.proofs.Source.Reserved.{length-encodeAll}
+use Rattle.batches.specs.Summary.{vowelNumber, summaryOf, summary, raised, added}
+use Rattle.theorems.proofs.Laws.Harmony.{toFirst-some}
+use Rattle.theorems.proofs.Laws.Accepted.{accepted-iff, accepted-text}
+use Rattle.batches.proofs.Laws.Summary.{summaryOf-cons, summaryOf-counts, summaryOf-last}
+use Rattle.theorems.proofs.Source.Reserved.{length-encodeAll}
 use Rattle.fronts.specs.Counted.{Counted}
 
 -- ---- a vowel's number ----

@@ -9,7 +9,7 @@ use Rattle.encoding.proofs.Laws.Booleans.{cond-cases}
 use Rattle.turkish.specs.declared.endings.Kind.{Kind}
 use Rattle.turkish.specs.Pieces.{alone, withY, afterVowel}
 use Rattle.turkish.specs.PieceCalls.{joinedOf, kindNumber, kindJoined}
-use Rattle.turkish.proofs.Laws.Joints.{joins}
+use Rattle.theorems.proofs.Laws.Joints.{joins}
 use Rattle.kinds.specs.Kinds.{joiningBy, kindAt}
 
 -- what is chosen by a number that is k or more, which is k or more than k

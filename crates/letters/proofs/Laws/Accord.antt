@@ -9,7 +9,7 @@ use Rattle.utf8.specs.Characters.{before}
 use Rattle.utf8.specs.Steps.{moveTo}
 use Rattle.utf8.specs.Behind.{behind, backBy}
 use Rattle.encoding.proofs.Laws.Booleans.{cond-both}
-use Rattle.turkish.specs.Simple.Harmony.{Found, nowhere, at, harmonyFound, isFound, harmony}
+use Rattle.theorems.specs.Simple.Harmony.{Found, nowhere, at, harmonyFound, isFound, harmony}
 use Rattle.letters.specs.declared.harmony.Accord.{Accord}
 use Rattle.letters.specs.Accord.{asked, holds, skips, noAccord, discord, concord, accordFrom, accordBefore, accordOf, accordAt, Listens, passedOn, orAccord, accordIf}
 use Rattle.letters.proofs.Laws.Part.{partFrom, partFrom-drop}

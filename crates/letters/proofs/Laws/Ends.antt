@@ -14,13 +14,13 @@ use Rattle.utf8.specs.declared.cursor.Cursor.{Cursor}
 use Rattle.utf8.specs.Behind.{behind}
 use Rattle.encoding.proofs.Laws.Booleans.{and-left, and-right, cond-cases, cond-test, cond-both}
 use Rattle.turkish.specs.Letters.{text, fromEnd, any, starts}
-use Rattle.turkish.specs.Simple.Harmony.{harmony}
-use Rattle.turkish.specs.Simple.Grammar.{Out, fail, after, asking, among, Joint, Mark, markOf}
-use Rattle.turkish.specs.Simple.Pieces.{none, firstTrace, traceOf}
-use Rattle.turkish.specs.Simple.Marks.{unjoined, byY, marked, yUm, sUn, yUz, sUnUz, lAr, nUz, DUr, cAsInA, yDU, ysA, ymUs, yken}
-use Rattle.turkish.proofs.Laws.Tests.{every}
-use Rattle.turkish.proofs.Laws.Outcome.{Gives, unfit, post-all}
-use Rattle.turkish.proofs.Laws.Traces.{traceOf-none}
+use Rattle.theorems.specs.Simple.Harmony.{harmony}
+use Rattle.theorems.specs.Simple.Grammar.{Out, fail, after, asking, among, Joint, Mark, markOf}
+use Rattle.theorems.specs.Simple.Pieces.{none, firstTrace, traceOf}
+use Rattle.theorems.specs.Simple.Marks.{unjoined, byY, marked, yUm, sUn, yUz, sUnUz, lAr, nUz, DUr, cAsInA, yDU, ysA, ymUs, yken}
+use Rattle.theorems.proofs.Laws.Tests.{every}
+use Rattle.theorems.proofs.Laws.Outcome.{Gives, unfit, post-all}
+use Rattle.theorems.proofs.Laws.Traces.{traceOf-none}
 use Rattle.letters.specs.declared.seen.Seen.{Seen}
 use Rattle.letters.specs.Seen.{seenAt}
 use Rattle.letters.specs.Ends.{isU, isA, isD, isKMN, mayEnd, someEnd, personEnd, letterA, firstOrFifth, startsOf}

@@ -11,7 +11,7 @@ use borrow.Author.Tests.{eqb-true, leb-true, ne-eqb}
 use Rattle.encoding.proofs.Laws.Booleans.{and-left, and-right}
 use Rattle.turkish.specs.Letters.{text, any, has}
 use Rattle.turkish.specs.Vowels.{vowels, vowel}
-use Rattle.turkish.specs.Simple.Harmony.{partnersIn, partnerTable, partner}
+use Rattle.theorems.specs.Simple.Harmony.{partnersIn, partnerTable, partner}
 use Rattle.letters.specs.declared.vowel.Vowel.{Vowel}
 use Rattle.letters.specs.declared.vowel.Sound.the-variants.{AVowel, NoVowel}
 use Rattle.letters.specs.Sounds.{vowelOf, soundOf, partners}

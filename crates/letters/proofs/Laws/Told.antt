@@ -5,7 +5,7 @@ use mathlib.Core.Bool.{Bool, true, false, false≢true}
 use mathlib.Core.List.{List}
 use Rattle.utf8.specs.declared.cursor.Cursor.{Cursor}
 use Rattle.utf8.specs.Behind.{behind}
-use Rattle.turkish.specs.Simple.Harmony.{harmony}
+use Rattle.theorems.specs.Simple.Harmony.{harmony}
 use Rattle.letters.specs.declared.harmony.Told.{Told}
 use Rattle.letters.specs.Told.{toldAt, Hears}
 

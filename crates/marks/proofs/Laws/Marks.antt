@@ -14,11 +14,11 @@ use Rattle.utf8.specs.Steps.{moveTo}
 use Rattle.utf8.specs.Behind.{behind, backBy, Open}
 use Rattle.utf8.proofs.Laws.Behind.{behind-backBy, backBy-add, moveTo-backBy, open-backBy}
 use Rattle.turkish.specs.Letters.{starts}
-use Rattle.turkish.specs.Simple.Harmony.{harmony}
-use Rattle.turkish.specs.Simple.Grammar.{Out, fail, took, more, after, asking, among, Joint, joining, Mark, markOf}
-use Rattle.turkish.specs.Simple.Pieces.{Trace, none, keeps, total, firstTrace, foundBy, traceOut, traceOf}
-use Rattle.turkish.proofs.Laws.Outcome.{Gives, unfit, fits}
-use Rattle.turkish.proofs.Laws.Traces.{traceOf-none}
+use Rattle.theorems.specs.Simple.Harmony.{harmony}
+use Rattle.theorems.specs.Simple.Grammar.{Out, fail, took, more, after, asking, among, Joint, joining, Mark, markOf}
+use Rattle.theorems.specs.Simple.Pieces.{Trace, none, keeps, total, firstTrace, foundBy, traceOut, traceOf}
+use Rattle.theorems.proofs.Laws.Outcome.{Gives, unfit, fits}
+use Rattle.theorems.proofs.Laws.Traces.{traceOf-none}
 use Rattle.letters.specs.declared.among.Among.{Among}
 use Rattle.letters.specs.declared.among.Among.the-variants.{Key, Nothing}
 use Rattle.marks.specs.declared.marked.Marked.{Marked}

@@ -3,9 +3,9 @@ use mathlib.Core.Path.{refl}
 use mathlib.Core.Bool.{_&&_, _||_}
 use lib.Dec.{eqb}
 use Rattle.turkish.specs.Letters.{text, fromEnd}
-use Rattle.turkish.specs.Simple.Marks.{marked, lAr}
-use Rattle.turkish.specs.Simple.NounMarks.{lettersU, possessives, sU, lArI, yU, nU, nUn, yA, nA, DA, ndA, DAn, ndAn, ylA, ki, ncA}
-use Rattle.turkish.proofs.Laws.Tests.{every}
+use Rattle.theorems.specs.Simple.Marks.{marked, lAr}
+use Rattle.theorems.specs.Simple.NounMarks.{lettersU, possessives, sU, lArI, yU, nU, nUn, yA, nA, DA, ndA, DAn, ndAn, ylA, ki, ncA}
+use Rattle.theorems.proofs.Laws.Tests.{every}
 use Rattle.letters.specs.Ends.{isU, isA, isD}
 use Rattle.letters.proofs.Laws.Ends.{passing, Tests}
 

@@ -17,21 +17,21 @@ use Rattle.utf8.proofs.Laws.Characters.{back-le, back-less, back-add, before-ba
 use Rattle.utf8.proofs.Laws.Behind.{backBy-back}
 use Rattle.utf8.proofs.TextCharacters.{take-back}
 use Rattle.turkish.specs.Letters.{text, fromEnd, any}
-use Rattle.turkish.specs.Fronts.{oneOf}
-use Rattle.turkish.specs.Simple.Harmony.{moreThanOneSyllable}
-use Rattle.turkish.specs.Simple.Stage.{stage, kept, keptLength}
-use Rattle.turkish.specs.Simple.Postlude.{postlude}
-use Rattle.turkish.specs.Simple.Nouns as nouns
-use Rattle.turkish.specs.Simple.Nouns.{Rest, whole, cut, parted, nounRest, restText, isCut, nounYes}
-use Rattle.turkish.specs.Simple.WholeRun as runs
+use Rattle.theorems.specs.Fronts.{oneOf}
+use Rattle.theorems.specs.Simple.Harmony.{moreThanOneSyllable}
+use Rattle.theorems.specs.Simple.Stage.{stage, kept, keptLength}
+use Rattle.theorems.specs.Simple.Postlude.{postlude}
+use Rattle.theorems.specs.Simple.Nouns as nouns
+use Rattle.theorems.specs.Simple.Nouns.{Rest, whole, cut, parted, nounRest, restText, isCut, nounYes}
+use Rattle.theorems.specs.Simple.WholeRun as runs
 use Rattle.turkish.specs.Answers.{nounStage}
 use Rattle.turkish.specs.Calls.{chars, bytes, accepted, nounText, wholeText}
-use Rattle.turkish.proofs.Laws.Accepted.{accepted-text, bytes-chars}
-use Rattle.turkish.proofs.Laws.Words.{bytes-append, text-back}
-use Rattle.turkish.proofs.Sizes.{kept-bytes}
-use Rattle.turkish.proofs.Laws.NounText.{staying, Rests, all, shorter, closer, nounRest-rests}
-use Rattle.turkish.proofs.PostludeRules.{parted-postlude}
-use Rattle.turkish.proofs.Source.Calls.{nounStage-yes, nounText-simple, wholeText-simple}
+use Rattle.theorems.proofs.Laws.Accepted.{accepted-text, bytes-chars}
+use Rattle.theorems.proofs.Laws.Words.{bytes-append, text-back}
+use Rattle.theorems.proofs.Sizes.{kept-bytes}
+use Rattle.theorems.proofs.Laws.NounText.{staying, Rests, all, shorter, closer, nounRest-rests}
+use Rattle.theorems.proofs.PostludeRules.{parted-postlude}
+use Rattle.theorems.proofs.Source.Calls.{nounStage-yes, nounText-simple, wholeText-simple}
 use Rattle.stages.specs.declared.stage.Outcome.{Outcome}
 use Rattle.stages.specs.declared.postlude.Repair.{Repair}
 use Rattle.stages.specs.Outcome.{outcomeOf}

@@ -10,13 +10,13 @@ use Rattle.utf8.specs.declared.cursor.Cursor.{Cursor}
 use Rattle.utf8.specs.Characters.{back}
 use Rattle.utf8.specs.Behind.{behind, backBy, deleted, Open}
 use Rattle.utf8.proofs.Laws.Behind.{behind-before, backBy-back, open-start}
-use Rattle.turkish.specs.Simple.Grammar.{Out, took, Command, mark, _then_, _or_, run}
-use Rattle.turkish.specs.Simple.Marks.{ymUs}
-use Rattle.turkish.specs.Simple.Stage.{person, branch1, branch2, branch3, branch4, branch5, branch6, branches, staged, stage, keptLength}
-use Rattle.turkish.specs.Simple.Pieces.{Taken, Trace, none, keeps, total, moreTrace, afterTrace, firstTrace, traceOf, trace, summed, takenOf, stageMarks}
+use Rattle.theorems.specs.Simple.Grammar.{Out, took, Command, mark, _then_, _or_, run}
+use Rattle.theorems.specs.Simple.Marks.{ymUs}
+use Rattle.theorems.specs.Simple.Stage.{person, branch1, branch2, branch3, branch4, branch5, branch6, branches, staged, stage, keptLength}
+use Rattle.theorems.specs.Simple.Pieces.{Taken, Trace, none, keeps, total, moreTrace, afterTrace, firstTrace, traceOf, trace, summed, takenOf, stageMarks}
 use Rattle.turkish.specs.Calls.{chars}
-use Rattle.turkish.proofs.Laws.Outcome.{Flagged, unfit, fits}
-use Rattle.turkish.proofs.Laws.Traces.{first-none, run-trace}
+use Rattle.theorems.proofs.Laws.Outcome.{Flagged, unfit, fits}
+use Rattle.theorems.proofs.Laws.Traces.{first-none, run-trace}
 use Rattle.letters.specs.declared.harmony.Accord.{Accord}
 use Rattle.letters.specs.declared.seen.Seen.{Seen}
 use Rattle.letters.specs.Seen.{seenAt}

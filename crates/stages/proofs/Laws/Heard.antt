@@ -12,15 +12,15 @@ use Rattle.utf8.specs.Behind.{behind, backBy}
 use Rattle.utf8.proofs.Laws.Behind.{behind-backBy, behind-before, backBy-add, backBy-back, backBy-zero}
 use Rattle.turkish.specs.Heard.{Heard, unheard, heard, isHeard, orHeard, loanIn}
 use Rattle.turkish.specs.Pieces.{firstHeard, stageHeard}
-use Rattle.turkish.specs.Simple.Harmony.{at, harmonyFound, skipsVowel}
-use Rattle.turkish.specs.Simple.Pieces.{Taken, heardAt, stageMarks, located}
+use Rattle.theorems.specs.Simple.Harmony.{at, harmonyFound, skipsVowel}
+use Rattle.theorems.specs.Simple.Pieces.{Taken, heardAt, stageMarks, located}
 use Rattle.turkish.specs.Calls.{chars, accepted, offset, lastOffset, partnerOffset}
-use Rattle.turkish.proofs.Laws.Offsets.{offset-back}
-use Rattle.turkish.proofs.Laws.Harmony.{harmonyFound-bounds}
-use Rattle.turkish.proofs.Laws.Heard.{loan-skips}
-use Rattle.turkish.proofs.Laws.Along.{Along, none, one}
-use Rattle.turkish.proofs.Laws.FirstHeard.{Sounded, silent, sounding, stageMarks-sounded}
-use Rattle.turkish.proofs.Source.KeptStage.{keptMarks-simple}
+use Rattle.theorems.proofs.Laws.Offsets.{offset-back}
+use Rattle.theorems.proofs.Laws.Harmony.{harmonyFound-bounds}
+use Rattle.theorems.proofs.Laws.Heard.{loan-skips}
+use Rattle.theorems.proofs.Laws.Along.{Along, none, one}
+use Rattle.theorems.proofs.Laws.FirstHeard.{Sounded, silent, sounding, stageMarks-sounded}
+use Rattle.theorems.proofs.Source.KeptStage.{keptMarks-simple}
 use Rattle.letters.specs.declared.harmony.Accord.{Accord}
 use Rattle.letters.specs.Accord.{asked, skips, noAccord, concord, accordOf, passedOn, orAccord}
 use Rattle.letters.proofs.Laws.Accord.{concord-asked, concord-skips, concord-first}

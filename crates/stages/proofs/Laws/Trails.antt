@@ -11,10 +11,10 @@ use Rattle.utf8.specs.declared.cursor.Cursor.{Cursor}
 use Rattle.utf8.specs.Steps.{moveTo}
 use Rattle.utf8.specs.Behind.{behind, backBy, deleted, Open}
 use Rattle.utf8.proofs.Laws.Behind.{behind-backBy, backBy-add, backBy-zero, open-backBy, open-deleted}
-use Rattle.turkish.specs.Simple.Harmony.{Found, nowhere, at}
-use Rattle.turkish.specs.Simple.Grammar.{Out, fail, took, Mark, markOf}
-use Rattle.turkish.specs.Simple.Pieces.{Taken, Trace, none, keeps, total, moreTrace, afterTrace, firstTrace, traceOut, traceOf}
-use Rattle.turkish.proofs.Laws.Traces.{total-append}
+use Rattle.theorems.specs.Simple.Harmony.{Found, nowhere, at}
+use Rattle.theorems.specs.Simple.Grammar.{Out, fail, took, Mark, markOf}
+use Rattle.theorems.specs.Simple.Pieces.{Taken, Trace, none, keeps, total, moreTrace, afterTrace, firstTrace, traceOut, traceOf}
+use Rattle.theorems.proofs.Laws.Traces.{total-append}
 use Rattle.letters.specs.Numbered.{numbered, firstOf}
 use Rattle.marks.specs.declared.marked.Marked.{Marked}
 use Rattle.marks.specs.declared.marked.Marked.the-variants.{To}

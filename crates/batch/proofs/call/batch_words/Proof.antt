@@ -1,7 +1,7 @@
 -- `batch::call::batch_words` meets its contract: a refused batch gives its number and leaves the buffers; any other has an entry for each tail. Assumes
 -- nothing.
 use borrow.Author.Needs.{needs}
-use Rattle.turkish.specs.BatchCalls.{batch}
+use Rattle.batches.specs.BatchCalls.{batch}
 use Rattle.batch.proofs.Laws.Refusals.{call-refused, call-zero, call-answered}
 use Rattle.batch.proofs.call.batch_words.Statement.{statement}
 use Rattle.batch.proofs.call.batch_words.Tie as tie

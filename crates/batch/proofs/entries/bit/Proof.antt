@@ -1,6 +1,6 @@
 -- `batch::entries::bit` meets its contract. Assumes nothing.
 use mathlib.Core.Path.{sym, ap}
-use Rattle.turkish.specs.BatchCalls.{bit}
+use Rattle.batches.specs.BatchCalls.{bit}
 use Rattle.batch.proofs.entries.bit.Statement.{statement}
 use Rattle.batch.proofs.entries.bit.Tie as tie
 

@@ -6,8 +6,8 @@ use native.Mathlib.Omega.{arith}
 use lib.ListN.{length, getD}
 use borrow.Author.Needs.{needs}
 use Rattle.turkish.specs.Calls.{limit}
-use Rattle.turkish.specs.BatchCalls.{batch, mostTails}
-use Rattle.turkish.proofs.Laws.Batches.{batch-answered}
+use Rattle.batches.specs.BatchCalls.{batch, mostTails}
+use Rattle.batches.proofs.Laws.Batches.{batch-answered}
 use Rattle.fronts.specs.StandIn.{standInRoom, mostVowelBytes}
 use Rattle.batch.specs.Fate.{wordRoom}
 use Rattle.batch.proofs.Laws.Entries.{Entered, entered-none, entered-all, below, at-end, end-within, ready, again}

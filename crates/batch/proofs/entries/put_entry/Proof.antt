@@ -5,7 +5,7 @@ use mathlib.Core.Path.{ap, _∙_}
 use lib.ListN.{length, set}
 use borrow.Author.Needs.{needs}
 use Rattle.turkish.specs.Calls.{limit}
-use Rattle.turkish.specs.BatchCalls.{bit}
+use Rattle.batches.specs.BatchCalls.{bit}
 use Rattle.batch.specs.declared.entries.Fate.{Fate}
 use Rattle.batch.proofs.entries.put_entry.Statement.{statement}
 use Rattle.batch.proofs.entries.put_entry.Tie as tie

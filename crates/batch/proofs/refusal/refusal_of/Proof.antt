@@ -2,7 +2,7 @@
 use mathlib.Core.Path.{sym, _∙_}
 use native.Mathlib.Omega.{arith}
 use borrow.Author.Needs.{needs}
-use Rattle.turkish.specs.BatchCalls.{mostTails}
+use Rattle.batches.specs.BatchCalls.{mostTails}
 use Rattle.batch.proofs.Laws.Refusals.{number-words, number-many, number-short, number-rooms}
 use Rattle.batch.proofs.refusal.refusal_of.Statement.{statement}
 use Rattle.batch.proofs.refusal.refusal_of.Tie as tie

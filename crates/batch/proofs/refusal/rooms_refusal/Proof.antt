@@ -1,6 +1,6 @@
 -- `batch::refusal::rooms_refusal` meets its contract: each test's answer, and those before it, tell the number. Assumes nothing.
 use borrow.Author.Tests.{lt-ltb, le-ltb}
-use Rattle.turkish.specs.BatchCalls.{mostTails, roomsRefusal}
+use Rattle.batches.specs.BatchCalls.{mostTails, roomsRefusal}
 use Rattle.batch.proofs.refusal.rooms_refusal.Statement.{statement}
 use Rattle.batch.proofs.refusal.rooms_refusal.Tie as tie
 

@@ -6,7 +6,7 @@ use mathlib.Core.Logic.{⊎-elim}
 use native.Mathlib.Omega.{arith}
 use lib.ListN.{length, set, length-set}
 use borrow.Author.Needs.{needs}
-use Rattle.turkish.specs.BatchCalls.{mostTails}
+use Rattle.batches.specs.BatchCalls.{mostTails}
 use Rattle.batch.proofs.Laws.Tails.{line-ends, line-within, Found, found-none, found-line, found-all}
 use Rattle.batch.proofs.tails.find_tails.Statement.{statement}
 use Rattle.batch.proofs.tails.find_tails.Tie as tie

@@ -7,7 +7,7 @@ use borrow.Author.Needs.{needs}
 use Rattle.turkish.specs.Letters.{text}
 use Rattle.turkish.specs.Vowels.{vowels}
 use Rattle.turkish.specs.Calls.{limit}
-use Rattle.turkish.specs.Summary.{raised}
+use Rattle.batches.specs.Summary.{raised}
 use Rattle.fronts.proofs.Laws.Summaries.{raised-at}
 use Rattle.fronts.proofs.summary.raise.Statement.{statement}
 use Rattle.fronts.proofs.summary.raise.Tie as tie

@@ -8,7 +8,7 @@ use lib.ListN.{length}
 use borrow.Author.Needs.{needs}
 use Rattle.turkish.specs.Letters.{text, any, has}
 use Rattle.turkish.specs.Vowels.{vowels, vowel, lastVowel, beforeLastVowel}
-use Rattle.turkish.specs.Summary.{vowelNumber, times, summaryOf}
+use Rattle.batches.specs.Summary.{vowelNumber, times, summaryOf}
 use Rattle.fronts.proofs.Laws.Summaries.{Passed, passed-none, passed-more, passed-counted, passed-all}
 use Rattle.fronts.proofs.summary.summary_of.Statement.{statement}
 use Rattle.fronts.proofs.summary.summary_of.Tie as tie

@@ -3,8 +3,8 @@
 use mathlib.Core.Path.{sym, ap}
 use Rattle.turkish.specs.Letters.{text, any, has}
 use Rattle.turkish.specs.Vowels.{vowels, vowel}
-use Rattle.turkish.specs.Simple.Harmony.{toFirst}
-use Rattle.turkish.specs.Summary.{vowelNumber}
+use Rattle.theorems.specs.Simple.Harmony.{toFirst}
+use Rattle.batches.specs.Summary.{vowelNumber}
 use Rattle.fronts.proofs.Laws.Summaries.{vowelNumber-none}
 use Rattle.fronts.proofs.summary.vowel_number.Statement.{statement}
 use Rattle.fronts.proofs.summary.vowel_number.Tie as tie

@@ -7,9 +7,9 @@ use Rattle.utf8.specs.declared.cursor.Cursor.{Cursor}
 use Rattle.utf8.specs.Behind.{behind}
 use Rattle.utf8.proofs.Laws.Behind.{backBy-zero}
 use Rattle.turkish.specs.Letters.{text}
-use Rattle.turkish.specs.Simple.Grammar.{joining}
-use Rattle.turkish.specs.Simple.Marks.{unjoined, byY}
-use Rattle.turkish.specs.Simple.NounMarks.{byN, byS, byU}
+use Rattle.theorems.specs.Simple.Grammar.{joining}
+use Rattle.theorems.specs.Simple.Marks.{unjoined, byY}
+use Rattle.theorems.specs.Simple.NounMarks.{byN, byS, byU}
 use Rattle.letters.specs.declared.joint.Joint.{Joint}
 use Rattle.letters.specs.Joints.{jointOf}
 use Rattle.letters.specs.Passed.{passedTo, passes}

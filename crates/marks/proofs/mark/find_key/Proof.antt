@@ -8,7 +8,7 @@ use denote.Ref.{now}
 use borrow.Author.Tests.{ne-eqb}
 use Rattle.utf8.specs.declared.cursor.Cursor.{Cursor}
 use Rattle.turkish.specs.Letters.{text, fromEnd}
-use Rattle.turkish.specs.Simple.Marks.{marked, yUm, sUn, yUz, sUnUz, lAr, nUz, DUr, cAsInA, ysA, ymUs, yken}
+use Rattle.theorems.specs.Simple.Marks.{marked, yUm, sUn, yUz, sUnUz, lAr, nUz, DUr, cAsInA, ysA, ymUs, yken}
 use Rattle.letters.specs.Keys.{upToZero, row, rowsWithin, rows}
 use Rattle.letters.specs.Search.{foundFrom, found}
 use Rattle.letters.specs.Numbered.{never, numbered, tabled}

@@ -1,6 +1,6 @@
 -- `marks::mark::find_yDU` meets its contract: the table computes to yDU's keys. Assumes nothing.
 use Rattle.turkish.specs.Letters.{text, fromEnd}
-use Rattle.turkish.specs.Simple.Marks.{marked, yDU}
+use Rattle.theorems.specs.Simple.Marks.{marked, yDU}
 use Rattle.letters.specs.Keys.{upToZero, row, rowsWithin, rows}
 use borrow.Author.Needs.{needs}
 use Rattle.marks.proofs.mark.find_yDU.Statement.{statement}

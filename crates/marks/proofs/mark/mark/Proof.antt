@@ -5,8 +5,8 @@ use mathlib.Core.Path.{sym, ap, _∙_}
 use denote.Ref.{now}
 use Rattle.utf8.specs.Behind.{behind}
 use Rattle.turkish.specs.Letters.{text}
-use Rattle.turkish.specs.Simple.Grammar.{joining, markOf}
-use Rattle.turkish.specs.Simple.Marks.{byY, marked, yken}
+use Rattle.theorems.specs.Simple.Grammar.{joining, markOf}
+use Rattle.theorems.specs.Simple.Marks.{byY, marked, yken}
 use Rattle.letters.specs.Passed.{notPassed, passes}
 use Rattle.letters.specs.Numbered.{numbered, unharmonic, keyedBy}
 use Rattle.letters.proofs.Laws.Ends.{numbered-byY}

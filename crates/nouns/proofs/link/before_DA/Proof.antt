@@ -1,9 +1,9 @@
 -- `nouns::link::before_DA` meets its contract: lAr, or possessives and what stands behind that, or nothing. In each answer l is the place
 -- behind lAr, and s behind what is seen from the record. Assumes nothing.
 use borrow.Author.Needs.{needs}
-use Rattle.turkish.specs.Simple.Grammar.{markOf}
-use Rattle.turkish.specs.Simple.Marks.{lAr}
-use Rattle.turkish.specs.Simple.NounMarks.{possessives}
+use Rattle.theorems.specs.Simple.Grammar.{markOf}
+use Rattle.theorems.specs.Simple.Marks.{lAr}
+use Rattle.theorems.specs.Simple.NounMarks.{possessives}
 use Rattle.letters.proofs.Laws.Sees.{sees-made}
 use Rattle.letters.proofs.Laws.Told.{hears-unasked}
 use Rattle.nouns.specs.Link.{calls, ends, beforeLAr, beforeDA}

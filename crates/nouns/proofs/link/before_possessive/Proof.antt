@@ -1,7 +1,7 @@
 -- `nouns::link::before_possessive` meets its contract: lAr, behind which the chain is called, or nothing. Assumes nothing.
 use borrow.Author.Needs.{needs}
-use Rattle.turkish.specs.Simple.Grammar.{markOf}
-use Rattle.turkish.specs.Simple.Marks.{lAr}
+use Rattle.theorems.specs.Simple.Grammar.{markOf}
+use Rattle.theorems.specs.Simple.Marks.{lAr}
 use Rattle.letters.proofs.Laws.Sees.{sees-made}
 use Rattle.letters.proofs.Laws.Told.{hears-unasked}
 use Rattle.nouns.specs.Link.{calls, ends, beforeLAr}

@@ -4,8 +4,8 @@ use borrow.Author.Needs.{needs}
 use borrow.Author.Tests.{not-true}
 use denote.Ref.{now}
 use Rattle.turkish.specs.Letters.{text, fromEnd}
-use Rattle.turkish.specs.Simple.Grammar.{markOf}
-use Rattle.turkish.specs.Simple.Marks.{marked, lAr}
+use Rattle.theorems.specs.Simple.Grammar.{markOf}
+use Rattle.theorems.specs.Simple.Marks.{marked, lAr}
 use Rattle.letters.specs.Keys.{upToZero, row, rowsWithin, rows}
 use Rattle.letters.specs.Joints.{jointOf}
 use Rattle.letters.specs.Passed.{notPassed}

@@ -4,8 +4,8 @@ use borrow.Author.Needs.{needs}
 use borrow.Author.Tests.{not-true}
 use denote.Ref.{now}
 use Rattle.turkish.specs.Letters.{text, fromEnd}
-use Rattle.turkish.specs.Simple.Marks.{marked}
-use Rattle.turkish.specs.Simple.NounMarks.{possessives}
+use Rattle.theorems.specs.Simple.Marks.{marked}
+use Rattle.theorems.specs.Simple.NounMarks.{possessives}
 use Rattle.letters.specs.Keys.{upToZero, row, rowsWithin, rows}
 use Rattle.letters.specs.Joints.{jointOf}
 use Rattle.letters.specs.Passed.{notPassed}

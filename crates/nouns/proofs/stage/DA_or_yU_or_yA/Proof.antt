@@ -1,9 +1,9 @@
 -- `nouns::stage::DA_or_yU_or_yA` meets its contract: each of the three where those before it do not fit. In each answer d is the place
 -- behind DA, and u behind yU. Assumes nothing.
 use borrow.Author.Needs.{needs}
-use Rattle.turkish.specs.Simple.Grammar.{markOf}
-use Rattle.turkish.specs.Simple.NounMarks.{yU, yA, DA}
-use Rattle.turkish.specs.Simple.Nouns.{either}
+use Rattle.theorems.specs.Simple.Grammar.{markOf}
+use Rattle.theorems.specs.Simple.NounMarks.{yU, yA, DA}
+use Rattle.theorems.specs.Simple.Nouns.{either}
 use Rattle.nouns.specs.Stage.{DAOrYUOrYA}
 use Rattle.nouns.proofs.Laws.Passing.{either-moved, either-else}
 use Rattle.nouns.proofs.stage.DA_or_yU_or_yA.Statement.{statement}

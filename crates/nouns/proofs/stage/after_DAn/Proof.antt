@@ -3,9 +3,9 @@
 use mathlib.Core.Path.{_∙_}
 use borrow.Author.Needs.{needs}
 use borrow.Author.Tests.{not-true, not-false}
-use Rattle.turkish.specs.Simple.Grammar.{markOf}
-use Rattle.turkish.specs.Simple.NounMarks.{DAn}
-use Rattle.turkish.specs.Simple.Nouns.{perhaps, afterDAn}
+use Rattle.theorems.specs.Simple.Grammar.{markOf}
+use Rattle.theorems.specs.Simple.NounMarks.{DAn}
+use Rattle.theorems.specs.Simple.Nouns.{perhaps, afterDAn}
 use Rattle.nouns.specs.Stage.{nearDAn}
 use Rattle.letters.specs.Passed.{notPassed}
 use Rattle.nouns.proofs.Laws.Passing.{leads-moved, leads-open, both-none, both-perhaps}

@@ -1,7 +1,7 @@
 -- `nouns::stage::nUn_or_ylA` meets its contract: nUn, or ylA where that does not fit. Assumes nothing.
 use borrow.Author.Needs.{needs}
-use Rattle.turkish.specs.Simple.Grammar.{markOf}
-use Rattle.turkish.specs.Simple.NounMarks.{nUn, ylA}
+use Rattle.theorems.specs.Simple.Grammar.{markOf}
+use Rattle.theorems.specs.Simple.NounMarks.{nUn, ylA}
 use Rattle.nouns.specs.Stage.{nUnOrYlA}
 use Rattle.nouns.proofs.Laws.Passing.{either-moved, either-else}
 use Rattle.nouns.proofs.stage.nUn_or_ylA.Statement.{statement}

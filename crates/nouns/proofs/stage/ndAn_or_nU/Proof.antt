@@ -1,7 +1,7 @@
 -- `nouns::stage::ndAn_or_nU` meets its contract: ndAn, or nU where that does not fit. Assumes nothing.
 use borrow.Author.Needs.{needs}
-use Rattle.turkish.specs.Simple.Grammar.{markOf}
-use Rattle.turkish.specs.Simple.NounMarks.{ndAn, nU}
+use Rattle.theorems.specs.Simple.Grammar.{markOf}
+use Rattle.theorems.specs.Simple.NounMarks.{ndAn, nU}
 use Rattle.nouns.specs.Stage.{ndAnOrNU}
 use Rattle.nouns.proofs.Laws.Passing.{either-moved, either-else}
 use Rattle.nouns.proofs.stage.ndAn_or_nU.Statement.{statement}

@@ -3,9 +3,9 @@
 -- nothing.
 use mathlib.Core.Path.{refl}
 use borrow.Author.Needs.{needs}
-use Rattle.turkish.specs.Simple.Grammar.{markOf}
-use Rattle.turkish.specs.Simple.Marks.{lAr}
-use Rattle.turkish.specs.Simple.Nouns.{both, either, perhaps, chain, owned}
+use Rattle.theorems.specs.Simple.Grammar.{markOf}
+use Rattle.theorems.specs.Simple.Marks.{lAr}
+use Rattle.theorems.specs.Simple.Nouns.{both, either, perhaps, chain, owned}
 use Rattle.letters.specs.Passed.{passedTo, notPassed}
 use Rattle.letters.proofs.Laws.Sees.{sees-made}
 use Rattle.letters.proofs.Laws.Told.{hears-unasked}

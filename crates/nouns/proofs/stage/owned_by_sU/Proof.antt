@@ -3,9 +3,9 @@
 use mathlib.Core.Path.{_∙_}
 use borrow.Author.Needs.{needs}
 use borrow.Author.Tests.{not-true, not-false}
-use Rattle.turkish.specs.Simple.Grammar.{markOf}
-use Rattle.turkish.specs.Simple.NounMarks.{sU}
-use Rattle.turkish.specs.Simple.Nouns.{perhaps, chain, plural, ownedBySU}
+use Rattle.theorems.specs.Simple.Grammar.{markOf}
+use Rattle.theorems.specs.Simple.NounMarks.{sU}
+use Rattle.theorems.specs.Simple.Nouns.{perhaps, chain, plural, ownedBySU}
 use Rattle.letters.specs.Passed.{notPassed}
 use Rattle.nouns.proofs.Laws.Passing.{leads-moved, leads-open, both-none, both-perhaps}
 use Rattle.nouns.proofs.stage.owned_by_sU.Statement.{statement}

@@ -2,10 +2,10 @@
 -- each answer p is the place behind possessives, and s behind what is seen from the record. Assumes nothing.
 use mathlib.Core.Path.{refl, _∙_}
 use borrow.Author.Needs.{needs}
-use Rattle.turkish.specs.Simple.Grammar.{markOf}
-use Rattle.turkish.specs.Simple.Marks.{lAr}
-use Rattle.turkish.specs.Simple.NounMarks.{possessives}
-use Rattle.turkish.specs.Simple.Nouns.{both, perhaps}
+use Rattle.theorems.specs.Simple.Grammar.{markOf}
+use Rattle.theorems.specs.Simple.Marks.{lAr}
+use Rattle.theorems.specs.Simple.NounMarks.{possessives}
+use Rattle.theorems.specs.Simple.Nouns.{both, perhaps}
 use Rattle.letters.specs.Passed.{passedTo, notPassed}
 use Rattle.letters.proofs.Laws.Sees.{sees-made}
 use Rattle.letters.proofs.Laws.Told.{hears-unasked}

@@ -1,8 +1,8 @@
 -- `nouns::stage::pronominal` meets its contract: ndA, or nA where that does not fit. Assumes nothing.
 use borrow.Author.Needs.{needs}
-use Rattle.turkish.specs.Simple.Grammar.{markOf}
-use Rattle.turkish.specs.Simple.NounMarks.{ndA, nA}
-use Rattle.turkish.specs.Simple.Nouns.{pronominal}
+use Rattle.theorems.specs.Simple.Grammar.{markOf}
+use Rattle.theorems.specs.Simple.NounMarks.{ndA, nA}
+use Rattle.theorems.specs.Simple.Nouns.{pronominal}
 use Rattle.nouns.proofs.Laws.Passing.{either-moved, either-else}
 use Rattle.nouns.proofs.stage.pronominal.Statement.{statement}
 use Rattle.nouns.proofs.stage.pronominal.Tie as tie

@@ -1,7 +1,7 @@
 -- `nouns::stage::try_plural` meets its contract: the place to which a plural leads, and its own place where that does not fit. In
 -- each answer s is the place behind what is seen from the record. Assumes nothing.
 use borrow.Author.Needs.{needs}
-use Rattle.turkish.specs.Simple.Nouns.{chain, plural}
+use Rattle.theorems.specs.Simple.Nouns.{chain, plural}
 use Rattle.letters.proofs.Laws.Sees.{sees-made}
 use Rattle.letters.proofs.Laws.Told.{hears-unasked}
 use Rattle.nouns.proofs.Laws.Passing.{passes-seen, place-perhaps, place-none}

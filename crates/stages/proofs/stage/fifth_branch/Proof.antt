@@ -3,10 +3,10 @@
 -- Assumes nothing.
 use mathlib.Core.Path.{sym, _∙_}
 use borrow.Author.Needs.{needs}
-use Rattle.turkish.specs.Simple.Grammar.{try}
-use Rattle.turkish.specs.Simple.Marks.{ymUs}
-use Rattle.turkish.specs.Simple.Pieces.{traceOf, trace}
-use Rattle.turkish.specs.Simple.Stage.{branch5}
+use Rattle.theorems.specs.Simple.Grammar.{try}
+use Rattle.theorems.specs.Simple.Marks.{ymUs}
+use Rattle.theorems.specs.Simple.Pieces.{traceOf, trace}
+use Rattle.theorems.specs.Simple.Stage.{branch5}
 use Rattle.letters.specs.Numbered.{numbered}
 use Rattle.letters.proofs.Laws.Sees.{sees-made}
 use Rattle.letters.specs.Accord.{noAccord}

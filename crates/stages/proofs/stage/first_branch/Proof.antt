@@ -2,7 +2,7 @@
 -- group's record. Assumes nothing.
 use mathlib.Core.Path.{sym, _∙_}
 use borrow.Author.Needs.{needs}
-use Rattle.turkish.specs.Simple.Stage.{branch1}
+use Rattle.theorems.specs.Simple.Stage.{branch1}
 use Rattle.letters.specs.Numbered.{numbered}
 use Rattle.letters.specs.Accord.{noAccord}
 use Rattle.marks.proofs.Laws.Marks.{reach-fails}

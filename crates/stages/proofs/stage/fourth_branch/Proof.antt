@@ -4,10 +4,10 @@ use mathlib.Core.Path.{sym, _∙_}
 use mathlib.Core.List.{[], _∷_}
 use borrow.Author.Needs.{needs}
 use borrow.Author.Tests.{not-true}
-use Rattle.turkish.specs.Simple.Grammar.{mark, _or_}
-use Rattle.turkish.specs.Simple.Marks.{nUz, yDU, ysA}
-use Rattle.turkish.specs.Simple.Pieces.{trace}
-use Rattle.turkish.specs.Simple.Stage.{branch4}
+use Rattle.theorems.specs.Simple.Grammar.{mark, _or_}
+use Rattle.theorems.specs.Simple.Marks.{nUz, yDU, ysA}
+use Rattle.theorems.specs.Simple.Pieces.{trace}
+use Rattle.theorems.specs.Simple.Stage.{branch4}
 use Rattle.letters.specs.Numbered.{numbered, firstOf}
 use Rattle.letters.proofs.Laws.Sees.{sees-made}
 use Rattle.letters.proofs.Laws.Accord.{listens-unasked}

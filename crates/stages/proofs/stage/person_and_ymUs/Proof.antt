@@ -3,8 +3,8 @@
 -- behind that one's record. Assumes nothing.
 use mathlib.Core.Path.{sym, _∙_}
 use borrow.Author.Needs.{needs}
-use Rattle.turkish.specs.Simple.Marks.{ymUs}
-use Rattle.turkish.specs.Simple.Pieces.{traceOf, trace}
+use Rattle.theorems.specs.Simple.Marks.{ymUs}
+use Rattle.theorems.specs.Simple.Pieces.{traceOf, trace}
 use Rattle.letters.proofs.Laws.Sees.{sees-made}
 use Rattle.letters.proofs.Laws.Accord.{listens-unasked}
 use Rattle.marks.proofs.Laws.Marks.{reach-fails}

@@ -4,10 +4,10 @@
 use mathlib.Core.Path.{sym, _∙_}
 use borrow.Author.Needs.{needs}
 use borrow.Author.Tests.{not-true, not-false}
-use Rattle.turkish.specs.Simple.Grammar.{mark, _then_}
-use Rattle.turkish.specs.Simple.Marks.{cAsInA, ymUs}
-use Rattle.turkish.specs.Simple.Pieces.{trace}
-use Rattle.turkish.specs.Simple.Stage.{person, branch2}
+use Rattle.theorems.specs.Simple.Grammar.{mark, _then_}
+use Rattle.theorems.specs.Simple.Marks.{cAsInA, ymUs}
+use Rattle.theorems.specs.Simple.Pieces.{trace}
+use Rattle.theorems.specs.Simple.Stage.{person, branch2}
 use Rattle.letters.specs.Numbered.{numbered}
 use Rattle.letters.proofs.Laws.Sees.{sees-made}
 use Rattle.marks.proofs.Laws.Marks.{reach-fails}

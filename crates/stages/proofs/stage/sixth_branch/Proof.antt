@@ -5,10 +5,10 @@
 use mathlib.Core.Path.{sym, _∙_}
 use borrow.Author.Needs.{needs}
 use borrow.Author.Tests.{not-true, not-false}
-use Rattle.turkish.specs.Simple.Grammar.{mark, _then_, try}
-use Rattle.turkish.specs.Simple.Marks.{DUr, ymUs}
-use Rattle.turkish.specs.Simple.Pieces.{trace}
-use Rattle.turkish.specs.Simple.Stage.{person, branch6}
+use Rattle.theorems.specs.Simple.Grammar.{mark, _then_, try}
+use Rattle.theorems.specs.Simple.Marks.{DUr, ymUs}
+use Rattle.theorems.specs.Simple.Pieces.{trace}
+use Rattle.theorems.specs.Simple.Stage.{person, branch6}
 use Rattle.letters.specs.Numbered.{numbered}
 use Rattle.letters.specs.Accord.{noAccord}
 use Rattle.letters.proofs.Laws.Sees.{sees-made}

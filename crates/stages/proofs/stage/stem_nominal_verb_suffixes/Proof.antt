@@ -8,11 +8,11 @@ use mathlib.Core.List.{List}
 use Prim.Native.Nat.{ℕ}
 use denote.Ref.{now}
 use borrow.Author.Needs.{needs}
-use Rattle.turkish.specs.Simple.Grammar.{Command, _or_}
-use Rattle.turkish.specs.Simple.Stage.{branch1, branch2, branch3, branch4, branch5, branch6, branches}
-use Rattle.turkish.specs.Simple.Pieces.{none, trace}
+use Rattle.theorems.specs.Simple.Grammar.{Command, _or_}
+use Rattle.theorems.specs.Simple.Stage.{branch1, branch2, branch3, branch4, branch5, branch6, branches}
+use Rattle.theorems.specs.Simple.Pieces.{none, trace}
 use Rattle.turkish.specs.Calls.{chars}
-use Rattle.turkish.proofs.Laws.Flag.{branch1-keeps, branch2-keeps, branch3-lowers, branch4-keeps, branch5-keeps, branch6-keeps}
+use Rattle.theorems.proofs.Laws.Flag.{branch1-keeps, branch2-keeps, branch3-lowers, branch4-keeps, branch5-keeps, branch6-keeps}
 use Rattle.letters.specs.Seen.{seenAt, Sees}
 use Rattle.letters.specs.Accord.{Listens}
 use Rattle.letters.proofs.Laws.Sees.{sees-made}

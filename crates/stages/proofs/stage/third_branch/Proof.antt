@@ -4,10 +4,10 @@
 use mathlib.Core.Path.{sym, _∙_}
 use borrow.Author.Needs.{needs}
 use borrow.Author.Tests.{not-true}
-use Rattle.turkish.specs.Simple.Grammar.{mark, _or_, try}
-use Rattle.turkish.specs.Simple.Marks.{lAr, DUr, yDU, ysA, ymUs}
-use Rattle.turkish.specs.Simple.Pieces.{trace}
-use Rattle.turkish.specs.Simple.Stage.{branch3}
+use Rattle.theorems.specs.Simple.Grammar.{mark, _or_, try}
+use Rattle.theorems.specs.Simple.Marks.{lAr, DUr, yDU, ysA, ymUs}
+use Rattle.theorems.specs.Simple.Pieces.{trace}
+use Rattle.theorems.specs.Simple.Stage.{branch3}
 use Rattle.letters.specs.Numbered.{numbered, firstOf}
 use Rattle.letters.proofs.Laws.Sees.{sees-made}
 use Rattle.letters.proofs.Laws.Accord.{listens-unasked}

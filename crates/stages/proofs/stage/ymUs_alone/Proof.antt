@@ -3,8 +3,8 @@
 use mathlib.Core.Path.{sym, _∙_}
 use borrow.Author.Needs.{needs}
 use borrow.Author.Tests.{not-true}
-use Rattle.turkish.specs.Simple.Marks.{ymUs}
-use Rattle.turkish.specs.Simple.Pieces.{trace}
+use Rattle.theorems.specs.Simple.Marks.{ymUs}
+use Rattle.theorems.specs.Simple.Pieces.{trace}
 use Rattle.letters.specs.Numbered.{numbered}
 use Rattle.letters.specs.Accord.{noAccord}
 use Rattle.letters.proofs.Laws.Accord.{listens-unasked}

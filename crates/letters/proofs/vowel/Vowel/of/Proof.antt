@@ -3,7 +3,7 @@
 use mathlib.Core.Path.{sym, ap}
 use Rattle.turkish.specs.Letters.{text, any, has}
 use Rattle.turkish.specs.Vowels.{vowels, vowel}
-use Rattle.turkish.specs.Simple.Harmony.{partnersIn, partnerTable}
+use Rattle.theorems.specs.Simple.Harmony.{partnersIn, partnerTable}
 use Rattle.letters.specs.Sounds.{vowelOf, soundOf}
 use Rattle.letters.proofs.Laws.Sounds.{soundOf-none}
 use Rattle.letters.proofs.vowel.Vowel.of.Statement.{statement}
