@@ -79,4 +79,5 @@ refused, and so in no group
 test_clashes_of_a_missing_glossary() {
     status 1 "$stemlist" --clashes missing >out 2>err
     has_text err $'stemlist: missing: No such file or directory\n'
+    is_empty out
 }

@@ -8,7 +8,7 @@ strict=(-Wall -Wextra -Wpedantic -Wconversion -Wsign-conversion -Wshadow -Wcast-
 # The compilers to try: one that has to be there and one that may be.
 compilers() {
     printf '%s\n' "$1"
-    if command -v "$2" >/dev/null; then printf '%s\n' "$2"; else left_out "$2 is not there"; fi
+    if command -v "$2" >/dev/null; then printf '%s\n' "$2"; else not_tried "$2 is not there"; fi
 }
 
 # A warning, where the compiler knows it.
@@ -87,7 +87,7 @@ test_null_pointer_with_length_0_in_cpp() {
 test_null_pointer_with_length_0_sanitized() {
     local sanitize=(-fsanitize=address,undefined -fno-sanitize-recover=all)
     if ! c++ "${sanitize[@]}" -x c++ - -o probe <<<'int main() {}' 2>/dev/null || ! ./probe; then
-        left_out "the sanitizers are not there"
+        not_tried "the sanitizers are not there"
         return
     fi
     no_nulls as_c cc "${sanitize[@]}"

@@ -1,7 +1,7 @@
-# What `make install` puts and `make uninstall` takes away. make, pkg-config and cc have to be there, and the program and the archive
-# (FANNAVY_STATICLIB names its folder) have to be built.
+# What `make install` puts and `make uninstall` takes away. make, pkg-config and cc have to be there, and the program and the archive have
+# to be built.
 
-archive=${FANNAVY_STATICLIB:-${root-}/target/staticlib}/libfannavy.a
+archive=${root-}/target/staticlib/libfannavy.a
 
 # What is installed, below PREFIX.
 installed='bin/stemlist
@@ -19,7 +19,7 @@ clean_make() { env -u MAKEFLAGS -u MAKELEVEL -u PREFIX -u DESTDIR make --no-prin
 # make in the repository, of what is built there.
 of_root() {
     [ -x "$root/target/bin/stemlist" ] && [ -f "$archive" ] || fail "the program and the archive are not built"
-    clean_make -C "$root" "archive=$archive" "$@"
+    clean_make -C "$root" "$@"
 }
 
 # All that is not a folder, below a folder, sorted.

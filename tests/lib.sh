@@ -21,5 +21,11 @@ is_empty() { [ ! -s "$1" ] || { cat "$1"; fail "$1 is not empty"; }; }
 # A file has a line with this text in it.
 mentions() { grep -qF -- "$2" "$1" || { cat "$1"; fail "$1 does not mention: $2"; }; }
 
-# A part of a test is left out, and says so: the run shows it, though the test passes.
-left_out() { printf 'left out: %s\n' "$*" >&2; }
+# A test that this machine cannot run is left out, and says so; in CI, where all can be had, it fails.
+left_out() {
+    printf 'left out: %s\n' "$*" >&2
+    [ -z "${CI:-}" ] || fail "in CI nothing may be left out"
+}
+
+# Another compiler would do the same again: where it is missing, that is only told.
+not_tried() { printf 'not tried: %s\n' "$*" >&2; }

@@ -12,7 +12,7 @@ test_parallel_lists_in_parts() {
     many_words >words
     "$stemlist" words >want
     for block in 10k 77k 10M; do
-        parallel --pipe --keep-order --block "$block" "$stemlist" <words | cmp want -
+        parallel --pipe --keep-order --block "$block" "$(printf %q "$stemlist")" <words | cmp want -
     done
 }
 
@@ -20,7 +20,7 @@ test_parallel_lists_in_parts() {
 test_parallel_lists_a_file_in_parts() {
     local count
     many_words >words
-    parallel --pipepart -a words --block 50k "'$stemlist' > list.{#}"
+    parallel --pipepart -a words --block 50k "$(printf %q "$stemlist") > list.{#}"
     count=$(ls list.* | wc -l)
     [ "$count" -gt 5 ]
     for i in $(seq "$count"); do cat "list.$i"; done | cmp <("$stemlist" <words) -

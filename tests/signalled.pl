@@ -1,11 +1,11 @@
-# Starts a command on pipes that stay open, lets it list a word, sends it a signal, and tells how it ended and that nobody holds its
-# output any more.
-# usage: perl signalled.pl SIGNAL COMMAND [ARGUMENT ...]
+# Starts a command on pipes that stay open, lets it list a word or, as one that lists nothing before the input's end, wait a second, sends it
+# a signal, and tells how it ended and that nobody holds its output any more.
+# usage: perl signalled.pl SIGNAL lists|waits COMMAND [ARGUMENT ...]
 use strict;
 use warnings;
 use Config;
 
-my ($signal, @command) = @ARGV;
+my ($signal, $how, @command) = @ARGV;
 pipe(my $words, my $to_words) or die "pipe: $!";
 pipe(my $from_list, my $list) or die "pipe: $!";
 my $pid = fork // die "fork: $!";
@@ -19,7 +19,8 @@ if (!$pid) {
 }
 close $_ for $words, $list;
 syswrite($to_words, "evler\n");
-sysread($from_list, my $line, 100) or die 'no line';
+my $line;
+if ($how eq 'lists') { sysread($from_list, $line, 100) or die 'no line' } else { sleep 1 }
 kill $signal, $pid;
 waitpid($pid, 0);
 my @names = split ' ', $Config{sig_name};

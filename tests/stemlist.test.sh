@@ -79,7 +79,15 @@ test_a_full_output() {
     has_text err $'stemlist: standard output: No space left on device\n'
     status 1 "$stemlist" --help >/dev/full
     status 1 "$stemlist" --version >/dev/full
-    status 1 "$stemlist" --clashes words >/dev/full
+    status 1 "$stemlist" --clashes words >/dev/full 2>err
+    has_text err $'stemlist: standard output: No space left on device\n'
+}
+
+# A shell's limit for idle users is none for a slow input.
+test_a_slow_input_under_tmout() {
+    (sleep 2; echo evler) | TMOUT=1 status 1 "$stemlist" - missing >out 2>err
+    has_text out "$evler"
+    has_text err $'stemlist: missing: No such file or directory\n'
 }
 
 test_a_closed_output() {
@@ -163,7 +171,9 @@ test_a_closed_pipe_ends_it_quietly() {
 test_signals_reach_the_program() {
     local name
     for name in TERM HUP INT; do
-        perl "$root/tests/signalled.pl" "$name" "$stemlist" >out
+        perl "$root/tests/signalled.pl" "$name" lists "$stemlist" >out
+        has_text out "ended by $name, and its output closed"$'\n'
+        perl "$root/tests/signalled.pl" "$name" waits "$stemlist" --clashes >out
         has_text out "ended by $name, and its output closed"$'\n'
     done
 }

@@ -2,8 +2,9 @@
 // FANNAVY_STATICLIB names the archives' folder, a relative one from where cargo was called; without it,
 // it is target/staticlib of the repository.
 
-use std::env;
+use std::os::unix::process::parent_id;
 use std::path::{Path, PathBuf};
+use std::{env, fs};
 
 const VARIABLE: &str = "FANNAVY_STATICLIB";
 
@@ -36,21 +37,25 @@ fn missing(name: &str, folders: &[PathBuf], file: &str) -> String {
 // Where the archives may be, first to last.
 fn folders() -> Vec<PathBuf> {
     println!("cargo::rerun-if-env-changed={VARIABLE}");
-    let package = Path::new(env!("CARGO_MANIFEST_DIR"));
     match env::var_os(VARIABLE).map(PathBuf::from) {
         Some(folder) if folder.is_absolute() => vec![folder],
         Some(folder) if folder != Path::new("") => {
-            callers(package).map(|from| from.join(&folder)).collect()
+            callers().map(|from| from.join(&folder)).collect()
         }
-        _ => vec![package.join("../../target/staticlib")],
+        _ => vec![package().join("../../target/staticlib")],
     }
 }
 
-// Where cargo may have been called. It does not tell a build script, which runs in the package's folder;
-// but the shell that called it leaves its own in PWD. Where nothing is there, the package's folder is tried.
-fn callers(package: &Path) -> impl Iterator<Item = PathBuf> {
+// The package's folder as cargo tells it now: a copied folder is another one.
+fn package() -> PathBuf {
+    PathBuf::from(env::var_os("CARGO_MANIFEST_DIR").expect("cargo sets it"))
+}
+
+// Where cargo may have been called. It does not tell a build script, which runs in the package's folder; but
+// cargo itself, this process's parent, stays where it was called. Where that cannot be seen, the package's
+// folder is tried. PWD changes where the caller goes elsewhere, and then this is to be found anew.
+fn callers() -> impl Iterator<Item = PathBuf> {
     println!("cargo::rerun-if-env-changed=PWD");
-    let shell = env::var_os("PWD").map(PathBuf::from);
-    let shell = shell.filter(|folder| folder.is_absolute() && folder != package);
-    shell.into_iter().chain([package.to_path_buf()])
+    let cargo = fs::read_link(format!("/proc/{}/cwd", parent_id()));
+    cargo.into_iter().chain([package()])
 }

@@ -3,6 +3,7 @@ use Prim.Native.Nat.{ℕ, _≤_, _<_}
 use mathlib.Core.Path.{_≡_}
 use mathlib.Core.Bool.{true}
 use mathlib.Core.List.{List}
+use native.Mathlib.Omega.{arith}
 use lib.ListN.{length}
 use borrow.Author.Tests.{lt-ltb, le-ltb}
 use Rattle.encoding.specs.Validity.{isText}
@@ -11,4 +12,4 @@ use Rattle.turkish.specs.Calls.{limit, refusal, accepted}
 -- 96 bytes pass and 97 do not
 pub limit-96 : (w : List ℕ) → (length w ≤ 96 → isText w ≡ true → accepted w ≡ true) × (96 < length w → refusal w ≡ 1)
 unfolding accepted refusal limit
-limit-96 w = (λ n t. rw (le-ltb 96 (length w) n, t), λ n. rw (lt-ltb 96 (length w) n))
+limit-96 w = (λ n t. rw (le-ltb limit (length w) (omega arith), t), λ n. rw (lt-ltb limit (length w) (omega arith)))

@@ -137,6 +137,7 @@ pub struct Pieces<'a> {
 impl Pieces<'_> {
     /// The pieces from the word's end inward. The archive leaves their order open; they are sorted
     /// here.
+    #[must_use]
     pub fn iter(&self) -> impl Iterator<Item = Piece> + '_ {
         self.list.iter().flatten().copied()
     }

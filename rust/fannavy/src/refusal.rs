@@ -9,6 +9,7 @@ use core::fmt::{self, Display, Formatter};
 /// Why a call refused, the first that applies in this order. A refused call changes no byte of its
 /// output.
 #[derive(Clone, Copy, Debug, PartialEq, Eq, Hash)]
+#[non_exhaustive]
 pub enum Refusal {
     /// Number 1: the word is longer than [`LIMIT`] bytes; of a [`batch()`], its front, a tail or a joined word.
     OverLimit,
