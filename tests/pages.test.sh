@@ -1,4 +1,4 @@
-# The editors' page: what it shows of the sheet, and the commands that it gives, each run as it stands there.
+# The editors' page and the README: what they show of the sheet, and the commands that the first gives, each run as it stands there.
 
 page=$root/docs/EDITORS.md
 
@@ -52,12 +52,23 @@ test_capital_first_letters() {
     has_text sheet $'Y\tev\nY\tağaç\n'
 }
 
-# The page has these lines as a block of their own, indented.
-shows() { perl -0777 -e 'open my $f, "<", $ARGV[0] or die; my $page = <$f>; my $block = <STDIN>; $block =~ s/^(?=.)/    /gm; exit(index($page, $block) < 0)' "$page" || fail "the page does not show this"; }
+# A page has these lines as a block, indented.
+shows() {
+    perl -0777 -e '
+        open my $file, "<", $ARGV[0] or die;
+        my ($page, $block) = (scalar <$file>, scalar <STDIN>);
+        $block =~ s/^(?=.)/    /gm;
+        exit(index($page, "\n\n$block\n") < 0)' "$1" || fail "$1 does not show this"
+}
+
+test_the_readmes_list() {
+    grep -qxF '    ./stemlist examples/words.txt' "$root/README.md"
+    "$stemlist" "$root/examples/words.txt" | shows "$root/README.md"
+}
 
 test_the_pages_clashes() {
     grep -qF './stemlist --clashes examples/terms.txt' "$page"
-    "$stemlist" --clashes "$root/examples/terms.txt" | tee out | shows
+    "$stemlist" --clashes "$root/examples/terms.txt" | shows "$page"
     "$stemlist" --clashes --whole "$root/examples/terms.txt" | grep -A 2 'become ev$' | grep -q evlerdir
 }
 
