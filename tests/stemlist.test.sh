@@ -79,7 +79,7 @@ test_a_full_output() {
     has_text err $'stemlist: standard output: No space left on device\n'
     status 1 "$stemlist" --help >/dev/full
     status 1 "$stemlist" --version >/dev/full
-    status 1 "$stemlist" --clashes words >/dev/full 2>err
+    status 1 env --default-signal=PIPE "$stemlist" --clashes words >/dev/full 2>err
     has_text err $'stemlist: standard output: No space left on device\n'
 }
 
@@ -159,7 +159,7 @@ test_wrong_arguments() {
 test_a_closed_pipe_ends_it_quietly() {
     local statuses
     set +e
-    yes evler | "$stemlist" 2>err | head -n 1 >out
+    yes evler | env --default-signal=PIPE "$stemlist" 2>err | head -n 1 >out
     statuses=("${PIPESTATUS[@]}")
     set -e
     [ "${statuses[1]}" -eq 141 ]
