@@ -4,7 +4,7 @@
  *
  * A word is w[0] .. w[n - 1]: one Turkish word in UTF-8, in small letters, with no zero byte at its
  * end. A capital letter is neither a vowel nor part of an ending: fold a heading first, by
- * fannavy_fold.
+ * fannavy_fold. Every text that a call gives is UTF-8 too.
  *
  * Lent memory, in every call:
  *   - a pointer may be null where its length is 0, as that of an empty std::string_view is. (The archive
