@@ -121,4 +121,8 @@ test_installed_program_runs() {
     has_text lines "$line"
     echo evler | ./words >lines
     has_text lines "$line"
+    printf 'ev\nevler\n' | ./words --clashes --tabs >lines
+    has_text lines $'2\tev\t1\tev\n2\tev\t2\tevler\n'
+    ./words --help >lines
+    mentions lines "Manual: man -l $(realpath ../there/share/man/man1/stemlist.1)"
 }
