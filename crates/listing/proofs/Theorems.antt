@@ -5,6 +5,7 @@ use mathlib.Core.Path.{_≡_, ap}
 use mathlib.Core.Bool.{Bool, true, false}
 use mathlib.Core.List.{List, [], _∷_, _++_, flatten, map}
 use lib.ListN.{length, take, drop}
+use Rattle.encoding.specs.Encoding.{encodeAll}
 use Rattle.encoding.specs.Validity.{isText}
 use Rattle.turkish.specs.Letters.{text, tab, lf, has}
 use Rattle.turkish.specs.Calls.{limit, accepted, foldText}
@@ -66,7 +67,11 @@ refused-lines w = (Lines.listLine-over w, Lines.listLine-not-text w, Lines.listL
 
 -- the input lines `evler` and `siniz` give document 01's two lines, each with the whole run's text for its last field
 pub evler-siniz : listing false (text "evler\nsiniz\n") ≡ text "evler\tY\tY\t0\tev\tev\tev\nsiniz\tY\tY\t1\t\t\t\n"
-evler-siniz = example-lines
+evler-siniz = example-lines .0
+
+-- asked for folded forms, two headings give the lines of their folded texts, and one with a tab is refused
+pub headings-listed : listing true (encodeAll (text "IŞIKLAR\nİZLERDİR\nA\tB\n")) ≡ encodeAll (text "ışıklar\tY\tY\t0\tışık\tışık\tışık\nizlerdir\tY\tY\t1\tizler\tizler\tiz\n!\t4\n")
+headings-listed = example-lines .1
 
 -- any line fits the room for one
 pub lines-fit : (w : List ℕ) → length (listLine w) ≤ lineRoom
