@@ -218,11 +218,13 @@ typedef struct {
 } FannavyWhole;
 
 /*
- * The stem that rust-stemmers 1.2.0 and Snowball give: the whole Turkish run of a word, written to out[0] .. out[length - 1], possibly
- * nothing. A word of one syllable or none (fannavy_syllable) is copied. Of any other the endings of a
- * nominal verb are removed (fannavy_stage); that is all where the flag is false. Where it is true, the
- * endings of a noun are removed too, from what that kept (fannavy_noun), and what is left is mended
- * (fannavy_postlude).
+ * The whole Turkish run of a word, written to out[0] .. out[length - 1], possibly nothing. A word of one
+ * syllable or none (fannavy_syllable) is copied. Of any other the endings of a nominal verb are removed
+ * (fannavy_stage); that is all where the flag is false. Where it is true, the endings of a noun are
+ * removed too, from what that kept (fannavy_noun), and what is left is mended (fannavy_postlude).
+ *
+ * That this is what the commands of turkish.sbl give is proved. That rust-stemmers 1.2.0 and Snowball's C
+ * library give the same stem is compared on millions of words, and not proved.
  *
  * `room` is the output's size, FANNAVY_PASS_ROOM(n) or more whatever the word. Refuses by the
  * numbers 1, 2 and 3.
