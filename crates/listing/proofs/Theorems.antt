@@ -54,7 +54,7 @@ folded-line w = (λ a. ap listLine (listed-folded w a), λ r. ap listLine (liste
 
 -- ---- the line of a word ----
 
--- word, syllable check, stage, flag, kept text and pass result, where the word is accepted and has no tab
+-- word, syllable check, stage, flag, kept text, pass result and the whole run's text, where the word is accepted and has no tab
 pub accepted-line : (w : List ℕ) → accepted w ≡ true → has w tab ≡ false → listLine w ≡ fields w
 accepted-line = Lines.listLine-accepted
 
