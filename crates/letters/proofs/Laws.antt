@@ -3,7 +3,6 @@ pub mod Sounds
 pub mod Walk
 pub mod LastVowel
 pub mod Found
-pub mod Told
 pub mod Accord
 pub mod Part
 pub mod Reads

@@ -1,7 +1,6 @@
 -- What is known of harmony before a record with what it found, as the code holds it. Assumes nothing.
 use Prim.Native.Nat.{ℕ}
-use mathlib.Core.Path.{_≡_}
-use mathlib.Core.Bool.{Bool, true, cond}
+use mathlib.Core.Bool.{Bool, cond}
 use mathlib.Core.List.{List}
 use lib.Dec.{leb}
 use Rattle.utf8.specs.declared.cursor.Cursor.{Cursor}
@@ -57,10 +56,6 @@ accordOf w c (at last partner) = concord (backBy w c last .cursor) (backBy w c p
 unfoldable pub accordAt : List ℕ → Cursor → Accord
 accordAt w c = accordOf w c (harmonyFound (behind w c))
 
--- where it was asked for, it is known
-pub record Listens (w : List ℕ) (c : Cursor) (t : Accord) : Type 0 where
-  pub heard : asked t ≡ true → t ≡ accordAt w c
-
 -- what a mark that fits passes on of what its harmony test found; one that tests none has nothing
 unfoldable pub passedOn : List ℕ → Cursor → Found → Accord
 passedOn w c nowhere = noAccord
@@ -69,7 +64,3 @@ passedOn w c (at last partner) = accordOf w c (at last partner)
 -- the first of two that was asked for
 unfoldable pub orAccord : Accord → Accord → Accord
 orAccord t u = cond (asked t) t u
-
--- harmony asked for only where that is said
-unfoldable pub accordIf : Bool → List ℕ → Cursor → Accord
-accordIf b w c = cond b (accordAt w c) noAccord

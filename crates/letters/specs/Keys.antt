@@ -1,8 +1,8 @@
 -- A flat table of keys, each filled up with 0 to the table's width. Assumes nothing.
-use Prim.Native.Nat.{ℕ, zero, suc}
+use Prim.Native.Nat.{ℕ, zero, suc, _+_}
 use mathlib.Core.Bool.{cond}
 use mathlib.Core.List.{List, [], _∷_}
-use lib.ListN.{length, take, drop}
+use lib.ListN.{length, take, drop, getD}
 use lib.Dec.{eqb, leb}
 
 -- a key up to its first 0
@@ -21,3 +21,7 @@ rowsWithin (suc fuel) width flat = cond (leb width (length flat)) (row width fla
 
 unfoldable pub rows : ℕ → List ℕ → List (List ℕ)
 rows width flat = rowsWithin (length flat) width flat
+
+-- the letter at place j of the key at `base`, 0 behind a key as long as the table is wide
+unfoldable pub letterOf : List ℕ → ℕ → ℕ → ℕ → ℕ
+letterOf keys base width j = cond (leb width j) 0 (getD keys (base + j) 0)

@@ -8,9 +8,9 @@ ghost use mathlib.Core.Path.{_≡_};
 ghost use Prim.Native.Nat.{_+_, _-_, _≤_, _<_};
 ghost use lib.ListN.{length, drop};
 ghost use Rattle.utf8.specs.Behind.{Open};
-ghost use Rattle.letters.specs.Keys.{row, rows};
+ghost use Rattle.letters.specs.Keys.{row, rows, letterOf};
 ghost use Rattle.letters.specs.Seen.{Sees};
-ghost use Rattle.letters.specs.Search.{over, found};
+ghost use Rattle.letters.specs.Search.{over, found, endsIn};
 
 // The place of the key that ends the text, from 0 in the table's order, and the record before it; or that none does.
 pub enum Among {
@@ -44,6 +44,25 @@ fn key_rest(w: &[u8], c: Cursor, keys: &[u32], from: usize, upto: usize) -> Pass
     Passed::to(low + at)
 }
 
+// The letter at place j of the key at `base`, 0 behind a key as long as the table is wide.
+fn letter_of(keys: &[u32], base: usize, width: usize, j: usize) -> u32
+    requires { ⌜ base + width ≤ length (now keys) ⌝ }
+    ensures { λ r. ⌜ r ≡ letterOf (now (keys .entry)) base width j ⌝ }
+{
+    if width <= j {
+        return 0;
+    }
+    keys[base + j]
+}
+
+// Whether the last three letters of a key, 0 behind a shorter one, are those seen. No early exit: for a constant table the compiler folds the
+// search into tests of these letters.
+fn ends_in(s: Seen, a: u32, b: u32, d: u32) -> bool
+    ensures { λ r. ⌜ r ≡ endsIn s a b d ⌝ }
+{
+    (a == 0) | ((a == s.last) & ((b == 0) | ((b == s.second) & ((d == 0) | (d == s.third)))))
+}
+
 // Back over the key at `base`: its last three letters are held to the three characters seen.
 fn key_before(w: &[u8], s: Seen, keys: &[u32], base: usize, width: usize) -> Passed
     requires { ⌜ Sees (now w) s ⌝ }
@@ -51,32 +70,23 @@ fn key_before(w: &[u8], s: Seen, keys: &[u32], base: usize, width: usize) -> Pas
     requires { ⌜ base + width ≤ length (now keys) ⌝ }
     ensures { λ r. ⌜ r ≡ over (now (w .entry)) (s .c) (row width (drop base (now (keys .entry)))) ⌝ }
 {
-    let a = keys[base];
+    let a = letter_of(keys, base, width, 0);
+    let b = letter_of(keys, base, width, 1);
+    let d = letter_of(keys, base, width, 2);
+    if !ends_in(s, a, b, d) {
+        return Passed::NOT;
+    }
     if a == 0 {
         return Passed::to(s.c.cursor);
     }
-    if a != s.last {
-        return Passed::NOT;
-    }
-    if width < 2 {
-        return Passed::to(s.one);
-    }
-    let b = keys[base + 1];
     if b == 0 {
         return Passed::to(s.one);
     }
-    if b != s.second {
-        return Passed::NOT;
-    }
-    if width < 3 {
-        return Passed::to(s.two);
-    }
-    let d = keys[base + 2];
     if d == 0 {
         return Passed::to(s.two);
     }
-    if d != s.third {
-        return Passed::NOT;
+    if width <= 3 {
+        return Passed::to(s.three);
     }
     key_rest(w, s.c.moved_to(s.three), keys, base + 3, base + width)
 }

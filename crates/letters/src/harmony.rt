@@ -7,21 +7,7 @@ ghost use mathlib.Core.Path.{_≡_};
 ghost use Prim.Native.Nat.{_≤_};
 ghost use lib.ListN.{length};
 ghost use Rattle.utf8.specs.Behind.{Open};
-ghost use Rattle.letters.specs.Told.{Hears, toldAt};
-ghost use Rattle.letters.specs.Accord.{asked, holds, skips, Listens, accordBefore, accordAt, orAccord};
-
-// What is known of harmony's yes or no before a cursor: whether it was asked for, and whether it holds.
-pub struct Told {
-    pub asked: bool,
-    pub holds: bool,
-}
-
-impl Told {
-    pub const UNASKED: Told = Told {
-        asked: false,
-        holds: false,
-    };
-}
+ghost use Rattle.letters.specs.Accord.{asked, holds, skips, accordBefore, accordAt, orAccord};
 
 // What is known of harmony before a cursor: its answer, and where that is yes the places at which the last vowel and its nearest partner
 // start. The answer is one number: flags beside the places would be copied by moves that overlap.
@@ -142,33 +128,5 @@ pub fn listen(w: &[u8], c: Cursor) -> Accord
         last: low + a.last,
         partner: low + a.partner,
         answer: a.answer,
-    }
-}
-
-// The same, walked for only where it is not known.
-pub fn known(w: &[u8], c: Cursor, t: Accord) -> Accord
-    requires { ⌜ Open (now w) c ⌝ }
-    requires { ⌜ Listens (now w) c t ⌝ }
-    ensures { λ r. ⌜ r ≡ accordAt (now (w .entry)) c ⌝ }
-{
-    if t.asked() {
-        return t;
-    }
-    listen(w, c)
-}
-
-// Its yes or no alone, likewise.
-pub fn hear(w: &[u8], c: Cursor, t: Told) -> Told
-    requires { ⌜ Open (now w) c ⌝ }
-    requires { ⌜ Hears (now w) c t ⌝ }
-    ensures { λ r. ⌜ r ≡ toldAt (now (w .entry)) c ⌝ }
-{
-    if t.asked {
-        return t;
-    }
-    let a = listen(w, c);
-    Told {
-        asked: true,
-        holds: a.holds(),
     }
 }

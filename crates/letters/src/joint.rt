@@ -11,18 +11,8 @@ ghost use mathlib.Core.List.{[], _∷_};
 ghost use Rattle.utf8.specs.Behind.{behind, Open};
 ghost use Rattle.turkish.specs.Letters.{text};
 ghost use Rattle.turkish.specs.Source.{U};
-ghost use Rattle.theorems.specs.Simple.Grammar.{optional, joining};
+ghost use Rattle.theorems.specs.Simple.Grammar.{optional};
 ghost use Rattle.letters.specs.Passed.{passes};
-ghost use Rattle.letters.specs.Joints.{jointOf};
-
-// Nothing, or the optional letter.
-pub enum Joint {
-    Unjoined,
-    Y,
-    N,
-    S,
-    U,
-}
 
 // An optional consonant before the cursor: y, n or s.
 pub fn mark_suffix_with_optional_consonant(w: &[u8], c: Cursor, letter: u32) -> Passed
@@ -43,7 +33,7 @@ pub fn mark_suffix_with_optional_consonant(w: &[u8], c: Cursor, letter: u32) -> 
 }
 
 // An optional U before the cursor.
-fn mark_suffix_with_optional_U_vowel(w: &[u8], c: Cursor) -> Passed
+pub fn mark_suffix_with_optional_U_vowel(w: &[u8], c: Cursor) -> Passed
     requires { ⌜ Open (now w) c ⌝ }
     ensures { λ r. ⌜ r ≡ passes (now (w .entry)) c (optional (text U) false (behind (now (w .entry)) c)) ⌝ }
 {
@@ -61,18 +51,4 @@ fn mark_suffix_with_optional_U_vowel(w: &[u8], c: Cursor) -> Passed
         return Passed::to(low + a.at);
     }
     Passed::to(c.cursor)
-}
-
-// Back over what joins a key, the cursor standing before the key.
-pub fn join(w: &[u8], c: Cursor, joint: Joint) -> Passed
-    requires { ⌜ Open (now w) c ⌝ }
-    ensures { λ r. ⌜ r ≡ passes (now (w .entry)) c (joining (jointOf joint) (behind (now (w .entry)) c)) ⌝ }
-{
-    match joint {
-        Joint::Unjoined => Passed::to(c.cursor),
-        Joint::Y => mark_suffix_with_optional_consonant(w, c, 0x79),
-        Joint::N => mark_suffix_with_optional_consonant(w, c, 0x6E),
-        Joint::S => mark_suffix_with_optional_consonant(w, c, 0x73),
-        Joint::U => mark_suffix_with_optional_U_vowel(w, c),
-    }
 }

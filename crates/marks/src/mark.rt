@@ -1,14 +1,11 @@
-// The marks of the suffix stage (turkish.rs, `r_mark_yUm` to `r_mark_yken`), numbered 1 to 12 in the order of document 01's mark tables
-// with yken last. Tried alone or in a group, they take the word and what is seen from a record and answer the record moved back, their
-// number and what their harmony test found. The key and the optional y are tested first and harmony only where they fit: all must hold, so
-// the answer is the same as in the Rust, which tests harmony first.
+// The marks of the suffix stage (turkish.rs, `r_mark_yUm` to `r_mark_yken`), numbered 1 to 12 in the order of document 01's mark tables with
+// yken last. Each takes the word and what is seen from a record, searches its own table, and answers the record moved back, its number and what
+// its harmony test found. Before the search only the last letter is tested: most marks fail by it.
 use crate::marked::Marked;
 use crate::tables;
 use letters::among::Among;
 use letters::among::find_among_b;
 use letters::ends;
-use letters::harmony;
-use letters::harmony::Accord;
 use letters::joint::mark_suffix_with_optional_consonant;
 use letters::passed::Passed;
 use letters::seen::Seen;
@@ -19,14 +16,13 @@ use utf8::step;
 ghost use mathlib.Core.Path.{_≡_};
 ghost use Rattle.utf8.specs.Behind.{behind, Open};
 ghost use Rattle.theorems.specs.Simple.Grammar.{markOf};
-ghost use Rattle.theorems.specs.Simple.Marks.{yDU, yken};
+ghost use Rattle.theorems.specs.Simple.Marks.{yUm, sUn, yUz, sUnUz, lAr, nUz, DUr, cAsInA, yDU, ysA, ymUs, yken};
 ghost use Rattle.theorems.specs.Simple.Pieces.{traceOf};
 ghost use Rattle.letters.specs.Search.{found};
 ghost use Rattle.letters.specs.Seen.{Sees};
-ghost use Rattle.letters.specs.Accord.{Listens};
 ghost use Rattle.letters.specs.Passed.{passes};
+ghost use Rattle.letters.specs.Ends.{endingIn};
 ghost use Rattle.marks.specs.Reach.{reach};
-ghost use Rattle.letters.specs.Numbered.{numbered, tabled, unharmonic, firstOf};
 
 // The marks' numbers.
 pub const YUM: u32 = 1;
@@ -58,9 +54,172 @@ const KEN: [u8; 3] = *b"ken";
 
 const Y: [u8; 1] = *b"y";
 
-// yken: `ken`, a y if one stands before it, and one character more, on one lent record. The second character before `ken` must be a
-// vowel: after a y it is the one just passed, else the next one.
-fn mark_yken(w: &[u8], c: Cursor) -> Passed
+pub fn mark_yUm(w: &[u8], s: Seen) -> Marked
+    requires { ⌜ Sees (now w) s ⌝ }
+    ensures { λ r. ⌜ r ≡ reach (now (w .entry)) (s .c) (traceOf yUm (behind (now (w .entry)) (s .c))) ⌝ }
+{
+    if s.last != 0x6D {
+        return Marked::Fails;
+    }
+    let Among::Key(_, d) = find_among_b(w, s, &tables::A_12, 2) else {
+        return Marked::Fails;
+    };
+    let p = mark_suffix_with_optional_consonant(w, d, 0x79);
+    Marked::kept_in_harmony(w, s.c, YUM, p)
+}
+
+pub fn mark_sUn(w: &[u8], s: Seen) -> Marked
+    requires { ⌜ Sees (now w) s ⌝ }
+    ensures { λ r. ⌜ r ≡ reach (now (w .entry)) (s .c) (traceOf sUn (behind (now (w .entry)) (s .c))) ⌝ }
+{
+    if s.last != 0x6E {
+        return Marked::Fails;
+    }
+    let Among::Key(_, d) = find_among_b(w, s, &tables::A_13, 3) else {
+        return Marked::Fails;
+    };
+    Marked::kept_in_harmony(w, s.c, SUN, Passed::to(d.cursor))
+}
+
+pub fn mark_yUz(w: &[u8], s: Seen) -> Marked
+    requires { ⌜ Sees (now w) s ⌝ }
+    ensures { λ r. ⌜ r ≡ reach (now (w .entry)) (s .c) (traceOf yUz (behind (now (w .entry)) (s .c))) ⌝ }
+{
+    if s.last != 0x7A {
+        return Marked::Fails;
+    }
+    let Among::Key(_, d) = find_among_b(w, s, &tables::A_14, 2) else {
+        return Marked::Fails;
+    };
+    let p = mark_suffix_with_optional_consonant(w, d, 0x79);
+    Marked::kept_in_harmony(w, s.c, YUZ, p)
+}
+
+pub fn mark_sUnUz(w: &[u8], s: Seen) -> Marked
+    requires { ⌜ Sees (now w) s ⌝ }
+    ensures { λ r. ⌜ r ≡ reach (now (w .entry)) (s .c) (traceOf sUnUz (behind (now (w .entry)) (s .c))) ⌝ }
+{
+    if s.last != 0x7A {
+        return Marked::Fails;
+    }
+    let Among::Key(_, d) = find_among_b(w, s, &tables::A_15, 5) else {
+        return Marked::Fails;
+    };
+    Marked::kept(s.c, SUNUZ, Passed::to(d.cursor))
+}
+
+pub fn mark_lAr(w: &[u8], s: Seen) -> Marked
+    requires { ⌜ Sees (now w) s ⌝ }
+    ensures { λ r. ⌜ r ≡ reach (now (w .entry)) (s .c) (traceOf lAr (behind (now (w .entry)) (s .c))) ⌝ }
+{
+    if s.last != 0x72 {
+        return Marked::Fails;
+    }
+    let Among::Key(_, d) = find_among_b(w, s, &tables::A_16, 3) else {
+        return Marked::Fails;
+    };
+    Marked::kept_in_harmony(w, s.c, LAR, Passed::to(d.cursor))
+}
+
+pub fn mark_nUz(w: &[u8], s: Seen) -> Marked
+    requires { ⌜ Sees (now w) s ⌝ }
+    ensures { λ r. ⌜ r ≡ reach (now (w .entry)) (s .c) (traceOf nUz (behind (now (w .entry)) (s .c))) ⌝ }
+{
+    if s.last != 0x7A {
+        return Marked::Fails;
+    }
+    let Among::Key(_, d) = find_among_b(w, s, &tables::A_17, 3) else {
+        return Marked::Fails;
+    };
+    Marked::kept_in_harmony(w, s.c, NUZ, Passed::to(d.cursor))
+}
+
+pub fn mark_DUr(w: &[u8], s: Seen) -> Marked
+    requires { ⌜ Sees (now w) s ⌝ }
+    ensures { λ r. ⌜ r ≡ reach (now (w .entry)) (s .c) (traceOf DUr (behind (now (w .entry)) (s .c))) ⌝ }
+{
+    if s.last != 0x72 {
+        return Marked::Fails;
+    }
+    let Among::Key(_, d) = find_among_b(w, s, &tables::A_18, 3) else {
+        return Marked::Fails;
+    };
+    Marked::kept_in_harmony(w, s.c, DUR, Passed::to(d.cursor))
+}
+
+pub fn mark_cAsInA(w: &[u8], s: Seen) -> Marked
+    requires { ⌜ Sees (now w) s ⌝ }
+    ensures { λ r. ⌜ r ≡ reach (now (w .entry)) (s .c) (traceOf cAsInA (behind (now (w .entry)) (s .c))) ⌝ }
+{
+    if !ends::is_A(s.last) {
+        return Marked::Fails;
+    }
+    let Among::Key(_, d) = find_among_b(w, s, &tables::A_19, 6) else {
+        return Marked::Fails;
+    };
+    Marked::kept(s.c, CASINA, Passed::to(d.cursor))
+}
+
+// A_20's 32 keys by the last letter: only those that end in it are searched.
+fn find_yDU(w: &[u8], s: Seen) -> Among
+    requires { ⌜ Sees (now w) s ⌝ }
+    ensures { λ r. ⌜ r ≡ found (endingIn (s .last) (yDU .keys)) (now (w .entry)) (s .c) ⌝ }
+{
+    let last = s.last;
+    match last {
+        0x69 => find_among_b(w, s, &tables::A_20[0..6], 3),
+        0x6B => find_among_b(w, s, &tables::A_20[6..30], 3),
+        0x6D => find_among_b(w, s, &tables::A_20[30..54], 3),
+        0x6E => find_among_b(w, s, &tables::A_20[54..78], 3),
+        0x75 => find_among_b(w, s, &tables::A_20[78..84], 3),
+        0x131 => find_among_b(w, s, &tables::A_20[84..90], 3),
+        0xFC => find_among_b(w, s, &tables::A_20[90..96], 3),
+        _ => Among::Nothing,
+    }
+}
+
+pub fn mark_yDU(w: &[u8], s: Seen) -> Marked
+    requires { ⌜ Sees (now w) s ⌝ }
+    ensures { λ r. ⌜ r ≡ reach (now (w .entry)) (s .c) (traceOf yDU (behind (now (w .entry)) (s .c))) ⌝ }
+{
+    let Among::Key(_, d) = find_yDU(w, s) else {
+        return Marked::Fails;
+    };
+    let p = mark_suffix_with_optional_consonant(w, d, 0x79);
+    Marked::kept_in_harmony(w, s.c, YDU, p)
+}
+
+pub fn mark_ysA(w: &[u8], s: Seen) -> Marked
+    requires { ⌜ Sees (now w) s ⌝ }
+    ensures { λ r. ⌜ r ≡ reach (now (w .entry)) (s .c) (traceOf ysA (behind (now (w .entry)) (s .c))) ⌝ }
+{
+    if !(ends::is_A(s.last) | ends::is_kmn(s.last)) {
+        return Marked::Fails;
+    }
+    let Among::Key(_, d) = find_among_b(w, s, &tables::A_21, 3) else {
+        return Marked::Fails;
+    };
+    let p = mark_suffix_with_optional_consonant(w, d, 0x79);
+    Marked::kept(s.c, YSA, p)
+}
+
+pub fn mark_ymUs_(w: &[u8], s: Seen) -> Marked
+    requires { ⌜ Sees (now w) s ⌝ }
+    ensures { λ r. ⌜ r ≡ reach (now (w .entry)) (s .c) (traceOf ymUs (behind (now (w .entry)) (s .c))) ⌝ }
+{
+    if s.last != 0x15F {
+        return Marked::Fails;
+    }
+    let Among::Key(_, d) = find_among_b(w, s, &tables::A_22, 3) else {
+        return Marked::Fails;
+    };
+    let p = mark_suffix_with_optional_consonant(w, d, 0x79);
+    Marked::kept_in_harmony(w, s.c, YMUS, p)
+}
+
+// Back over `ken`, a y if one stands before it, and one character more, on one lent record. The second character before `ken` must be a vowel:
+// after a y it is the one just passed, else the next one.
+fn back_over_yken(w: &[u8], c: Cursor) -> Passed
     requires { ⌜ Open (now w) c ⌝ }
     ensures { λ r. ⌜ r ≡ passes (now (w .entry)) c (markOf yken (behind (now (w .entry)) c)) ⌝ }
 {
@@ -87,108 +246,12 @@ fn mark_yken(w: &[u8], c: Cursor) -> Passed
     Passed::to(here.cursor)
 }
 
-// yDU's search, apart from the others: a function builds every table that it names when it is entered, and this one is long.
-fn find_yDU(w: &[u8], s: Seen) -> Among
+pub fn mark_yken(w: &[u8], s: Seen) -> Marked
     requires { ⌜ Sees (now w) s ⌝ }
-    ensures { λ r. ⌜ r ≡ found (yDU .keys) (now (w .entry)) (s .c) ⌝ }
+    ensures { λ r. ⌜ r ≡ reach (now (w .entry)) (s .c) (traceOf yken (behind (now (w .entry)) (s .c))) ⌝ }
 {
-    find_among_b(w, s, &tables::A_20, 3)
-}
-
-// The search in the table of the mark with this number; yken has none.
-fn find_key(w: &[u8], s: Seen, kind: u32) -> Among
-    requires { ⌜ Sees (now w) s ⌝ }
-    ensures { λ r. ⌜ r ≡ found (tabled kind) (now (w .entry)) (s .c) ⌝ }
-{
-    match kind {
-        1 => find_among_b(w, s, &tables::A_12, 2),
-        2 => find_among_b(w, s, &tables::A_13, 3),
-        3 => find_among_b(w, s, &tables::A_14, 2),
-        4 => find_among_b(w, s, &tables::A_15, 5),
-        5 => find_among_b(w, s, &tables::A_16, 3),
-        6 => find_among_b(w, s, &tables::A_17, 3),
-        7 => find_among_b(w, s, &tables::A_18, 3),
-        8 => find_among_b(w, s, &tables::A_19, 6),
-        9 => find_yDU(w, s),
-        10 => find_among_b(w, s, &tables::A_21, 3),
-        11 => find_among_b(w, s, &tables::A_22, 3),
-        _ => Among::Nothing,
-    }
-}
-
-// Whether an optional y stands before the key of the mark with this number.
-fn is_joining(kind: u32) -> bool
-    ensures { λ r. ⌜ r ≡ numbered kind .joint .asked ⌝ }
-{
-    ((kind == YUM) | (kind == YUZ))
-        | (((kind == YDU) | (kind == YSA)) | ((kind == YMUS) | (kind == YKEN)))
-}
-
-// The mark with this number, but for its harmony test: its key, and an optional y before it where it joins by one.
-fn mark(w: &[u8], s: Seen, kind: u32) -> Passed
-    requires { ⌜ Sees (now w) s ⌝ }
-    ensures { λ r. ⌜ r ≡ passes (now (w .entry)) (s .c) (markOf (unharmonic (numbered kind)) (behind (now (w .entry)) (s .c))) ⌝ }
-{
-    if kind == YKEN {
-        return mark_yken(w, s.c);
-    }
-    let Among::Key(_, d) = find_key(w, s, kind) else {
-        return Passed::NOT;
-    };
-    if is_joining(kind) {
-        return mark_suffix_with_optional_consonant(w, d, 0x79);
-    }
-    Passed::to(d.cursor)
-}
-
-// Whether the mark with this number tests harmony.
-fn is_harmonic(kind: u32) -> bool
-    ensures { λ r. ⌜ r ≡ numbered kind .harmonic ⌝ }
-{
-    match kind {
-        4 | 8 | 10 | 12 => false,
-        _ => true,
-    }
-}
-
-// The mark with this number, its harmony test included; harmony is walked for only where it is not known. With several callers it stays a
-// function of its own, and the tests of last letters before it go into those.
-pub fn full_mark(w: &[u8], s: Seen, told: Accord, kind: u32) -> Marked
-    requires { ⌜ Sees (now w) s ⌝ }
-    requires { ⌜ Listens (now w) (s .c) told ⌝ }
-    ensures { λ r. ⌜ r ≡ reach (now (w .entry)) (s .c) (traceOf (numbered kind) (behind (now (w .entry)) (s .c))) ⌝ }
-{
-    let p = mark(w, s, kind);
-    if !p.moved {
+    if s.last != 0x6E {
         return Marked::Fails;
     }
-    if !is_harmonic(kind) {
-        return Marked::To(s.c.moved_to(p.at), kind, Accord::UNASKED);
-    }
-    let t = harmony::known(w, s.c, told);
-    if !t.holds() {
-        return Marked::Fails;
-    }
-    Marked::To(s.c.moved_to(p.at), kind, t)
-}
-
-// The first mark of a group that fits before the cursor.
-pub fn first_of(w: &[u8], s: Seen, told: Accord, group: &[u32]) -> Marked
-    requires { ⌜ Sees (now w) s ⌝ }
-    requires { ⌜ Listens (now w) (s .c) told ⌝ }
-    ensures { λ r. ⌜ r ≡ reach (now (w .entry)) (s .c) (firstOf (now (group .entry)) (behind (now (w .entry)) (s .c))) ⌝ }
-{
-    let mut i = 0;
-    while i < group.len() {
-        let k = group[i];
-        i += 1;
-        if !ends::may_end(k, s.last, s.second, s.third) {
-            continue;
-        }
-        let Marked::To(c, kind, heard) = full_mark(w, s, told, k) else {
-            continue;
-        };
-        return Marked::To(c, kind, heard);
-    }
-    Marked::Fails
+    Marked::kept(s.c, YKEN, back_over_yken(w, s.c))
 }

@@ -1,6 +1,6 @@
 -- What is known of harmony before a record with what it found: nothing where it was not asked for, all where it was. Assumes nothing.
 use Prim.Native.Nat.{ℕ, _+_, _-_}
-use mathlib.Core.Path.{_≡_, refl, sym, ap, subst, _∙_}
+use mathlib.Core.Path.{_≡_, refl, sym, ap, _∙_}
 use mathlib.Core.Bool.{Bool, true, false, false≢true}
 use mathlib.Core.List.{List}
 use lib.ListN.{drop}
@@ -8,10 +8,9 @@ use Rattle.utf8.specs.declared.cursor.Cursor.{Cursor}
 use Rattle.utf8.specs.Characters.{before}
 use Rattle.utf8.specs.Steps.{moveTo}
 use Rattle.utf8.specs.Behind.{behind, backBy}
-use Rattle.encoding.proofs.Laws.Booleans.{cond-both}
 use Rattle.theorems.specs.Simple.Harmony.{Found, nowhere, at, harmonyFound, isFound, harmony}
 use Rattle.letters.specs.declared.harmony.Accord.{Accord}
-use Rattle.letters.specs.Accord.{asked, holds, skips, noAccord, discord, concord, accordFrom, accordBefore, accordOf, accordAt, Listens, passedOn, orAccord, accordIf}
+use Rattle.letters.specs.Accord.{asked, holds, skips, discord, concord, accordFrom, accordBefore, accordOf, accordAt, passedOn, orAccord}
 use Rattle.letters.proofs.Laws.Part.{partFrom, partFrom-drop}
 
 -- harmony that holds was asked for
@@ -36,19 +35,6 @@ concord-skips l p false = refl
 pub concord-first : (l p : ℕ) (b : Bool) (u : Accord) → orAccord (concord l p b) u ≡ concord l p b
 unfolding orAccord
 concord-first l p b u = rw (concord-asked l p b)
-
--- where harmony was not asked for, nothing is claimed
-pub listens-unasked : (w : List ℕ) (c : Cursor) → Listens w c (record { last = 0; partner = 0; answer = 0 })
-unfolding asked
-listens-unasked w c = record { heard = λ e. absurd (false≢true e) }
-
--- what is told at a record holds there
-listens-accord : (w : List ℕ) (c : Cursor) → Listens w c (accordAt w c)
-listens-accord w c = record { heard = λ e. refl }
-
--- what was asked for is what is told at the record
-pub listens-asked : (w : List ℕ) (c : Cursor) (t : Accord) → Listens w c t → asked t ≡ true → t ≡ accordAt w c
-listens-asked w c t h e = h .heard e
 
 -- its yes or no is harmony's
 pub accord-holds : (w : List ℕ) (c : Cursor) {t : Accord} → t ≡ accordAt w c → holds t ≡ harmony (behind w c)
@@ -96,8 +82,3 @@ module _ (w : List ℕ) (c : Cursor) {t : Accord} (is : t ≡ accordBefore (part
           → record { last = low + u .last; partner = low + u .partner; answer = u .answer } ≡ accordOf w c f
       go nowhere q = unfold accordFrom discord holds in absurd (false≢true q)
       go (at l p) q = unfold accordFrom accordOf concord backBy moveTo behind in refl
-
--- what is told where harmony may have been asked for is true
-pub listens-if : (b : Bool) (w : List ℕ) (c : Cursor) {t : Accord} → t ≡ accordIf b w c → Listens w c t
-unfolding accordIf noAccord
-listens-if b w c e = subst (Listens w c) (sym e) (cond-both (Listens w c) b (accordAt w c) noAccord (listens-accord w c) (listens-unasked w c))

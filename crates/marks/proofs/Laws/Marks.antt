@@ -1,23 +1,21 @@
--- A mark by its parts: a key searched and its joint, then harmony; and the marks of a group one after the other.
+-- A mark by its parts: its last letter, a key searched and what joins it, then harmony. The laws hold of any mark, so of those of both stages.
 -- Assumes nothing.
-use Prim.Native.Nat.{ℕ, suc, _+_, _≤_, _<_}
+use Prim.Native.Nat.{ℕ, _+_}
 use mathlib.Core.Path.{_≡_, refl, sym, ap, _∙_}
-use mathlib.Core.Bool.{Bool, true, false, cond, not, _||_, false≢true}
+use mathlib.Core.Bool.{Bool, true, false, cond, not, _&&_, _||_, false≢true}
 use mathlib.Core.List.{List, [], _∷_}
 use native.Mathlib.Nat.{add-zero}
 use native.Mathlib.Omega.{arith}
-use lib.ListN.{length, drop, getD, drop-of-length-le}
-use lib.Seq.{drop-cons}
-use borrow.Author.Tests.{ne-eqb}
+use lib.ListN.{length, drop, getD}
 use Rattle.utf8.specs.declared.cursor.Cursor.{Cursor}
 use Rattle.utf8.specs.Steps.{moveTo}
 use Rattle.utf8.specs.Behind.{behind, backBy, Open}
 use Rattle.utf8.proofs.Laws.Behind.{behind-backBy, backBy-add, moveTo-backBy, open-backBy}
+use Rattle.encoding.proofs.Laws.Booleans.{cond-cases}
 use Rattle.turkish.specs.Letters.{starts}
 use Rattle.theorems.specs.Simple.Harmony.{harmony}
-use Rattle.theorems.specs.Simple.Grammar.{Out, fail, took, more, after, asking, among, Joint, joining, Mark, markOf}
-use Rattle.theorems.specs.Simple.Pieces.{Trace, none, keeps, total, firstTrace, foundBy, traceOut, traceOf}
-use Rattle.theorems.proofs.Laws.Outcome.{Gives, unfit, fits}
+use Rattle.theorems.specs.Simple.Grammar.{Out, fail, took, more, after, asking, among, Joint, joining, Mark, markOf, mark}
+use Rattle.theorems.specs.Simple.Pieces.{Trace, none, keeps, total, firstTrace, foundBy, traceOut, traceOf, trace}
 use Rattle.theorems.proofs.Laws.Traces.{traceOf-none}
 use Rattle.letters.specs.declared.among.Among.{Among}
 use Rattle.letters.specs.declared.among.Among.the-variants.{Key, Nothing}
@@ -28,13 +26,19 @@ use Rattle.letters.specs.declared.seen.Seen.{Seen}
 use Rattle.letters.specs.Passed.{passedTo, notPassed, passes}
 use Rattle.letters.specs.declared.harmony.Accord.{Accord}
 use Rattle.letters.specs.Accord.{holds, noAccord, accordAt, passedOn}
-use Rattle.marks.specs.Reach.{leading, leadingAccord, reach}
-use Rattle.letters.specs.Numbered.{numbered, tabled, unharmonic, keyedBy, firstOf}
 use Rattle.letters.specs.Search.{foundFrom, found}
 use Rattle.letters.specs.Seen.{Sees}
-use Rattle.letters.specs.Ends.{mayEnd}
-use Rattle.letters.proofs.Laws.Accord.{accord-passedOn}
-use Rattle.letters.proofs.Laws.Ends.{asking-fail, test-seen, markOf-unharmonic, numbered-kind}
+use Rattle.letters.proofs.Laws.Accord.{accord-holds, accord-passedOn}
+use Rattle.letters.proofs.Laws.Ends.{begins, asking-fail, markOf-keyless, trace-unfit, last-seen}
+use Rattle.marks.specs.Reach.{leading, leadingAccord, reach, kept, keptInHarmony, placeOf}
+
+-- ---- the last letter ----
+
+-- where the last letter seen fails a test that the last letter of every key passes, the mark fails
+pub mark-unfit : (m : Mark) (p : ℕ → Bool) → begins p (mark m) ≡ true → (w : List ℕ) (s : Seen) → Sees w s → p (s .last) ≡ false
+    → Fails ≡ reach w (s .c) (traceOf m (behind w (s .c)))
+unfolding trace reach
+mark-unfit m p b w s sees e = sym (ap (reach w (s .c)) (trace-unfit p (mark m) (behind w (s .c)) b (sym (ap p (last-seen w s sees)) ∙ e)))
 
 -- ---- a key found, as the grammar's ----
 
@@ -72,13 +76,78 @@ unfolding passes more
 passes-more w c k fail = refl
 passes-more w c k (took j f) = ap (λ (r : Cursor). passedTo (r .cursor)) (backBy-add w c k j)
 
--- ---- a mark without its harmony test ----
+-- one that did not move fails
+pub passes-not : (w : List ℕ) (c : Cursor) (o : Out) {p : Passed} → p ≡ passes w c o → p .moved ≡ false → o ≡ fail
+unfolding passes passedTo notPassed
+passes-not w c fail e m = refl
+passes-not w c (took k f) e m = absurd (false≢true (sym m ∙ ap (λ (x : Passed). x .moved) e))
 
-module _ (ks : List (List ℕ)) (joint : Joint) (w : List ℕ) (c : Cursor) {a : Among} (is : a ≡ found ks w c) where
-  -- no key
-  pub keyed-nothing : a ≡ Nothing → notPassed ≡ passes w c (markOf (keyedBy ks joint) (behind w c))
-  unfolding markOf keyedBy asking after passes found
-  keyed-nothing e = rw (foundFrom-none 0 ks w c (sym e ∙ is))
+-- a step that moved, as the record moved, the mark's number and what it passes on
+reach-passes : (w : List ℕ) (c : Cursor) (m : Mark) (o : Out) {p : Passed} {t : Accord} → p ≡ passes w c o → p .moved ≡ true
+    → t ≡ passedOn w c (foundBy (m .harmonic) (behind w c)) → To (moveTo c (p .at)) (m .kind) t ≡ reach w c (traceOut m (behind w c) o)
+unfolding passes reach passedTo notPassed traceOut total leading leadingAccord
+reach-passes w c m fail e moved heard = absurd (false≢true (sym (ap (λ (x : Passed). x .moved) e) ∙ moved))
+reach-passes w c m (took n f) {p} e moved heard =
+    let there : moveTo c (p .at) ≡ backBy w c (n + 0) = ap (λ (x : Passed). moveTo c (x .at)) e ∙ moveTo-backBy w c n ∙ ap (backBy w c) (sym (add-zero n)) in
+    cc
+
+-- ---- a mark by its key and what joins it ----
+
+-- the key, and what joins it: the mark but for its harmony test
+unfoldable pub keyed : Mark → List ℕ → Out
+keyed m cs = after (among (m .keys) cs) (λ k. joining (m .joint) (drop k cs))
+
+module _ (m : Mark) (w : List ℕ) (c : Cursor) {p : Passed} (is : p ≡ passes w c (keyed m (behind w c))) where
+  -- harmony is tested or holds
+  agrees : Bool
+  agrees = not (m .harmonic) || harmony (behind w c)
+
+  -- without them it keeps nothing
+  keyed-not : p .moved ≡ false → Fails ≡ reach w c (traceOf m (behind w c))
+  unfolding keyed markOf reach agrees
+  keyed-not n =
+      sym (ap (reach w c) (traceOf-none m (behind w c) (ap (asking agrees) (passes-not w c _ is n) ∙ asking-fail agrees)))
+
+  -- with them it takes what they take, if it tests no harmony or harmony holds
+  keyed-took : p .moved ≡ true → agrees ≡ true → {t : Accord} → t ≡ passedOn w c (foundBy (m .harmonic) (behind w c))
+      → To (moveTo c (p .at)) (m .kind) t ≡ reach w c (traceOf m (behind w c))
+  unfolding keyed markOf asking traceOf agrees
+  keyed-took y h = reach-passes w c m (markOf m (behind w c)) (is ∙ ap (passes w c) (sym (rw h))) y
+
+  -- and keeps nothing where it does not
+  keyed-discord : agrees ≡ false → Fails ≡ reach w c (traceOf m (behind w c))
+  unfolding markOf asking agrees reach
+  keyed-discord h = sym (ap (reach w c) (traceOf-none m (behind w c) (rw h)))
+
+  -- a mark that tests no harmony
+  pub mark-kept : m .harmonic ≡ false → {r : Marked} → r ≡ kept c (m .kind) p → r ≡ reach w c (traceOf m (behind w c))
+  unfolding kept agrees
+  mark-kept free e =
+      e ∙ cond-cases (λ (r : Marked). r ≡ reach w c (traceOf m (behind w c))) (p .moved)
+      (λ y. keyed-took y (rw free) (rw free (unfold foundBy passedOn in refl))) keyed-not
+
+  -- a mark that tests it
+  pub mark-in-harmony : m .harmonic ≡ true → {r : Marked} → r ≡ keptInHarmony w c (m .kind) p → r ≡ reach w c (traceOf m (behind w c))
+  unfolding keptInHarmony agrees
+  mark-in-harmony bound e =
+      e ∙ go (p .moved) (holds (accordAt w c)) refl refl
+    where
+      go : (y h : Bool) → p .moved ≡ y → holds (accordAt w c) ≡ h
+          → cond (y && h) (To (moveTo c (p .at)) (m .kind) (accordAt w c)) Fails ≡ reach w c (traceOf m (behind w c))
+      go false h y holding = keyed-not y
+      go true false y holding = keyed-discord (rw bound (sym (accord-holds w c refl) ∙ holding))
+      go true true y holding =
+          keyed-took y (rw bound (sym (accord-holds w c refl) ∙ holding)) (rw bound (unfold foundBy in accord-passedOn w c refl holding))
+
+-- ---- from the search ----
+
+-- the keys searched are those of the mark, or as good as they
+module _ (m : Mark) (ks : List (List ℕ)) (w : List ℕ) (c : Cursor) (same : among ks (behind w c) ≡ among (m .keys) (behind w c))
+    {a : Among} (is : a ≡ found ks w c) where
+  -- no key: the mark fails
+  pub mark-nothing : a ≡ Nothing → Fails ≡ reach w c (traceOf m (behind w c))
+  unfolding found reach
+  mark-nothing e = sym (ap (reach w c) (traceOf-none m (behind w c) (markOf-keyless m (behind w c) (sym same ∙ foundFrom-none 0 ks w c (sym e ∙ is)))))
 
   module _ {j : ℕ} {d : Cursor} (e : a ≡ Key j d) where
     -- the search's answer taken apart
@@ -87,41 +156,26 @@ module _ (ks : List (List ℕ)) (joint : Joint) (w : List ℕ) (c : Cursor) {a :
     finds = foundFrom-finds 0 ks w c (sym e ∙ is)
 
     -- the record before the key is open
-    pub keyed-open : Open w c → Open w d
-    keyed-open o = rw (finds .there) (open-backBy w c (finds .taken) o)
+    pub key-open : Open w c → Open w d
+    key-open o = rw (finds .there) (open-backBy w c (finds .taken) o)
 
     -- a key, and the joint before it
-    pub keyed-joined : {p : Passed} → p ≡ passes w d (joining joint (behind w d)) → p ≡ passes w c (markOf (keyedBy ks joint) (behind w c))
-    unfolding markOf keyedBy asking after
-    keyed-joined {p} q =
+    pub key-joined : {p : Passed} → p ≡ passes w d (joining (m .joint) (behind w d)) → p ≡ passes w c (keyed m (behind w c))
+    unfolding keyed after
+    key-joined {p} q =
         let k = finds .taken in
-        q ∙ ap (λ (r : Cursor). passes w r (joining joint (behind w r))) (finds .there)
-        ∙ ap (λ (cs : List ℕ). passes w (backBy w c k) (joining joint cs)) (behind-backBy w c k)
-        ∙ passes-more w c k (joining joint (drop k (behind w c))) ∙ sym (rw (finds .takes))
+        q ∙ ap (λ (r : Cursor). passes w r (joining (m .joint) (behind w r))) (finds .there)
+        ∙ ap (λ (cs : List ℕ). passes w (backBy w c k) (joining (m .joint) cs)) (behind-backBy w c k)
+        ∙ passes-more w c k (joining (m .joint) (drop k (behind w c))) ∙ sym (rw (← same, finds .takes))
 
     -- a key alone
-    pub keyed-alone : joint .asked ≡ false → passedTo (d .cursor) ≡ passes w c (markOf (keyedBy ks joint) (behind w c))
-    unfolding markOf joining keyedBy asking after more passes
-    keyed-alone t =
+    pub key-alone : m .joint .asked ≡ false → {p : Passed} → p ≡ passedTo (d .cursor) → p ≡ passes w c (keyed m (behind w c))
+    unfolding keyed joining after more passes
+    key-alone t q =
         let k = finds .taken in
-        ap (λ (r : Cursor). passedTo (r .cursor)) (finds .there ∙ ap (backBy w c) (sym (add-zero k))) ∙ sym (rw (finds .takes, t))
+        q ∙ ap (λ (r : Cursor). passedTo (r .cursor)) (finds .there ∙ ap (backBy w c) (sym (add-zero k))) ∙ sym (rw (← same, finds .takes, t))
 
--- ---- a mark of a group ----
-
--- a step that moved, as the record moved, the number of the mark that fits and what it passes on
-reach-passes : (w : List ℕ) (c : Cursor) (m : Mark) (k : ℕ) {o : Out} {p : Passed} {d : Cursor} {t : Accord} → Gives (λ n f. m .kind ≡ k) o → p ≡ passes w c o
-    → p .moved ≡ true → d ≡ moveTo c (p .at) → t ≡ passedOn w c (foundBy (m .harmonic) (behind w c)) → To d k t ≡ reach w c (traceOut m (behind w c) o)
-unfolding passes reach passedTo notPassed traceOut total leading leadingAccord
-reach-passes w c m k unfit e moved to heard = absurd (false≢true (sym (ap (λ (x : Passed). x .moved) e) ∙ moved))
-reach-passes w c m k {d = d} (fits n is) e moved to heard =
-    let there : d ≡ backBy w c (n + 0) = to ∙ ap (λ (x : Passed). moveTo c (x .at)) e ∙ moveTo-backBy w c n ∙ ap (backBy w c) (sym (add-zero n)) in
-    cc
-
--- one that did not move fails
-pub passes-not : (w : List ℕ) (c : Cursor) (o : Out) {p : Passed} → p ≡ passes w c o → p .moved ≡ false → o ≡ fail
-unfolding passes passedTo notPassed
-passes-not w c fail e m = refl
-passes-not w c (took k f) e m = absurd (false≢true (sym m ∙ ap (λ (x : Passed). x .moved) e))
+-- ---- answers ----
 
 -- no answer both reaches and fails
 pub to-fails : {A : Type 0} {d : Cursor} {k : ℕ} {h : Accord} {r : Marked} → r ≡ To d k h → r ≡ Fails → A
@@ -134,80 +188,23 @@ reach-fails w c none is fails = refl
 reach-fails w c (keeps ts f) is fails = to-fails is fails
 
 -- what the first takes, the group does
-reach-first : (w : List ℕ) (c : Cursor) (o q : Trace) {r : Cursor} {k : ℕ} {t : Accord} → To r k t ≡ reach w c o → To r k t ≡ reach w c (firstTrace o q)
+pub reach-first : (w : List ℕ) (c : Cursor) (o q : Trace) {a : Marked} {r : Cursor} {k : ℕ} {t : Accord} → a ≡ reach w c o → a ≡ To r k t
+    → To r k t ≡ reach w c (firstTrace o q)
 unfolding firstTrace reach
-reach-first w c none q e = to-fails refl e
-reach-first w c (keeps ts f) q e = e
+reach-first w c none q is to = to-fails to is
+reach-first w c (keeps ts f) q is to = sym to ∙ is
 
--- a mark by its key and joint, without its harmony test
-module _ (w : List ℕ) (c : Cursor) (k : ℕ) {p : Passed} (is : p ≡ passes w c (markOf (unharmonic (numbered k)) (behind w c))) where
-  -- without its key and joint it keeps nothing
-  pub traceOf-not : p .moved ≡ false → traceOf (numbered k) (behind w c) ≡ none
-  traceOf-not m =
-      traceOf-none (numbered k) (behind w c)
-      (markOf-unharmonic (numbered k) (behind w c)
-      ∙ ap (asking (not (numbered k .harmonic) || harmony (behind w c))) (passes-not w c _ is m)
-      ∙ asking-fail (not (numbered k .harmonic) || harmony (behind w c)))
+-- what the first leaves, the others may take
+pub reach-next : (w : List ℕ) (c : Cursor) (o q : Trace) {a r : Marked} → a ≡ reach w c o → a ≡ Fails → r ≡ reach w c q → r ≡ reach w c (firstTrace o q)
+unfolding firstTrace
+reach-next w c o q is fails next = next ∙ sym (ap (λ (x : Trace). reach w c (firstTrace x q)) (reach-fails w c o is fails))
 
-  -- with them it takes what they take, if it tests no harmony or harmony holds
-  pub traceOf-took : p .moved ≡ true → not (numbered k .harmonic) || harmony (behind w c) ≡ true → {d : Cursor} {t : Accord} → d ≡ moveTo c (p .at)
-      → t ≡ passedOn w c (foundBy (numbered k .harmonic) (behind w c)) → To d k t ≡ reach w c (traceOf (numbered k) (behind w c))
-  unfolding asking traceOf
-  traceOf-took m h =
-      reach-passes w c (numbered k) k (numbered-kind k (behind w c)) (is ∙ ap (passes w c) (sym (markOf-unharmonic (numbered k) (behind w c) ∙ rw h))) m
-
-  -- and keeps nothing where it does not
-  pub traceOf-discord : not (numbered k .harmonic) || harmony (behind w c) ≡ false → traceOf (numbered k) (behind w c) ≡ none
-  unfolding asking
-  traceOf-discord h = traceOf-none (numbered k) (behind w c) (markOf-unharmonic (numbered k) (behind w c) ∙ rw h)
-
-module _ (w : List ℕ) (c : Cursor) (group : List ℕ) (i : ℕ) (inside : i < length group) where
-  -- the mark tried, and the group from the next on
-  firstOf-at : firstOf (drop i group) (behind w c)
-      ≡ firstTrace (traceOf (numbered (getD group i 0)) (behind w c)) (firstOf (drop (i + 1) group) (behind w c))
-  unfolding firstOf
-  firstOf-at = let next : i + 1 ≡ suc i = omega arith in rw (drop-cons group i 0 inside, next)
-
-  -- a mark that fails is passed over
-  pub firstOf-next : traceOf (numbered (getD group i 0)) (behind w c) ≡ none
-      → reach w c (firstOf (drop (i + 1) group) (behind w c)) ≡ reach w c (firstOf (drop i group) (behind w c))
-  unfolding firstTrace
-  firstOf-next e = ap (reach w c) (sym (firstOf-at ∙ rw e))
-
-  -- one that fits is the group's first
-  pub firstOf-took : {r : Marked} {d : Cursor} {k : ℕ} {t : Accord} → r ≡ reach w c (traceOf (numbered (getD group i 0)) (behind w c)) → r ≡ To d k t
-      → To d k t ≡ reach w c (firstOf (drop i group) (behind w c))
-  firstOf-took is to = reach-first w c _ _ (sym to ∙ is) ∙ ap (reach w c) (sym firstOf-at)
-
--- where no mark is left none fits
-pub firstOf-end : (w : List ℕ) (c : Cursor) (group : List ℕ) (i : ℕ) → length group ≤ i → Fails ≡ reach w c (firstOf (drop i group) (behind w c))
-unfolding firstOf reach
-firstOf-end w c group i h = rw (drop-of-length-le group {i = i} h)
-
--- what the last letters seen rule out, the characters behind the record do
-pub mayEnd-sees : (w : List ℕ) (s : Seen) → Sees w s → (k : ℕ) {b : Bool} → b ≡ mayEnd k (s .last) (s .second) (s .third)
-    → b ≡ mayEnd k (getD (behind w (s .c)) 0 0) (getD (behind w (s .c)) 1 0) (getD (behind w (s .c)) 2 0)
-mayEnd-sees w s sees k e = e ∙ test-seen (mayEnd k) w (s .c) (sees .is)
-
--- a mark that tests no harmony agrees with any
-pub agrees-free : {h : Bool} (cs : List ℕ) → h ≡ false → not h || harmony cs ≡ true
-agrees-free cs e = rw e
-
--- one that tests it agrees where harmony holds
-pub agrees-bound : {h : Bool} (cs : List ℕ) → h ≡ true → not h || harmony cs ≡ harmony cs
-agrees-bound cs e = rw e
-
--- a mark that tests no harmony passes nothing on
-pub passes-free : (w : List ℕ) (c : Cursor) {h : Bool} → h ≡ false → noAccord ≡ passedOn w c (foundBy h (behind w c))
-unfolding foundBy passedOn
-passes-free w c e = rw e
-
--- one that tests it passes on what it was told
-pub passes-bound : (w : List ℕ) (c : Cursor) {h : Bool} {t : Accord} → h ≡ true → t ≡ accordAt w c → holds t ≡ true → t ≡ passedOn w c (foundBy h (behind w c))
-unfolding foundBy
-passes-bound w c e is h = rw e (accord-passedOn w c is h)
-
--- a mark but yken has its keys in a table
-pub tabled-found : (w : List ℕ) (c : Cursor) {k : ℕ} {a : Among} → (k ≡ 12 → ⊥) → a ≡ found (tabled k) w c → a ≡ found (numbered k .keys) w c
-unfolding tabled
-tabled-found w c {k} n e = e ∙ ap (λ (ks : List (List ℕ)). found ks w c) (rw (ne-eqb k 12 n))
+-- how far a mark goes alone
+pub place-reach : (m : Mark) (w : List ℕ) (c : Cursor) {a : Marked} {p : Passed} → a ≡ reach w c (traceOf m (behind w c)) → p ≡ placeOf a
+    → p ≡ passes w c (markOf m (behind w c))
+unfolding traceOf
+place-reach m w c e q = q ∙ ap placeOf e ∙ go (markOf m (behind w c))
+  where
+    go : (o : Out) → placeOf (reach w c (traceOut m (behind w c) o)) ≡ passes w c o
+    go fail = unfold traceOut reach placeOf passes in refl
+    go (took k f) = unfold traceOut reach placeOf passes total in ap (λ (n : ℕ). passedTo (backBy w c n .cursor)) (add-zero k)
