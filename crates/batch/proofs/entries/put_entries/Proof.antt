@@ -9,7 +9,8 @@ use Rattle.turkish.specs.Calls.{limit}
 use Rattle.batches.specs.BatchCalls.{batch, mostTails}
 use Rattle.batches.proofs.Laws.Batches.{batch-answered}
 use Rattle.fronts.specs.StandIn.{standInRoom, mostVowelBytes}
-use Rattle.batch.specs.Fate.{wordRoom}
+use Rattle.batch.specs.Removal.{wordRoom}
+use Rattle.batch.proofs.Laws.Tails.{survey-count, tails-survey}
 use Rattle.batch.proofs.Laws.Entries.{Entered, entered-none, entered-all, below, at-end, end-within, ready, again}
 use Rattle.batch.proofs.entries.put_entries.Statement.{statement}
 use Rattle.batch.proofs.entries.put_entries.Tie as tie
@@ -120,7 +121,7 @@ same-length-3 c = c .before .loop .inv .sizes .2
 returns : tie.Need-returns Inv-loop μ-loop
 returns c =
     let s = c .before .before .before .before .before .before .before .before .before .before .before in
-    entered-all _ _ _ _ _ _ _ _ (c .before .loop .inv) (s .pre .1) (omega (arith, s .pre .0 .sized .count, c .loop-test .left))
+    entered-all _ _ _ _ _ _ _ _ (c .before .loop .inv) (s .pre .1) (omega (arith, survey-count _ (tails-survey _ (s .pre .0)), c .loop-test .left))
 
 pub put-entries-spec : {M : Type 1} → statement M
 put-entries-spec =
