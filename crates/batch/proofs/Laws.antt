@@ -1,5 +1,5 @@
 -- The laws that the proofs of the batch share.
 pub mod Tails
 pub mod Refusals
-pub mod Fates
+pub mod Removals
 pub mod Entries

@@ -1,12 +1,12 @@
 -- The tails of a slice as the code walks over it, and what it finds out of them. Assumes nothing.
-use Prim.Native.Nat.{ℕ, suc, _+_, _≤_, max}
-use mathlib.Core.Path.{_≡_}
+use Prim.Native.Nat.{ℕ, suc, _+_, max}
 use mathlib.Core.Bool.{Bool, cond}
 use mathlib.Core.List.{List, [], _∷_}
-use lib.ListN.{length, take, drop}
+use lib.ListN.{length, take, drop, replicate}
 use lib.Dec.{eqb, ltb}
 use Rattle.encoding.specs.Encoding.{continuation}
 use Rattle.turkish.specs.Letters.{lf}
+use Rattle.turkish.specs.Calls.{written}
 use Rattle.theorems.specs.Fronts.{endLength}
 use Rattle.batches.specs.BatchCalls.{mostTails, some}
 use Rattle.batch.specs.declared.tails.Line.{Line}
@@ -46,16 +46,19 @@ longest (t ∷ ts) = max (length t) (longest ts)
 unfoldable pub few : List ℕ → Bool
 few t = ltb (leads t) endLength
 
-pub record Sized (ts : List (List ℕ)) (s : Survey) : Type 0 where
-  pub count : s .count ≡ length ts
-  pub longest : s .longest ≡ longest ts
-  pub short : s .short ≡ some few ts
+-- what the refusals ask of them
+unfoldable pub surveyOf : List (List ℕ) → Survey
+surveyOf ts = record { count = length ts; longest = longest ts; short = some few ts }
 
 -- the places where lines end, the first beginning at `at`
 unfoldable pub endsFrom : ℕ → List (List ℕ) → List ℕ
 endsFrom at [] = []
 endsFrom at (t ∷ ts) = (at + length t) ∷ endsFrom (at + length t + 1) ts
 
-pub record Surveyed (ts : List (List ℕ)) (t : Tails) : Type 0 where
-  pub sized : Sized ts (t .survey)
-  pub ends : length ts ≤ mostTails → take (length ts) (t .ends) ≡ endsFrom 0 ts
+-- the first 64 places, zeros where there are fewer
+unfoldable pub firstPlaces : List ℕ → List ℕ
+firstPlaces es = written (take mostTails es) (replicate mostTails 0)
+
+-- all that is found out of them
+unfoldable pub tailsOf : List (List ℕ) → Tails
+tailsOf ts = record { survey = surveyOf ts; ends = firstPlaces (endsFrom 0 ts) }

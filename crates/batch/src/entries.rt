@@ -12,15 +12,15 @@ ghost use lib.ListN.{length, take, set};
 ghost use Rattle.writing.specs.Put.{put};
 ghost use Rattle.turkish.specs.Calls.{limit};
 ghost use Rattle.batches.specs.BatchCalls.{bit, batch, batchRefusal, tailsIn, lengthsAfter, answersAfter, flagsAfter};
-ghost use Rattle.batch.specs.Tails.{Surveyed};
-ghost use Rattle.batch.specs.Fate.{fateOf};
+ghost use Rattle.batch.specs.Tails.{tailsOf};
+ghost use Rattle.batch.specs.Removal.{removalOf};
 
 // The bytes of a stand-in and a tail: nine vowels of two bytes, and the limit.
 const ROOM: usize = 18 + LIMIT;
 
-// What the stage does to a word: how many bytes it removes, its yes or no, and the flag.
-pub struct Fate {
-    pub removed: usize,
+// What the stage removes of a word: how many bytes, with its yes or no and the flag.
+pub struct Removal {
+    pub bytes: usize,
     pub yes: bool,
     pub flag: bool,
 }
@@ -36,15 +36,15 @@ fn bit(b: bool) -> u8
 }
 
 // The stage of a tail behind the first m bytes of `word`, where it is put.
-fn stem_behind(word: &mut [u8], m: usize, tail: &[u8]) -> Fate
+fn stem_behind(word: &mut [u8], m: usize, tail: &[u8]) -> Removal
     requires { ⌜ m + length (now tail) ≤ length (now word) ⌝ }
-    ensures { λ r. ⌜ r ≡ fateOf (take m (now (word .entry)) ++ now (tail .entry)) ⌝ }
+    ensures { λ r. ⌜ r ≡ removalOf (take m (now (word .entry)) ++ now (tail .entry)) ⌝ }
     ensures { λ r. ⌜ now (word .exit) ≡ put m (now (tail .entry)) (now (word .entry)) ⌝ }
 {
     let end = put::put_all(word, m, tail);
     let o = stage::stem_nominal_verb_suffixes(&word[..end]);
-    Fate {
-        removed: end - o.kept,
+    Removal {
+        bytes: end - o.kept,
         yes: o.yes,
         flag: o.flag,
     }
@@ -63,19 +63,19 @@ fn put_entry(
 )
     requires { ⌜ m + length (now tail) ≤ length (now word) ⌝ }
     requires { ⌜ n + length (now tail) ≤ limit ⌝ }
-    requires { ⌜ fateOf (take m (now word) ++ now tail) .removed ≤ n + length (now tail) ⌝ }
+    requires { ⌜ removalOf (take m (now word) ++ now tail) .bytes ≤ n + length (now tail) ⌝ }
     requires { ⌜ i < length (now lengths) ⌝ }
     requires { ⌜ i < length (now answers) ⌝ }
     requires { ⌜ i < length (now flags) ⌝ }
     ensures { λ _. ⌜ now (word .exit) ≡ put m (now (tail .entry)) (now (word .entry)) ⌝ }
-    ensures { λ _. ⌜ now (lengths .exit) ≡ set (now (lengths .entry)) i (n + length (now (tail .entry)) - fateOf (take m (now (word .entry)) ++ now (tail .entry)) .removed) ⌝ }
-    ensures { λ _. ⌜ now (answers .exit) ≡ set (now (answers .entry)) i (bit (fateOf (take m (now (word .entry)) ++ now (tail .entry)) .yes)) ⌝ }
-    ensures { λ _. ⌜ now (flags .exit) ≡ set (now (flags .entry)) i (bit (fateOf (take m (now (word .entry)) ++ now (tail .entry)) .flag)) ⌝ }
+    ensures { λ _. ⌜ now (lengths .exit) ≡ set (now (lengths .entry)) i (n + length (now (tail .entry)) - removalOf (take m (now (word .entry)) ++ now (tail .entry)) .bytes) ⌝ }
+    ensures { λ _. ⌜ now (answers .exit) ≡ set (now (answers .entry)) i (bit (removalOf (take m (now (word .entry)) ++ now (tail .entry)) .yes)) ⌝ }
+    ensures { λ _. ⌜ now (flags .exit) ≡ set (now (flags .entry)) i (bit (removalOf (take m (now (word .entry)) ++ now (tail .entry)) .flag)) ⌝ }
 {
-    let f = stem_behind(word, m, tail);
-    lengths[i] = (n + tail.len() - f.removed) as u8;
-    answers[i] = bit(f.yes);
-    flags[i] = bit(f.flag);
+    let r = stem_behind(word, m, tail);
+    lengths[i] = (n + tail.len() - r.bytes) as u8;
+    answers[i] = bit(r.yes);
+    flags[i] = bit(r.flag);
 }
 
 // Writes an entry for each tail of a batch that is not refused.
@@ -87,7 +87,7 @@ pub(crate) fn put_entries(
     answers: &mut [u8],
     flags: &mut [u8],
 )
-    requires { ⌜ Surveyed (tailsIn (now slice)) t ⌝ }
+    requires { ⌜ t ≡ tailsOf (tailsIn (now slice)) ⌝ }
     requires { ⌜ batchRefusal (batch (now front) (now slice) (now lengths) (now answers) (now flags)) ≡ 0 ⌝ }
     ensures { λ _. ⌜ now (lengths .exit) ≡ lengthsAfter (batch (now (front .entry)) (now (slice .entry)) (now (lengths .entry)) (now (answers .entry)) (now (flags .entry))) ⌝ }
     ensures { λ _. ⌜ now (answers .exit) ≡ answersAfter (batch (now (front .entry)) (now (slice .entry)) (now (lengths .entry)) (now (answers .entry)) (now (flags .entry))) ⌝ }

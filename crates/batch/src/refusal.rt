@@ -5,12 +5,12 @@ use encoding::validity;
 use words::refusal;
 ghost use mathlib.Core.Path.{_≡_};
 ghost use Rattle.batches.specs.BatchCalls.{tailsIn, wordsRefusal, roomsRefusal, numberOf};
-ghost use Rattle.batch.specs.Tails.{Sized};
+ghost use Rattle.batch.specs.Tails.{surveyOf};
 
 // 1 where the front or a joined word is over the limit, 2 where the front or a tail is not UTF-8. The slice is checked once: a line feed goes on
 // with no character.
 fn words_refusal(front: &[u8], slice: &[u8], s: Survey) -> u32
-    requires { ⌜ Sized (tailsIn (now slice)) s ⌝ }
+    requires { ⌜ s ≡ surveyOf (tailsIn (now slice)) ⌝ }
     ensures { λ r. ⌜ r ≡ wordsRefusal (now (front .entry)) (tailsIn (now (slice .entry))) ⌝ }
 {
     if refusal::LIMIT < front.len() {
@@ -53,7 +53,7 @@ pub(crate) fn refusal_of(
     answers: usize,
     flags: usize,
 ) -> u32
-    requires { ⌜ Sized (tailsIn (now slice)) s ⌝ }
+    requires { ⌜ s ≡ surveyOf (tailsIn (now slice)) ⌝ }
     ensures { λ r. ⌜ r ≡ numberOf (now (front .entry)) (tailsIn (now (slice .entry))) lengths answers flags ⌝ }
 {
     let n = words_refusal(front, slice, s);

@@ -6,7 +6,7 @@ ghost use Prim.Native.Nat.{_-_, _≤_};
 ghost use lib.ListN.{length, take, drop};
 ghost use Rattle.turkish.specs.Letters.{lf, has};
 ghost use Rattle.batches.specs.BatchCalls.{tailsIn};
-ghost use Rattle.batch.specs.Tails.{block, leads, lineAt, Surveyed};
+ghost use Rattle.batch.specs.Tails.{block, leads, lineAt, tailsOf};
 
 // The bytes that are passed in one step.
 const BLOCK: usize = 16;
@@ -30,7 +30,7 @@ pub struct Survey {
     pub short: bool,
 }
 
-// And the places where the first 64 end.
+// And the places where the first 64 end, zeros where there are fewer.
 pub struct Tails {
     pub survey: Survey,
     pub ends: [usize; TAILS],
@@ -91,7 +91,7 @@ fn line_at(w: &[u8], from: usize) -> Line
 
 // The tails of a slice, all of them looked at.
 pub(crate) fn find_tails(slice: &[u8]) -> Tails
-    ensures { λ r. ⌜ Surveyed (tailsIn (now (slice .entry))) r ⌝ }
+    ensures { λ r. ⌜ r ≡ tailsOf (tailsIn (now (slice .entry))) ⌝ }
 {
     let mut ends = [0usize; TAILS];
     let mut count = 0;

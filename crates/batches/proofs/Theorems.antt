@@ -56,7 +56,7 @@ refused-batch-stays b e =
 pub summary-built-afresh : (f : List ℕ) (c : ℕ) → accepted f ≡ true → accepted (f ++ encode c) ≡ true → summary (f ++ encode c) ≡ added c (summary f)
 summary-built-afresh = summary-grows
 
--- the summary alone settles a tail's fate: behind two fronts with one summary the stage removes as many characters, with the same yes or no and
+-- the summary alone settles what is removed of a tail: behind two fronts with one summary the stage removes as many characters, with the same yes or no and
 -- the same flag
 pub summary-alone-settles : (f g t : List ℕ) → accepted f ≡ true → accepted g ≡ true → accepted t ≡ true → long t ≡ true → summary f ≡ summary g
     → (removedFrom (f ++ t) ≡ removedFrom (g ++ t))

@@ -1,29 +1,14 @@
 // The summary of a front, built a character at a time. The step is offered to no host: that gets the batch alone.
+use letters::vowel::Sound;
+use letters::vowel::Vowel;
 use turkish::summary::Summary;
 use utf8::cursor::Cursor;
 use utf8::step;
 ghost use mathlib.Core.Path.{_≡_};
 ghost use mathlib.Core.Bool.{true};
 ghost use Rattle.turkish.specs.Calls.{accepted};
-ghost use Rattle.batches.specs.Summary.{vowelNumber, summary, raised, added};
+ghost use Rattle.batches.specs.Summary.{summary, raised, added};
 ghost use Rattle.fronts.specs.Counted.{Countable, Counted};
-
-// A vowel's number, from 1 in the order of turkish.sbl's `vowel`; 0 for any other character.
-fn vowel_number(ch: u32) -> usize
-    ensures { λ r. ⌜ r ≡ vowelNumber ch ⌝ }
-{
-    match ch {
-        0x61 => 1,
-        0x65 => 2,
-        0x131 => 3,
-        0x69 => 4,
-        0x6F => 5,
-        0xF6 => 6,
-        0x75 => 7,
-        0xFC => 8,
-        _ => 0,
-    }
-}
 
 // The counts with that of the vowel of a number one greater; 0 is no vowel's.
 fn raise(counts: [usize; 8], number: usize) -> [usize; 8]
@@ -39,17 +24,16 @@ fn raise(counts: [usize; 8], number: usize) -> [usize; 8]
 }
 
 // The summary with one character more at the front's end: a vowel is the last one now, and that which was is counted.
-pub fn add(s: Summary, ch: u32) -> Summary
+fn add(s: Summary, ch: u32) -> Summary
     requires { ⌜ Counted s ⌝ }
     ensures { λ r. ⌜ r ≡ added ch s ⌝ }
 {
-    let number = vowel_number(ch);
-    if number == 0 {
+    let Sound::AVowel(v) = Vowel::of(ch) else {
         return s;
-    }
+    };
     let counts = s.counts;
     Summary {
-        last: number,
+        last: v.number,
         counts: raise(counts, s.last),
     }
 }

@@ -2,11 +2,8 @@
 use turkish::endings::Joining;
 use turkish::endings::Kind;
 ghost use mathlib.Core.Path.{_≡_};
-ghost use Prim.Native.Nat.{_≤_};
-ghost use lib.ListN.{take};
-ghost use Rattle.turkish.specs.Pieces.{kindName};
 ghost use Rattle.turkish.specs.PieceCalls.{kindNumber};
-ghost use Rattle.kinds.specs.Kinds.{joiningBy, kindAt};
+ghost use Rattle.kinds.specs.Kinds.{joiningBy, kindAt, nameOf};
 
 // How a piece joined, by whether a y did.
 fn joining(y: bool) -> Joining
@@ -59,7 +56,7 @@ pub fn number_of(kind: Kind) -> u8
     }
 }
 
-// The first n of these letters.
+// A name: the first n of these letters. Those behind it are dots.
 pub struct Name {
     pub letters: [u8; 6],
     pub n: usize,
@@ -67,8 +64,7 @@ pub struct Name {
 
 // A kind's name.
 pub fn name_of(kind: Kind) -> Name
-    ensures { λ r. ⌜ take (r .n) (r .letters) ≡ kindName (kindNumber kind) ⌝ }
-    ensures { λ r. ⌜ r .n ≤ 6 ⌝ }
+    ensures { λ r. ⌜ r ≡ nameOf kind ⌝ }
 {
     match kind {
         Kind::YUm(_) => Name {

@@ -1,4 +1,4 @@
-// The summary of a front (document 02, request 7): all that the front says of the fate of a tail behind it.
+// The summary of a front (document 02, request 7): all of it that decides what the suffix stage removes of a tail behind it.
 
 // The last vowel's number, from 1 in the order of turkish.sbl's `vowel`, 0 where there is none; and how often each of the eight stands
 // before it.

@@ -1,12 +1,11 @@
 -- The loop over the tails of a batch that is answered: what stands in the buffers at each turn, and what a turn makes of them. Assumes nothing.
-use Prim.Native.Nat.{ℕ, suc, _+_, _-_, _≤_, _<_}
+use Prim.Native.Nat.{ℕ, _+_, _-_, _≤_, _<_}
 use mathlib.Core.Path.{_≡_, refl, sym, ap, _∙_}
 use mathlib.Core.Bool.{true}
 use mathlib.Core.List.{List, [], _∷_, _++_, map, append-assoc, append-nil, map-append, List·Memᴰ, List·Memᴰ·head, Memᴰ·append-right}
 use native.Mathlib.Omega.{arith}
-use native.Mathlib.Numerals.{add-one}
 use lib.ListN.{length, take, drop, getD, set, length-append, length-set, length-map}
-use lib.Seq.{drop-cons, set-append-seam, getD-take, getD-at}
+use lib.Seq.{getD-take, getD-at}
 use borrow.Author.Tests.{eq-eqb}
 use Rattle.encoding.proofs.Laws.Booleans.{lt-or-le}
 use Rattle.turkish.specs.Lines.{linesFrom}
@@ -22,10 +21,10 @@ use Rattle.writing.proofs.Laws.Put.{length-put}
 use Rattle.fronts.specs.StandIn.{standIn}
 use Rattle.fronts.proofs.Laws.StandIn.{standIn-length}
 use Rattle.batch.specs.declared.tails.Tails.{Tails}
-use Rattle.batch.specs.Tails.{lineOf, endsFrom, Surveyed}
-use Rattle.batch.specs.Fate.{fateOf, wordRoom}
-use Rattle.batch.proofs.Laws.Tails.{lines-at, lines-none, line-within, lineOf-front}
-use Rattle.batch.proofs.Laws.Fates.{take-before, take-front, removed-le, length-kept, yes-kept, flag-kept}
+use Rattle.batch.specs.Tails.{lineOf, endsFrom, tailsOf}
+use Rattle.batch.specs.Removal.{removalOf, wordRoom}
+use Rattle.batch.proofs.Laws.Tails.{set-written, lines-at, lines-none, line-within, lineOf-front, survey-count, tails-survey, tails-ends}
+use Rattle.batch.proofs.Laws.Removals.{take-before, take-front, removed-le, length-kept, yes-kept, flag-kept}
 
 -- ---- a buffer ----
 
@@ -52,12 +51,6 @@ entries-more : (entry : List ℕ → ℕ) (front : List ℕ) (ts : List (List �
     → entries entry front (ts ++ (t ∷ [])) ≡ entries entry front ts ++ (entry (front ++ t) ∷ [])
 unfolding joinedWords
 entries-more entry front ts t = rw (map-append, map-append)
-
--- an entry stored behind those written
-set-written : (s out : List ℕ) (v : ℕ) → length s < length out → set (written s out) (length s) v ≡ written (s ++ (v ∷ [])) out
-unfolding written
-set-written s out v h =
-    rw (drop-cons out (length s) 0 h, set-append-seam, length-append, add-one) (sym (append-assoc s (v ∷ []) (drop (suc (length s)) out)))
 
 -- so an entry stored is that of one tail more
 stored : (entry : List ℕ → ℕ) (f : List ℕ) (done : List (List ℕ)) (t : List ℕ) (i x : ℕ) (out before : List ℕ) → length done ≡ i → i < length before
@@ -136,13 +129,13 @@ module _ (b : Batch) (m : ℕ) (lengths answers flags word : List ℕ) (at i : �
         rw (eq-eqb (batchRefusal b) 0 z, ← all-done h) (e .lengthsAre, (e .answersAre, e .flagsAre))
 
   -- the next tail
-  module _ (z : batchRefusal b ≡ 0) (t : Tails) (v : Surveyed (tailsIn (b .tails)) t) (h : i < t .survey .count) where
+  module _ (z : batchRefusal b ≡ 0) (t : Tails) (v : t ≡ tailsOf (tailsIn (b .tails))) (h : i < t .survey .count) where
     line : List ℕ
     line = lineOf (drop at (b .tails))
 
     more : i < length ts
     unfolding ts
-    more = rw (← v .sized .count) h
+    more = rw (← survey-count (tailsIn (b .tails)) (tails-survey (tailsIn (b .tails)) v)) h
 
     few : length ts ≤ mostTails
     unfolding ts
@@ -166,7 +159,7 @@ module _ (b : Batch) (m : ℕ) (lengths answers flags word : List ℕ) (at i : �
     unfolding ts rest line endsFrom
     end-at =
         sym (getD-take (length ts) (t .ends) i 0 more)
-        ∙ ap (λ (l : List ℕ). getD l i 0) (v .ends few ∙ e .ends ∙ ap (λ (r : List (List ℕ)). e .ended ++ endsFrom at r) rest-line)
+        ∙ ap (λ (l : List ℕ). getD l i 0) (tails-ends (tailsIn (b .tails)) v few ∙ e .ends ∙ ap (λ (r : List (List ℕ)). e .ended ++ endsFrom at r) rest-line)
         ∙ getD-at (e .ended) (at + length line) _ 0 i (e .endings)
 
     pub at-end : at ≤ getD (t .ends) i 0
@@ -212,7 +205,7 @@ module _ (b : Batch) (m : ℕ) (lengths answers flags word : List ℕ) (at i : �
     pub ready : let tail = take (getD (t .ends) i 0 - at) (drop at (b .tails)) in
         (m + length tail ≤ length word)
         × ((length (b .front) + length tail ≤ limit)
-        × ((fateOf (take m word ++ tail) .removed ≤ length (b .front) + length tail) × ((i < length lengths) × ((i < length answers) × (i < length flags)))))
+        × ((removalOf (take m word ++ tail) .bytes ≤ length (b .front) + length tail) × ((i < length lengths) × ((i < length answers) × (i < length flags)))))
     unfolding line wordRoom
     ready =
         rw (tail-is, stands) (
@@ -222,10 +215,10 @@ module _ (b : Batch) (m : ℕ) (lengths answers flags word : List ℕ) (at i : �
 
     -- what it leaves is the next turn's
     pub again : (lengths′ answers′ flags′ word′ : List ℕ) → let tail = take (getD (t .ends) i 0 - at) (drop at (b .tails)) in
-        let fate = fateOf (take m word ++ tail) in
+        let removal = removalOf (take m word ++ tail) in
         (word′ ≡ put m tail word)
-        × ((lengths′ ≡ set lengths i (length (b .front) + length tail - fate .removed))
-        × ((answers′ ≡ set answers i (bit (fate .yes))) × (flags′ ≡ set flags i (bit (fate .flag)))))
+        × ((lengths′ ≡ set lengths i (length (b .front) + length tail - removal .bytes))
+        × ((answers′ ≡ set answers i (bit (removal .yes))) × (flags′ ≡ set flags i (bit (removal .flag)))))
         → Entered b m lengths′ answers′ flags′ word′ (getD (t .ends) i 0 + 1) (i + 1)
     unfolding line rest endsFrom wordRoom
     again lengths′ answers′ flags′ word′ p =

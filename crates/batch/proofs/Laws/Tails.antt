@@ -3,23 +3,34 @@
 use Prim.Native.Nat.{ℕ, suc, _+_, _-_, _≤_, _<_, max}
 use mathlib.Core.Path.{_≡_, refl, sym, ap, _∙_}
 use mathlib.Core.Bool.{Bool, true, false, cond, not, _||_, or-assoc, or-false}
-use mathlib.Core.List.{List, [], _∷_, _++_, append-nil}
+use mathlib.Core.List.{List, [], _∷_, _++_, append-nil, append-assoc}
 use native.Mathlib.Nat.{suc-add, add-zero, zero-max, max-zero}
 use native.Mathlib.Numerals.{add-one}
 use native.Mathlib.Omega.{arith}
-use lib.ListN.{length, take, drop, getD, set, length-append, length-drop, take-append-drop, drop-of-length-le}
-use lib.Seq.{drop-cons, drop-drop, append-snoc, length-take-le, take-suc-set}
+use lib.ListN.{length, take, drop, getD, set, replicate, length-append, length-drop, length-replicate, take-append-drop, drop-of-length-le}
+use lib.Seq.{drop-cons, drop-drop, append-snoc, length-take-le, take-nil, take-all, take-append-le, take-append-seam, set-append-seam}
 use lib.Dec.{eqb, ltb}
 use borrow.Author.Tests.{ne-eqb, not-true, not-false}
 use Rattle.encoding.specs.Encoding.{continuation}
-use Rattle.encoding.proofs.Laws.Booleans.{cond-cases}
+use Rattle.encoding.proofs.Laws.Booleans.{cond-cases, lt-or-le}
 use Rattle.turkish.specs.Letters.{lf, any, has}
 use Rattle.turkish.specs.Lines.{unclosed, linesFrom}
+use Rattle.turkish.specs.Calls.{written}
 use Rattle.theorems.specs.Fronts.{endLength}
 use Rattle.batches.specs.BatchCalls.{mostTails, tailsIn, some}
 use Rattle.theorems.proofs.Laws.Tests.{eqb-comm, has-none}
 use Rattle.batch.specs.declared.tails.Line.{Line}
-use Rattle.batch.specs.Tails.{lineOf, leads, lineAt, longest, few, endsFrom, Surveyed}
+use Rattle.batch.specs.declared.tails.Survey.{Survey}
+use Rattle.batch.specs.declared.tails.Tails.{Tails}
+use Rattle.batch.specs.Tails.{lineOf, leads, lineAt, longest, few, surveyOf, endsFrom, firstPlaces, tailsOf}
+
+-- ---- what is stored behind what is written ----
+
+-- a number stored there is written with it
+pub set-written : (s out : List ℕ) (v : ℕ) → length s < length out → set (written s out) (length s) v ≡ written (s ++ (v ∷ [])) out
+unfolding written
+set-written s out v h =
+    rw (drop-cons out (length s) 0 h, set-append-seam, length-append, add-one) (sym (append-assoc s (v ∷ []) (drop (suc (length s)) out)))
 
 -- ---- the part between two places ----
 
@@ -252,35 +263,57 @@ line-few : (w : List ℕ) (at : ℕ) {line : Line} → line ≡ lineAt w at → 
 unfolding lineAt few endLength
 line-few w at e = ap (λ (l : Line). ltb (l .chars) 16) e
 
--- the lines before a place looked at: what is found of them and what the rest has are what all have
+-- a place stored behind those held is one more of them, as long as there is room
+firstPlaces-more : (es ps qs : List ℕ) (e : ℕ) → ps ≡ firstPlaces es → (length es < mostTails → qs ≡ set ps (length es) e)
+    → (mostTails ≤ length es → qs ≡ ps) → qs ≡ firstPlaces (es ++ (e ∷ []))
+unfolding firstPlaces
+firstPlaces-more es ps qs e p stored kept = lt-or-le (length es) mostTails room full
+  where
+    more : length (es ++ (e ∷ [])) ≡ length es + 1
+    more = length-append es (e ∷ [])
+
+    room : length es < mostTails → qs ≡ written (take mostTails (es ++ (e ∷ []))) (replicate mostTails 0)
+    room l =
+        stored l
+        ∙ rw (p, take-all mostTails es (omega arith), take-all mostTails (es ++ (e ∷ [])) (omega (arith, more)))
+        (set-written es (replicate mostTails 0) e (omega (arith, length-replicate {A = ℕ} mostTails 0)))
+
+    full : mostTails ≤ length es → qs ≡ written (take mostTails (es ++ (e ∷ []))) (replicate mostTails 0)
+    full l = kept l ∙ p ∙ rw (take-append-le mostTails es (e ∷ []) l)
+
+-- the lines before a place looked at: what is found of them and what the rest has are what all have, and the first of their ends are held
 pub record Found (slice ends : List ℕ) (count most : ℕ) (short : Bool) (at : ℕ) : Type 0 where
   pub below : count ≤ at
-  pub room : length ends ≡ mostTails
   pub counted : count + length (linesFrom [] (drop at slice)) ≡ length (tailsIn slice)
   pub longest : max most (longest (linesFrom [] (drop at slice))) ≡ longest (tailsIn slice)
   pub few : (short || some few (linesFrom [] (drop at slice))) ≡ some few (tailsIn slice)
-  pub ended : count ≤ mostTails → take count ends ++ endsFrom at (linesFrom [] (drop at slice)) ≡ endsFrom 0 (tailsIn slice)
+  pub ended : List ℕ
+  pub endings : length ended ≡ count
+  pub split : ended ++ endsFrom at (linesFrom [] (drop at slice)) ≡ endsFrom 0 (tailsIn slice)
+  pub held : ends ≡ firstPlaces ended
 
 -- none looked at yet
-pub found-none : (slice ends : List ℕ) → length ends ≡ mostTails → Found slice ends 0 0 false 0
-unfolding tailsIn
-found-none slice ends n =
+pub found-none : (slice : List ℕ) → Found slice (replicate mostTails 0) 0 0 false 0
+unfolding tailsIn firstPlaces written
+found-none slice =
     record {
       below = omega arith;
-      room = n;
       counted = omega arith;
       longest = zero-max (longest (linesFrom [] slice));
       few = refl;
-      ended = λ h. refl;
+      ended = [];
+      endings = refl;
+      split = refl;
+      held = rw take-nil;
     }
 
 -- one line more; its end is kept where there is room
 pub found-line : {slice ends : List ℕ} {count most : ℕ} {short : Bool} {at : ℕ} (ends′ : List ℕ) (most′ : ℕ) (line : Line)
     → Found slice ends count most short at → at < length slice → line ≡ lineAt slice at
-    → length ends′ ≡ length ends → (count < mostTails → ends′ ≡ set ends count (line .end))
+    → (count < mostTails → ends′ ≡ set ends count (line .end)) → (mostTails ≤ count → ends′ ≡ ends)
     → most′ ≡ max most (line .end - at) → Found slice ends′ (count + 1) most′ (short || ltb (line .chars) 16) (line .end + 1)
 unfolding longest some endsFrom
-found-line {slice} {ends} {count} {most} {short} {at} ends′ most′ line f h g n s m =
+found-line {slice} {ends} {count} {most} {short} {at} ends′ most′ line f h g stored kept m =
     let first = lineOf (drop at slice) in
     let end = line .end in
     let rest = linesFrom [] (drop (end + 1) slice) in
@@ -290,24 +323,59 @@ found-line {slice} {ends} {count} {most} {short} {at} ends′ most′ line f h g
     let l : max most (max (length first) (longest rest)) ≡ longest (tailsIn slice) = rw r at (f .longest) in
     record {
       below = omega (arith, f .below);
-      room = n ∙ f .room;
       counted = omega arith;
       longest = omega arith;
       few = rw (line-few slice at g) (or-assoc short (few first) (some few rest)) ∙ rw r at (f .few);
-      ended = λ k.
-          let t : take (count + 1) ends′ ≡ take count ends ++ (end ∷ []) =
-          rw (s (omega arith), add-one count) (take-suc-set ends count end (omega (arith, f .room))) in
-          rw (t, append-snoc (take count ends) end (endsFrom (end + 1) rest)) (rw (r, ← e) at (f .ended (omega arith)));
+      ended = f .ended ++ (end ∷ []);
+      endings = length-append (f .ended) (end ∷ []) ∙ ap (λ (n : ℕ). n + 1) (f .endings);
+      split = rw (append-snoc (f .ended) end (endsFrom (end + 1) rest)) (rw (r, ← e) at (f .split));
+      held = firstPlaces-more (f .ended) ends ends′ end (f .held) (rw (f .endings) stored) (rw (f .endings) kept);
     }
 
 -- all of them
 pub found-all : {slice ends : List ℕ} {count most : ℕ} {short : Bool} {at : ℕ} → Found slice ends count most short at → length slice ≤ at
-    → Surveyed (tailsIn slice) (record { survey = record { count = count; longest = most; short = short }; ends = ends })
-unfolding longest some endsFrom
+    → record { survey = record { count = count; longest = most; short = short }; ends = ends } ≡ tailsOf (tailsIn slice)
+unfolding longest some endsFrom surveyOf tailsOf
 found-all {slice} {ends} {count} {most} {short} {at} f h =
     let r = lines-none slice at h in
     let c : count ≡ length (tailsIn slice) = sym (add-zero count) ∙ rw r at (f .counted) in
-    record {
-      sized = record { count = c; longest = sym (max-zero most) ∙ rw r at (f .longest); short = sym (or-false short) ∙ rw r at (f .few) };
-      ends = λ k. rw (← c) (sym (append-nil (take count ends)) ∙ rw r at (f .ended (omega arith)));
-    }
+    let m : most ≡ longest (tailsIn slice) = sym (max-zero most) ∙ rw r at (f .longest) in
+    let s : short ≡ some few (tailsIn slice) = sym (or-false short) ∙ rw r at (f .few) in
+    let e : f .ended ≡ endsFrom 0 (tailsIn slice) = sym (append-nil (f .ended)) ∙ rw r at (f .split) in
+    rw (c, m, s, f .held, e)
+
+-- ---- what is told of them ----
+
+-- there are as many ends as lines
+length-endsFrom : (at : ℕ) (ts : List (List ℕ)) → length (endsFrom at ts) ≡ length ts
+unfolding endsFrom
+length-endsFrom at [] = refl
+length-endsFrom at (t ∷ ts) = ap suc (length-endsFrom (at + length t + 1) ts)
+
+module _ (ts : List (List ℕ)) where
+  -- a survey's numbers, each by itself
+  module _ {s : Survey} (e : s ≡ surveyOf ts) where
+    pub survey-count : s .count ≡ length ts
+    unfolding surveyOf
+    survey-count = ap (λ (s : Survey). s .count) e
+
+    pub survey-longest : s .longest ≡ longest ts
+    unfolding surveyOf
+    survey-longest = ap (λ (s : Survey). s .longest) e
+
+    pub survey-short : s .short ≡ some few ts
+    unfolding surveyOf
+    survey-short = ap (λ (s : Survey). s .short) e
+
+  module _ {t : Tails} (e : t ≡ tailsOf ts) where
+    -- the survey is that of the tails
+    pub tails-survey : t .survey ≡ surveyOf ts
+    unfolding tailsOf
+    tails-survey = ap (λ (t : Tails). t .survey) e
+
+    -- where there are no more than 64 the end of each is held
+    pub tails-ends : length ts ≤ mostTails → take (length ts) (t .ends) ≡ endsFrom 0 ts
+    unfolding tailsOf firstPlaces written
+    tails-ends h =
+        let n = length-endsFrom 0 ts in
+        rw (e, take-all mostTails (endsFrom 0 ts) (omega arith), ← n) (take-append-seam (endsFrom 0 ts) _)

@@ -7,8 +7,8 @@ use mathlib.Core.Logic.{⊎-elim}
 use mathlib.Core.List.{List, [], _∷_, _++_, map, reverse, append-nil, reverse-append}
 use native.Mathlib.Omega.{arith}
 use native.Mathlib.Numerals.{add-one}
-use lib.ListN.{length, take, drop, getD, length-append, length-take, take-append-drop, drop-of-length-le}
-use lib.Seq.{take-nil, drop-nil}
+use lib.ListN.{length, take, drop, getD, length-append}
+use lib.Seq.{length-take-le, take-nil, drop-nil}
 use lib.Dec.{leb, eqb}
 use borrow.Author.Tests.{leb-true, eqb-true, eq-eqb, ne-eqb}
 use Rattle.encoding.specs.Scalar.{surrogate, scalar, scalars}
@@ -31,8 +31,13 @@ use Rattle.theorems.proofs.Laws.Tests.{every, every-at, any-reverse}
 use Rattle.theorems.proofs.Laws.Vowels.{has-member}
 use Rattle.batches.proofs.Laws.Summary.{times-none, last-or-none}
 use Rattle.writing.specs.Put.{put}
-use Rattle.writing.proofs.Laws.Put.{Wrote, wrote-text, wrote-all}
-use Rattle.fronts.specs.StandIn.{numbered, counted, standIn, mostVowelBytes, standInRoom}
+use Rattle.writing.proofs.Laws.Put.{put-nothing, Wrote, wrote-text, wrote-all}
+use Rattle.letters.specs.declared.vowel.Encoded.{Encoded}
+use Rattle.letters.specs.declared.vowel.Vowel.{Vowel}
+use Rattle.letters.specs.declared.vowel.Sound.the-variants.{AVowel, NoVowel}
+use Rattle.letters.specs.Sounds.{vowelNumbered, soundNumbered, mostVowelBytes, encodedOf}
+use Rattle.letters.proofs.Laws.Sounds.{vowelNumbered-every, vowelNumbered-length, soundNumbered-noVowel, soundNumbered-aVowel, encodedOf-bytes, encodedOf-fits}
+use Rattle.fronts.specs.StandIn.{counted, standIn, standInRoom}
 
 -- ---- the characters of a stand-in are vowels ----
 
@@ -45,21 +50,9 @@ counted-every f (v ∷ vs) (n ∷ ns) h =
     let r : every f (counted vs ns) ≡ true = counted-every f vs ns (and-right (f v) (every f vs) h) in
     cond-both (λ (xs : List ℕ). every f xs ≡ true) (eqb n 0) (counted vs ns) (v ∷ counted vs ns) r (rw (and-left (f v) (every f vs) h) r)
 
--- and so do both parts of them
-every-parts : (f : ℕ → Bool) (k : ℕ) (vs : List ℕ) → every f vs ≡ true → (every f (take k vs) ≡ true) × (every f (drop k vs) ≡ true)
-every-parts f k vs h =
-    let e : every f (take k vs) && every f (drop k vs) ≡ true = rw (← every-append, take-append-drop) h in
-    (and-left (every f (take k vs)) (every f (drop k vs)) e, and-right (every f (take k vs)) (every f (drop k vs)) e)
-
--- so does the vowel of any number
-numbered-every : (f : ℕ → Bool) (n : ℕ) → every f vowels ≡ true → every f (numbered n) ≡ true
-unfolding numbered every
-numbered-every f zero h = refl
-numbered-every f (suc k) h = every-parts f 1 (drop k vowels) (every-parts f k vowels h .1) .0
-
 -- and each character of a stand-in
-letters-every : (f : ℕ → Bool) (ns : List ℕ) (n : ℕ) → every f vowels ≡ true → every f (counted vowels ns ++ numbered n) ≡ true
-letters-every f ns n h = rw (every-append, counted-every f vowels ns h) (numbered-every f n h)
+letters-every : (f : ℕ → Bool) (ns : List ℕ) (n : ℕ) → every f vowels ≡ true → every f (counted vowels ns ++ vowelNumbered n) ≡ true
+letters-every f ns n h = rw (every-append, counted-every f vowels ns h) (vowelNumbered-every f n h)
 
 -- ---- it is a text ----
 
@@ -70,15 +63,15 @@ every-scalars [] h = refl
 every-scalars (c ∷ cs) h = rw (and-left (scalar c) (every scalar cs) h) (every-scalars cs (and-right (scalar c) (every scalar cs) h))
 
 -- so the characters of a stand-in are
-letters-scalars : (s : Summary) → scalars (counted vowels (s .counts) ++ numbered (s .last)) ≡ true
+letters-scalars : (s : Summary) → scalars (counted vowels (s .counts) ++ vowelNumbered (s .last)) ≡ true
 letters-scalars s =
-    every-scalars (counted vowels (s .counts) ++ numbered (s .last))
+    every-scalars (counted vowels (s .counts) ++ vowelNumbered (s .last))
     (letters-every scalar (s .counts) (s .last) (unfold every vowels text scalar surrogate in refl))
 
 -- a stand-in is a text
 pub standIn-text : (s : Summary) → isText (standIn s) ≡ true
 unfolding standIn
-standIn-text s = encodes-isText (counted vowels (s .counts) ++ numbered (s .last)) (letters-scalars s)
+standIn-text s = encodes-isText (counted vowels (s .counts) ++ vowelNumbered (s .last)) (letters-scalars s)
 
 -- ---- it fits ----
 
@@ -109,45 +102,44 @@ counted-length (v ∷ vs) (n ∷ ns) =
     let r = counted-length vs ns in
     cond-both (λ (xs : List ℕ). length xs ≤ length (v ∷ vs)) (eqb n 0) (counted vs ns) (v ∷ counted vs ns) (omega arith) (omega arith)
 
--- a number has one vowel at most
-numbered-length : (n : ℕ) → length (numbered n) ≤ 1
-unfolding numbered
-numbered-length zero = omega arith
-numbered-length (suc k) = omega (arith, length-take 1 (drop k vowels))
-
--- and the bytes of one
-numbered-bytes : (n : ℕ) → length (encodeAll (numbered n)) ≤ mostVowelBytes
+-- a number's vowel has the bytes of one at most
+vowelNumbered-bytes : (n : ℕ) → length (encodeAll (vowelNumbered n)) ≤ mostVowelBytes
 unfolding mostVowelBytes
-numbered-bytes n = omega (arith, numbered-length n, small-length (numbered n) (numbered-every small n vowels-small))
+vowelNumbered-bytes n = omega (arith, vowelNumbered-length n, small-length (vowelNumbered n) (vowelNumbered-every small n vowels-small))
+
+-- the room of a stand-in, as a number
+pub standInRoom-is : standInRoom ≡ 18
+unfolding standInRoom mostVowelBytes
+standInRoom-is = refl
 
 -- a stand-in fits its room
 pub standIn-length : (s : Summary) → length (standIn s) ≤ standInRoom
 unfolding standIn standInRoom mostVowelBytes vowels text
 standIn-length s =
     let l : List ℕ = counted vowels (s .counts) in
-    let n : List ℕ = numbered (s .last) in
+    let n : List ℕ = vowelNumbered (s .last) in
     omega (
       arith,
       small-length (l ++ n) (letters-every small (s .counts) (s .last) vowels-small),
       length-append l n,
       counted-length vowels (s .counts),
-      numbered-length (s .last),
+      vowelNumbered-length (s .last),
     )
 
 -- ---- it is alike ----
 
 -- the characters of a stand-in, nearest first
-standIn-chars : (s : Summary) → chars (standIn s) ≡ reverse (counted vowels (s .counts) ++ numbered (s .last))
+standIn-chars : (s : Summary) → chars (standIn s) ≡ reverse (counted vowels (s .counts) ++ vowelNumbered (s .last))
 unfolding chars standIn
-standIn-chars s = rw append-nil at (before-text (counted vowels (s .counts) ++ numbered (s .last)) [] (letters-scalars s))
+standIn-chars s = rw append-nil at (before-text (counted vowels (s .counts) ++ vowelNumbered (s .last)) [] (letters-scalars s))
 
 -- the vowel of a vowel's number is that vowel
-numbered-vowel : (v : ℕ) → vowel v ≡ true → numbered (vowelNumber v) ≡ v ∷ []
+vowelNumbered-vowel : (v : ℕ) → vowel v ≡ true → vowelNumbered (vowelNumber v) ≡ v ∷ []
 unfolding vowel
-numbered-vowel v h =
-    let f : ℕ → Bool = λ w. same (numbered (vowelNumber w)) (w ∷ []) in
-    let e : every f vowels ≡ true = unfold every vowels vowel text numbered vowelNumber toFirst has any same in refl in
-    same-equal (numbered (vowelNumber v)) (v ∷ []) (every-at f e (has-member vowels v h))
+vowelNumbered-vowel v h =
+    let f : ℕ → Bool = λ w. same (vowelNumbered (vowelNumber w)) (w ∷ []) in
+    let e : every f vowels ≡ true = unfold every vowels vowel text vowelNumbered vowelNumber toFirst has any same in refl in
+    same-equal (vowelNumbered (vowelNumber v)) (v ∷ []) (every-at f e (has-member vowels v h))
 
 -- one vowel more, which is counted where it stands among the characters
 has-one-more : (w v : ℕ) (r cs : List ℕ) (q : Bool) → has r w ≡ (q && has cs w)
@@ -178,7 +170,7 @@ module _ (cs : List ℕ) where
   -- where they have a last vowel, the stand-in ends with it
   chars-last : vowel (lastVowel cs) ≡ true → chars (standIn (summaryOf cs)) ≡ lastVowel cs ∷ reverse earlier
   unfolding summaryOf earlier
-  chars-last h = standIn-chars (summaryOf cs) ∙ rw (numbered-vowel (lastVowel cs) h, reverse-append)
+  chars-last h = standIn-chars (summaryOf cs) ∙ rw (vowelNumbered-vowel (lastVowel cs) h, reverse-append)
 
   -- and before it stand those that stand before it there
   alike-last : vowel (lastVowel cs) ≡ true → Alike (chars (standIn (summaryOf cs))) cs
@@ -192,7 +184,7 @@ module _ (cs : List ℕ) where
 
   -- where they have no vowel, it is empty
   chars-none : (lastVowel cs ≡ 0) × (beforeLastVowel cs ≡ []) → chars (standIn (summaryOf cs)) ≡ []
-  unfolding summaryOf vowelNumber times vowels vowel text has any counted numbered
+  unfolding summaryOf vowelNumber times vowels vowel text has any counted vowelNumbered
   chars-none h = standIn-chars (summaryOf cs) ∙ rw (h .0, h .1)
 
   -- and so alike
@@ -206,13 +198,24 @@ standIn-alike cs = ⊎-elim (alike-last cs) (alike-none cs) (last-or-none cs)
 
 -- ---- it is written vowel by vowel ----
 
--- a number that is past the vowels has none, and neither has 0
-pub numbered-none : (n : ℕ) → (0 < n → 8 < n) → numbered n ≡ []
-unfolding numbered vowels text
-numbered-none zero h = refl
-numbered-none (suc k) h =
-    let l : 8 < suc k = h (omega arith) in
-    rw (drop-of-length-le vowels {i = k} (omega arith))
+module _ (n : ℕ) where
+  -- a number without a vowel writes nothing
+  pub numbered-none : (at : ℕ) (out : List ℕ) → soundNumbered n ≡ NoVowel
+      → (at ≡ at + length (encodeAll (vowelNumbered n))) × (out ≡ put at (encodeAll (vowelNumbered n)) out)
+  unfolding encodeAll
+  numbered-none at out e = rw (soundNumbered-noVowel n e) (omega arith, put-nothing at out)
+
+  module _ (v : Vowel) (e : soundNumbered n ≡ AVowel v) {r : Encoded} (q : r ≡ encodedOf (v .ch)) where
+    -- any other writes its vowel's bytes
+    pub numbered-written : take (r .n) (r .bytes) ≡ encodeAll (vowelNumbered n)
+    unfolding encodeAll
+    numbered-written = rw (soundNumbered-aVowel n v e, append-nil) (encodedOf-bytes (v .ch) q)
+
+    -- which fit where the most of a vowel do
+    pub numbered-fit : r .n ≤ mostVowelBytes
+    numbered-fit =
+        let size = ap length numbered-written in
+        omega (arith, length-take-le (r .n) (r .bytes) (encodedOf-fits (v .ch) q), vowelNumbered-bytes n)
 
 -- the bytes of the counted among the first k vowels
 unfoldable pub soFar : List ℕ → ℕ → List ℕ
@@ -246,8 +249,8 @@ less-room j h w = record { place = w .place; output = w .output; room = omega (a
 
 module _ (ns : List ℕ) (k : ℕ) where
   -- a vowel that is counted is written behind those before it
-  soFar-counted : (getD ns k 0 ≡ 0 → ⊥) → soFar ns k ++ encodeAll (numbered (k + 1)) ≡ soFar ns (k + 1)
-  unfolding soFar numbered
+  soFar-counted : (getD ns k 0 ≡ 0 → ⊥) → soFar ns k ++ encodeAll (vowelNumbered (k + 1)) ≡ soFar ns (k + 1)
+  unfolding soFar vowelNumbered
   soFar-counted h = rw (add-one, counted-next k vowels ns, ne-eqb (getD ns k 0) 0 h, encodeAll-append)
 
   -- one that is not leaves them
@@ -258,13 +261,13 @@ module _ (ns : List ℕ) (k : ℕ) where
   module _ {a : ℕ} {out o : List ℕ} (w : Wrote 0 a (soFar ns k) out o (roomFrom k)) (l : k < 8) where
     -- a turn that writes
     pub turn-counted : {b : ℕ} {p : List ℕ} → (getD ns k 0 ≡ 0 → ⊥)
-        → (b ≡ a + length (encodeAll (numbered (k + 1)))) × (p ≡ put a (encodeAll (numbered (k + 1))) o)
+        → (b ≡ a + length (encodeAll (vowelNumbered (k + 1)))) × (p ≡ put a (encodeAll (vowelNumbered (k + 1))) o)
         → Wrote 0 b (soFar ns (k + 1)) out p (roomFrom (k + 1))
     unfolding roomFrom mostVowelBytes
     turn-counted h e =
-        let n : ℕ = length (encodeAll (numbered (k + 1))) in
-        let r = less-room (n + roomFrom (k + 1)) (omega (arith, numbered-bytes (k + 1))) w in
-        rw (← soFar-counted h) (wrote-text (encodeAll (numbered (k + 1))) n refl r e)
+        let n : ℕ = length (encodeAll (vowelNumbered (k + 1))) in
+        let r = less-room (n + roomFrom (k + 1)) (omega (arith, vowelNumbered-bytes (k + 1))) w in
+        rw (← soFar-counted h) (wrote-text (encodeAll (vowelNumbered (k + 1))) n refl r e)
 
     -- a turn that does not
     pub turn-skipped : getD ns k 0 ≡ 0 → Wrote 0 a (soFar ns (k + 1)) out o (roomFrom (k + 1))
@@ -273,11 +276,11 @@ module _ (ns : List ℕ) (k : ℕ) where
 
 -- and behind all that are counted the last one
 pub written-last : (s : Summary) {a b : ℕ} {out o p : List ℕ} → Wrote 0 a (soFar (s .counts) 8) out o (roomFrom 8)
-    → (b ≡ a + length (encodeAll (numbered (s .last)))) × (p ≡ put a (encodeAll (numbered (s .last))) o)
+    → (b ≡ a + length (encodeAll (vowelNumbered (s .last)))) × (p ≡ put a (encodeAll (vowelNumbered (s .last))) o)
     → (b ≡ length (standIn s)) × (p ≡ put 0 (standIn s) out)
 unfolding standIn soFar roomFrom mostVowelBytes vowels text
 written-last s w e =
-    let t : List ℕ = encodeAll (numbered (s .last)) in
-    let r = less-room (length t + 0) (omega (arith, numbered-bytes (s .last))) w in
-    let all = wrote-all (sym (encodeAll-append (counted vowels (s .counts)) (numbered (s .last)))) (wrote-text t (length t) refl r e) in
+    let t : List ℕ = encodeAll (vowelNumbered (s .last)) in
+    let r = less-room (length t + 0) (omega (arith, vowelNumbered-bytes (s .last))) w in
+    let all = wrote-all (sym (encodeAll-append (counted vowels (s .counts)) (vowelNumbered (s .last)))) (wrote-text t (length t) refl r e) in
     (omega (arith, all .0), all .1)

@@ -1,14 +1,13 @@
--- The summary of a front, as the code builds it: a vowel's number, the raised counts, a character added, and what is known where the loop
+-- The summary of a front, as the code builds it: the raised counts, a character added, and what is known where the loop
 -- over an accepted front's characters has passed some of them. Assumes nothing.
 use Prim.Native.Nat.{ℕ, zero, suc, _+_, _-_, _≤_, _<_}
 use mathlib.Core.Path.{_≡_, refl, sym, ap, _∙_}
-use mathlib.Core.Bool.{Bool, true, false, cond}
+use mathlib.Core.Bool.{true, false}
 use mathlib.Core.List.{List, [], _∷_, _++_, reverse, append-nil, reverse-append}
 use native.Mathlib.Omega.{arith}
 use lib.ListN.{length, getD, set, length-append, length-reverse}
 use lib.Seq.{append-snoc}
 use lib.Dec.{eqb}
-use borrow.Author.Tests.{ne-eqb}
 use Rattle.encoding.specs.Scalar.{scalars}
 use Rattle.encoding.specs.Encoding.{encode, encodeAll}
 use Rattle.encoding.specs.Text.{TextOf}
@@ -19,31 +18,14 @@ use Rattle.utf8.specs.Steps.{moveTo, nextChar}
 use Rattle.utf8.proofs.TextCharacters.{encodeAll-append, before-whole}
 use Rattle.utf8.proofs.Theorems.{step-on-whole}
 use Rattle.turkish.specs.declared.summary.Summary.{Summary}
-use Rattle.turkish.specs.Letters.{text, any, has}
 use Rattle.turkish.specs.Vowels.{vowels, vowel}
 use Rattle.theorems.specs.Simple.Harmony.{toFirst}
 use Rattle.turkish.specs.Calls.{chars, limit, accepted}
 use Rattle.batches.specs.Summary.{vowelNumber, summaryOf, summary, raised, added}
-use Rattle.theorems.proofs.Laws.Harmony.{toFirst-some}
 use Rattle.theorems.proofs.Laws.Accepted.{accepted-iff, accepted-text}
 use Rattle.batches.proofs.Laws.Summary.{summaryOf-cons, summaryOf-counts, summaryOf-last}
 use Rattle.theorems.proofs.Source.Reserved.{length-encodeAll}
 use Rattle.fronts.specs.Counted.{Counted}
-
--- ---- a vowel's number ----
-
--- a code point that is none of the eight vowels has the number 0
-pub vowelNumber-none : (ch : ℕ) → (ch ≡ 0x61 → ⊥) → (ch ≡ 0x65 → ⊥) → (ch ≡ 0x131 → ⊥) → (ch ≡ 0x69 → ⊥)
-    → (ch ≡ 0x6F → ⊥) → (ch ≡ 0xF6 → ⊥) → (ch ≡ 0x75 → ⊥) → (ch ≡ 0xFC → ⊥) → vowelNumber ch ≡ 0
-unfolding vowelNumber vowel vowels text has any
-vowelNumber-none ch a e ı i o ö u ü =
-    rw (ne-eqb ch 0x61 a, ne-eqb ch 0x65 e, ne-eqb ch 0x131 ı, ne-eqb ch 0x69 i)
-    (rw (ne-eqb ch 0x6F o, ne-eqb ch 0xF6 ö, ne-eqb ch 0x75 u, ne-eqb ch 0xFC ü))
-
--- a vowel's number is not 0
-vowelNumber-pos : (ch : ℕ) → vowel ch ≡ true → 0 < vowelNumber ch
-unfolding vowelNumber vowel has
-vowelNumber-pos ch e = rw e (toFirst-some (eqb ch) vowels e)
 
 -- ---- a character added ----
 
@@ -53,25 +35,17 @@ unfolding raised
 raised-at zero counts h = absurd (h refl)
 raised-at (suc k) counts h = let e : suc k - 1 ≡ k = omega arith in rw e
 
--- a character whose number is 0 adds nothing
-pub added-none : (c : ℕ) (s : Summary) → vowelNumber c ≡ 0 → s ≡ added c s
-unfolding added
-added-none c s h = go (vowel c) refl
-  where
-    go : (t : Bool) → vowel c ≡ t → s ≡ cond t (record { last = vowelNumber c; counts = raised (s .last) (s .counts) }) s
-    go true e = absurd (omega (arith, vowelNumber-pos c e))
-    go false e = refl
+module _ (c : ℕ) (s : Summary) where
+  -- a character that is no vowel adds nothing
+  pub added-none : vowel c ≡ false → s ≡ added c s
+  unfolding added
+  added-none h = rw h
 
--- any other one is a vowel, and the last one now
-pub added-vowel : (c : ℕ) (s : Summary) → (vowelNumber c ≡ 0 → ⊥) → record { last = vowelNumber c; counts = raised (s .last) (s .counts) } ≡ added c s
-unfolding added vowelNumber
-added-vowel c s h = go (vowel c) refl h
-  where
-    go : (t : Bool) → vowel c ≡ t → (cond t (toFirst (eqb c) vowels) 0 ≡ 0 → ⊥)
-        → record { last = vowelNumber c; counts = raised (s .last) (s .counts) }
-        ≡ cond t (record { last = vowelNumber c; counts = raised (s .last) (s .counts) }) s
-    go true e h = refl
-    go false e h = absurd (h refl)
+  -- a vowel is the last one now, and that which was is counted
+  pub added-vowel : (n : ℕ) (counts : List ℕ) → vowel c ≡ true → n ≡ toFirst (eqb c) vowels → counts ≡ raised (s .last) (s .counts)
+      → record { last = n; counts = counts } ≡ added c s
+  unfolding added vowelNumber
+  added-vowel n counts h e r = rw (h, e, r)
 
 -- ---- the loop ----
 

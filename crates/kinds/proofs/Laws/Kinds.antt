@@ -1,16 +1,22 @@
--- The kind that a mark's number and a y give: it has that number, and it joined as the mark did. Assumes nothing.
+-- The kind that a mark's number and a y give: it has that number, and it joined as the mark did. A kind's name as it is held: its letters
+-- come first. Assumes nothing.
 use Prim.Native.Nat.{ℕ, _+_, _≤_, _<_}
 use mathlib.Core.Path.{_≡_, refl, sym}
 use mathlib.Core.Bool.{Bool, true, false, cond}
 use native.Mathlib.Omega.{arith}
+use lib.ListN.{length, take, drop, length-append}
+use lib.Seq.{take-append-seam}
 use lib.Dec.{eqb}
 use borrow.Author.Tests.{eqb-true, eqb-false}
 use Rattle.encoding.proofs.Laws.Booleans.{cond-cases}
 use Rattle.turkish.specs.declared.endings.Kind.{Kind}
-use Rattle.turkish.specs.Pieces.{alone, withY, afterVowel}
+use Rattle.turkish.specs.Letters.{text}
+use Rattle.turkish.specs.Pieces.{alone, withY, afterVowel, kindName}
+use Rattle.turkish.specs.Calls.{written}
 use Rattle.turkish.specs.PieceCalls.{joinedOf, kindNumber, kindJoined}
 use Rattle.theorems.proofs.Laws.Joints.{joins}
-use Rattle.kinds.specs.Kinds.{joiningBy, kindAt}
+use Rattle.kinds.specs.declared.kind.Name.{Name}
+use Rattle.kinds.specs.Kinds.{joiningBy, kindAt, nameOf}
 
 -- what is chosen by a number that is k or more, which is k or more than k
 from-here : {A : Type 0} (P : A → Type 0) (n k : ℕ) {x y : A} → k ≤ n → (n ≡ k → P x) → (k + 1 ≤ n → P y) → P (cond (eqb n k) x y)
@@ -57,3 +63,14 @@ kindJoined-kindAt n y l h =
     from-here P n 10 l10 (λ e. rw e q) (λ l11.
     from-here P n 11 l11 (λ e. rw e q) (λ l12.
     let e : n ≡ 12 = omega arith in rw e q)))))))))))
+
+module _ (k : Kind) {r : Name} (e : r ≡ nameOf k) where
+  -- the letters of a kind's name stand before the dots
+  pub nameOf-letters : take (r .n) (r .letters) ≡ kindName (kindNumber k)
+  unfolding nameOf written
+  nameOf-letters = rw e (take-append-seam (kindName (kindNumber k)) (drop (length (kindName (kindNumber k))) (text "......")))
+
+  -- and there are as many as it has
+  pub nameOf-fits : r .n ≤ length (r .letters)
+  unfolding nameOf written
+  nameOf-fits = rw (e, length-append) (omega arith)

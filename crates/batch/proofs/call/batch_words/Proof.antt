@@ -2,6 +2,7 @@
 -- nothing.
 use borrow.Author.Needs.{needs}
 use Rattle.batches.specs.BatchCalls.{batch}
+use Rattle.batch.proofs.Laws.Tails.{survey-count, tails-survey}
 use Rattle.batch.proofs.Laws.Refusals.{call-refused, call-zero, call-answered}
 use Rattle.batch.proofs.call.batch_words.Statement.{statement}
 use Rattle.batch.proofs.call.batch_words.Tie as tie
@@ -10,7 +11,7 @@ find-tails-requires : tie.Need-find-tails-requires
 find-tails-requires c κs = search needs
 
 refusal-of-requires : tie.Need-refusal-of-requires
-refusal-of-requires c κs = search needs
+refusal-of-requires c κs = tails-survey _ (c .before .find-tails .ensures)
 
 returns : tie.Need-returns
 returns c =
@@ -40,7 +41,7 @@ returns-2 c =
     let n = p .before .before .before .before .before in
     let s = n .before .before .before .before .before .before .before .before .args in
     let lent = batch (s .front .now) (s .slice .now) (s .lengths .now) (s .answers .now) (s .flags .now) in (
-      call-answered lent _ (n .refusal-of .ensures) (p .before .before .before .before .if1 .left) _ (n .before .before .find-tails .ensures .sized .count),
+      call-answered lent _ (n .refusal-of .ensures) (p .before .before .before .before .if1 .left) _ (survey-count _ (tails-survey _ (n .before .before .find-tails .ensures))),
       p .put-entries .ensures,
     )
 

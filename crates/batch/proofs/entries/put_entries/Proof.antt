@@ -1,15 +1,16 @@
 -- `batch::entries::put_entries` meets its contract. The loop's invariant: the buffers hold the entries of the tails done, and the stand-in stands before the
 -- next. The measure is how many tails are left. Assumes nothing.
 use Prim.Native.Nat.{_-_, _≤_, _<_}
-use mathlib.Core.Path.{refl, sym}
+use mathlib.Core.Path.{refl}
 use native.Mathlib.Omega.{arith}
 use lib.ListN.{length, getD}
 use borrow.Author.Needs.{needs}
 use Rattle.turkish.specs.Calls.{limit}
 use Rattle.batches.specs.BatchCalls.{batch, mostTails}
 use Rattle.batches.proofs.Laws.Batches.{batch-answered}
-use Rattle.fronts.specs.StandIn.{standInRoom, mostVowelBytes}
-use Rattle.batch.specs.Fate.{wordRoom}
+use Rattle.fronts.proofs.Laws.StandIn.{standInRoom-is}
+use Rattle.batch.specs.Removal.{wordRoom}
+use Rattle.batch.proofs.Laws.Tails.{survey-count, tails-survey}
 use Rattle.batch.proofs.Laws.Entries.{Entered, entered-none, entered-all, below, at-end, end-within, ready, again}
 use Rattle.batch.proofs.entries.put_entries.Statement.{statement}
 use Rattle.batch.proofs.entries.put_entries.Tie as tie
@@ -28,12 +29,11 @@ slice-aggregate-put-stand-in : tie.Need-slice-aggregate-put-stand-in Inv-loop μ
 slice-aggregate-put-stand-in c = refl
 
 put-stand-in-requires : tie.Need-put-stand-in-requires Inv-loop μ-loop
-unfolding standInRoom mostVowelBytes
-put-stand-in-requires c κs = search needs
+put-stand-in-requires c κs = omega (arith, standInRoom-is)
 
 loop-holds : tie.Need-loop-holds Inv-loop μ-loop
-unfolding wordRoom standInRoom mostVowelBytes limit
-loop-holds c = entered-none _ _ _ _ refl (rw (c .before .before .before .summary-of .ensures) at (c .before .put-stand-in .ensures))
+unfolding wordRoom limit
+loop-holds c = entered-none _ _ _ _ (omega (arith, standInRoom-is)) (rw (c .before .before .before .summary-of .ensures) at (c .before .put-stand-in .ensures))
 
 mul-end : tie.Need-mul-end Inv-loop μ-loop
 unfolding mostTails
@@ -49,8 +49,8 @@ element-copy-out-end c =
     below _ _ _ _ _ _ _ _ (c .before .loop .inv) (s .pre .1) _ (s .pre .0) (c .loop-test .taken)
 
 slice-aggregate-put-entry : tie.Need-slice-aggregate-put-entry Inv-loop μ-loop
-unfolding wordRoom standInRoom mostVowelBytes limit
-slice-aggregate-put-entry c = sym (c .before .before .before .loop .inv .room)
+unfolding wordRoom limit
+slice-aggregate-put-entry c = omega (arith, c .before .before .before .loop .inv .room, standInRoom-is)
 
 sub-put-entry : tie.Need-sub-put-entry Inv-loop μ-loop
 sub-put-entry c =
@@ -120,7 +120,7 @@ same-length-3 c = c .before .loop .inv .sizes .2
 returns : tie.Need-returns Inv-loop μ-loop
 returns c =
     let s = c .before .before .before .before .before .before .before .before .before .before .before in
-    entered-all _ _ _ _ _ _ _ _ (c .before .loop .inv) (s .pre .1) (omega (arith, s .pre .0 .sized .count, c .loop-test .left))
+    entered-all _ _ _ _ _ _ _ _ (c .before .loop .inv) (s .pre .1) (omega (arith, survey-count _ (tails-survey _ (s .pre .0)), c .loop-test .left))
 
 pub put-entries-spec : {M : Type 1} → statement M
 put-entries-spec =

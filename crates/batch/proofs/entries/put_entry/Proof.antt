@@ -6,7 +6,7 @@ use lib.ListN.{length, set}
 use borrow.Author.Needs.{needs}
 use Rattle.turkish.specs.Calls.{limit}
 use Rattle.batches.specs.BatchCalls.{bit}
-use Rattle.batch.specs.declared.entries.Fate.{Fate}
+use Rattle.batch.specs.declared.entries.Removal.{Removal}
 use Rattle.batch.proofs.entries.put_entry.Statement.{statement}
 use Rattle.batch.proofs.entries.put_entry.Tie as tie
 
@@ -62,13 +62,13 @@ same-length-4 c = search needs
 returns : tie.Need-returns
 returns c =
     let s = c .before .before .before .before .before .before .before .before .before .before .before .before in
-    let fate = c .before .before .before .before .before .stem-behind .ensures .0 in (
+    let removal = c .before .before .before .before .before .stem-behind .ensures .0 in (
       c .before .before .before .before .before .stem-behind .ensures .1,
       (
-        ap (λ (f : Fate). set (s .args .lengths .now) (s .args .i) (s .args .n + length (s .args .tail .now) - f .removed)) fate,
+        ap (λ (r : Removal). set (s .args .lengths .now) (s .args .i) (s .args .n + length (s .args .tail .now) - r .bytes)) removal,
         (
-          ap (set (s .args .answers .now) (s .args .i)) (c .before .bit .ensures ∙ ap (λ (f : Fate). bit (f .yes)) fate),
-          ap (set (s .args .flags .now) (s .args .i)) (c .bit2 .ensures ∙ ap (λ (f : Fate). bit (f .flag)) fate),
+          ap (set (s .args .answers .now) (s .args .i)) (c .before .bit .ensures ∙ ap (λ (r : Removal). bit (r .yes)) removal),
+          ap (set (s .args .flags .now) (s .args .i)) (c .bit2 .ensures ∙ ap (λ (r : Removal). bit (r .flag)) removal),
         ),
       ),
     )

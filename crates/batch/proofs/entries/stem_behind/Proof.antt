@@ -1,7 +1,7 @@
 -- `batch::entries::stem_behind` meets its contract: the tail is put behind the first bytes of the word, and the stage's word ends with it.
 -- Assumes nothing.
 use borrow.Author.Needs.{needs}
-use Rattle.batch.proofs.Laws.Fates.{behind-end, behind-kept, behind-fate}
+use Rattle.batch.proofs.Laws.Removals.{behind-end, behind-kept, behind-removal}
 use Rattle.batch.proofs.entries.stem_behind.Statement.{statement}
 use Rattle.batch.proofs.entries.stem_behind.Tie as tie
 
@@ -34,7 +34,7 @@ returns : tie.Need-returns
 returns c =
     let p = c .before .before .before .before .before in
     let s = p .before .before .before .before in (
-      behind-fate _ _ (s .args .tail .now) (s .args .word .now) _ (s .pre) (p .put-all .ensures) _ (c .before .stem-nominal-verb-suffixes .ensures),
+      behind-removal _ _ (s .args .tail .now) (s .args .word .now) _ (s .pre) (p .put-all .ensures) _ (c .before .stem-nominal-verb-suffixes .ensures),
       p .put-all .ensures .1,
     )
 

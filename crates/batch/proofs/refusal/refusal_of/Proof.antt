@@ -3,6 +3,7 @@ use mathlib.Core.Path.{sym, _∙_}
 use native.Mathlib.Omega.{arith}
 use borrow.Author.Needs.{needs}
 use Rattle.batches.specs.BatchCalls.{mostTails}
+use Rattle.batch.proofs.Laws.Tails.{survey-count, survey-short}
 use Rattle.batch.proofs.Laws.Refusals.{number-words, number-many, number-short, number-rooms}
 use Rattle.batch.proofs.refusal.refusal_of.Statement.{statement}
 use Rattle.batch.proofs.refusal.refusal_of.Tie as tie
@@ -17,12 +18,12 @@ returns-2 : tie.Need-returns-2
 unfolding mostTails
 returns-2 c =
     let s = c .before .before .before .before .before .before in
-    number-many _ _ _ _ _ _ (c .before .before .before .words-refusal .ensures) (c .before .before .if1 .left) (omega (arith, s .pre .count))
+    number-many _ _ _ _ _ _ (c .before .before .before .words-refusal .ensures) (c .before .before .if1 .left) (omega (arith, survey-count _ (s .pre)))
 
 returns-3 : tie.Need-returns-3
 returns-3 c =
     let s = c .before .before .before .before .before .before .before in
-    number-short _ _ _ _ _ _ (c .before .before .before .before .words-refusal .ensures) (c .before .before .before .if1 .left) (sym (s .pre .short) ∙ c .if3 .taken)
+    number-short _ _ _ _ _ _ (c .before .before .before .before .words-refusal .ensures) (c .before .before .before .if1 .left) (sym (survey-short _ (s .pre)) ∙ c .if3 .taken)
 
 rooms-refusal-requires : tie.Need-rooms-refusal-requires
 rooms-refusal-requires c κs = search needs
@@ -33,8 +34,8 @@ returns-4 c =
     let s = c .before .before .before .before .before .before .before .before in
     let w = c .before .before .before .before .before in
     c .rooms-refusal .ensures
-    ∙ number-rooms _ _ _ _ _ _ (w .words-refusal .ensures) (c .before .before .before .before .if1 .left) (omega (arith, s .pre .count, c .before .before .if2 .left))
-    (sym (s .pre .short) ∙ c .before .if3 .left)
+    ∙ number-rooms _ _ _ _ _ _ (w .words-refusal .ensures) (c .before .before .before .before .if1 .left) (omega (arith, survey-count _ (s .pre), c .before .before .if2 .left))
+    (sym (survey-short _ (s .pre)) ∙ c .before .if3 .left)
 
 pub refusal-of-spec : {M : Type 1} → statement M
 refusal-of-spec =

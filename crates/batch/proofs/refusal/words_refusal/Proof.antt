@@ -3,6 +3,7 @@ use mathlib.Core.Path.{sym, _∙_}
 use native.Mathlib.Omega.{arith}
 use Rattle.turkish.specs.Calls.{limit}
 use Rattle.batch.proofs.Laws.Refusals.{isText-tails, words-front-over, words-joined-over, words-front-no-text, words-tail-no-text, words-texts}
+use Rattle.batch.proofs.Laws.Tails.{survey-longest}
 use borrow.Author.Tests.{not-true, not-false}
 use borrow.Author.Needs.{needs}
 use Rattle.batch.proofs.refusal.words_refusal.Statement.{statement}
@@ -19,7 +20,7 @@ returns-2 : tie.Need-returns-2
 unfolding limit
 returns-2 c =
     let s = c .before .before .before .before .before in
-    words-joined-over _ _ (c .before .before .if1 .left) (omega (arith, s .pre .longest))
+    words-joined-over _ _ (c .before .before .if1 .left) (omega (arith, survey-longest _ (s .pre)))
 
 is-utf8-requires : tie.Need-is-utf8-requires
 is-utf8-requires c κs = search needs
@@ -28,7 +29,7 @@ returns-3 : tie.Need-returns-3
 unfolding limit
 returns-3 c =
     let s = c .before .before .before .before .before .before .before in
-    words-front-no-text _ _ (c .before .before .before .before .if1 .left) (omega (arith, s .pre .longest)) (sym (c .before .is-utf8 .ensures) ∙ not-true _ (c .if3 .taken))
+    words-front-no-text _ _ (c .before .before .before .before .if1 .left) (omega (arith, survey-longest _ (s .pre))) (sym (c .before .is-utf8 .ensures) ∙ not-true _ (c .if3 .taken))
 
 is-utf8-requires-2 : tie.Need-is-utf8-requires-2
 is-utf8-requires-2 c κs = search needs
@@ -37,14 +38,14 @@ returns-4 : tie.Need-returns-4
 unfolding limit
 returns-4 c =
     let s = c .before .before .before .before .before .before .before .before .before in
-    words-tail-no-text _ _ (c .before .before .before .before .before .before .if1 .left) (omega (arith, s .pre .longest))
+    words-tail-no-text _ _ (c .before .before .before .before .before .before .if1 .left) (omega (arith, survey-longest _ (s .pre)))
     (sym (isText-tails _) ∙ sym (c .before .is-utf82 .ensures) ∙ not-true _ (c .if4 .taken))
 
 returns-5 : tie.Need-returns-5
 unfolding limit
 returns-5 c =
     let s = c .before .before .before .before .before .before .before .before .before in
-    words-texts _ _ (c .before .before .before .before .before .before .if1 .left) (omega (arith, s .pre .longest))
+    words-texts _ _ (c .before .before .before .before .before .before .if1 .left) (omega (arith, survey-longest _ (s .pre)))
     (sym (c .before .before .before .is-utf8 .ensures) ∙ not-false _ (c .before .before .if3 .left))
     (sym (isText-tails _) ∙ sym (c .before .is-utf82 .ensures) ∙ not-false _ (c .if4 .left))
 

@@ -1,10 +1,10 @@
 -- `batch::tails::find_tails` meets its contract. The loop's invariant: what is found of the lines before the place and what the rest has are
 -- what all have. The measure is what is left of the slice. Assumes nothing.
-use Prim.Native.Nat.{_-_, _<_, max}
-use mathlib.Core.Path.{_≡_, refl, ap, _∙_}
+use Prim.Native.Nat.{_-_, _≤_, _<_, max}
+use mathlib.Core.Path.{_≡_}
 use mathlib.Core.Logic.{⊎-elim}
 use native.Mathlib.Omega.{arith}
-use lib.ListN.{length, set, length-set}
+use lib.ListN.{length, set}
 use borrow.Author.Needs.{needs}
 use Rattle.batches.specs.BatchCalls.{mostTails}
 use Rattle.batch.proofs.Laws.Tails.{line-ends, line-within, Found, found-none, found-line, found-all}
@@ -19,7 +19,7 @@ abbrev μ-loop : tie.MeasureT-loop
 
 loop-holds : tie.Need-loop-holds Inv-loop μ-loop
 unfolding mostTails
-loop-holds c = found-none _ _ refl
+loop-holds c = found-none _
 
 line-at-requires : tie.Need-line-at-requires Inv-loop μ-loop
 line-at-requires c κs = search needs
@@ -54,13 +54,13 @@ loop-again c =
     let l = c .before .before .before .before .before .loop in
     let line = c .before .before .before .line-at in
     let end = line .result .end in
-    let room : length (c .if2 .ends) ≡ length (l .ends) =
-    ⊎-elim (λ u. ap length (u .1) ∙ length-set (l .ends) (l .count) end) (λ u. ap length (u .1)) (c .if2 .came) in
-    let kept : l .count < mostTails → c .if2 .ends ≡ set (l .ends) (l .count) end =
+    let stored : l .count < mostTails → c .if2 .ends ≡ set (l .ends) (l .count) end =
     ⊎-elim (λ u h. u .1) (λ u h. absurd (omega arith)) (c .if2 .came) in
+    let kept : mostTails ≤ l .count → c .if2 .ends ≡ l .ends =
+    ⊎-elim (λ u h. absurd (omega arith)) (λ u h. u .1) (c .if2 .came) in
     let most : c .before .before .if1 .longest ≡ max (l .longest) (end - l .at) =
     ⊎-elim (λ u. omega arith) (λ u. omega arith) (c .before .before .if1 .came) in
-    found-line _ _ (line .result) (l .inv) (c .before .before .before .before .loop-test .taken) (line .ensures) room kept most
+    found-line _ _ (line .result) (l .inv) (c .before .before .before .before .loop-test .taken) (line .ensures) stored kept most
 
 returns : tie.Need-returns Inv-loop μ-loop
 returns c = found-all (c .before .loop .inv) (c .loop-test .left)

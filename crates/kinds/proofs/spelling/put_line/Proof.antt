@@ -11,6 +11,7 @@ use Rattle.turkish.specs.PieceCalls.{told, pieceLine}
 use Rattle.writing.proofs.Laws.Put.{wrote-nothing, wrote-byte, wrote-bytes, wrote-all}
 use Rattle.writing.proofs.put.put_byte.Reads as put-byte-reads
 use Rattle.writing.proofs.put.put_bytes.Reads as put-bytes-reads
+use Rattle.kinds.proofs.Laws.Kinds.{nameOf-letters, nameOf-fits}
 use Rattle.kinds.proofs.Laws.Spelling.{letters-fit, pieceLine-parts, length-pieceLine}
 use Rattle.kinds.proofs.kind.name_of.Reads as name-of-reads
 use Rattle.kinds.proofs.spelling.put_line.Statement.{statement}
@@ -28,16 +29,14 @@ Named =
 
 -- the name has the letters that are asked of it
 enough : (named : Named) → named .name-of .result .n ≤ length (named .name-of .result .letters)
-enough named =
-    let six : length (named .name-of .result .letters) ≡ 6 = search needs in
-    omega arith
+enough named = nameOf-fits _ (named .name-of .ensures)
 
 -- and the line is as long as its parts
 line-size : (named : Named) → length (pieceLine (now (named .before .before .before .args .w)) (told (named .before .before .before .args .p)))
     ≡ named .name-of .result .n + (1 + (named .before .before .before .args .p .last + 1 - named .before .before .before .args .p .first + 1))
 line-size named =
     let s = named .before .before .before in
-    length-pieceLine _ _ (s .pre .0) (s .pre .1 .0) _ _ (enough named) (named .name-of .ensures .0)
+    length-pieceLine _ _ (s .pre .0) (s .pre .1 .0) _ _ (enough named) (nameOf-letters _ (named .name-of .ensures))
 
 put-bytes-requires : tie.Need-put-bytes-requires
 put-bytes-requires c κs =
@@ -82,7 +81,7 @@ returns c =
     let first = tabbed .before .before .before .before in
     let named = first .before .before .before .before in
     let s = named .before .before .before in
-    wrote-all (pieceLine-parts _ _ (s .pre .0) (s .pre .1 .0) _ _ (enough named) (named .name-of .ensures .0))
+    wrote-all (pieceLine-parts _ _ (s .pre .0) (s .pre .1 .0) _ _ (enough named) (nameOf-letters _ (named .name-of .ensures)))
     (wrote-byte _
     (wrote-bytes _ _ (letters-fit (now (s .args .w)) (s .args .p) (s .pre .0) (s .pre .1 .0))
     (wrote-byte _

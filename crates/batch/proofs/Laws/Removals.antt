@@ -1,4 +1,4 @@
--- What the stage does to a tail behind a stand-in: the word that it runs on, and that it does as much behind the front. Assumes nothing.
+-- What the stage removes of a tail behind a stand-in: the word that it runs on, and that it removes as much behind the front. Assumes nothing.
 use Prim.Native.Nat.{ℕ, _+_, _-_, _≤_}
 use mathlib.Core.Path.{_≡_, sym, ap, _∙_}
 use mathlib.Core.Bool.{true}
@@ -25,8 +25,8 @@ use Rattle.stages.specs.Outcome.{outcomeOf}
 use Rattle.words.proofs.Laws.WordCalls.{kept-le}
 use Rattle.writing.specs.Put.{put}
 use Rattle.writing.proofs.Laws.Put.{put-end}
-use Rattle.batch.specs.declared.entries.Fate.{Fate}
-use Rattle.batch.specs.Fate.{fateOf}
+use Rattle.batch.specs.declared.entries.Removal.{Removal}
+use Rattle.batch.specs.Removal.{removalOf}
 
 -- ---- a tail put behind some bytes ----
 
@@ -52,9 +52,9 @@ module _ (m end : ℕ) (t word after : List ℕ) (room : m + length t ≤ length
     behind-kept = omega (arith, kept-le (take end after) o e, behind-end)
 
     -- and the stage does to it what the definition says
-    pub behind-fate : _≡_ {A = Fate} (record { removed = end - o .kept; yes = o .yes; flag = o .flag }) (fateOf (take m word ++ t))
-    unfolding fateOf
-    behind-fate = rw (← behind-word, ← behind-end, e)
+    pub behind-removal : _≡_ {A = Removal} (record { bytes = end - o .kept; yes = o .yes; flag = o .flag }) (removalOf (take m word ++ t))
+    unfolding removalOf
+    behind-removal = rw (← behind-word, ← behind-end, e)
 
 -- what stands before the tail stays
 pub take-before : (m : ℕ) (t word : List ℕ) → m ≤ length word → take m (put m t word) ≡ take m word
@@ -106,22 +106,22 @@ module _ (f t : List ℕ) (front : accepted f ≡ true) (tail : accepted t ≡ t
       (omega (arith, keptLength-joined g-text t-text enough), omega (arith, back-le (g ++ t) (length (g ++ t)) (stage (chars (g ++ t)) .removed)))
 
   -- no more bytes go than the tail has
-  pub removed-le : fateOf (standIn (summary f) ++ t) .removed ≤ length t
-  unfolding fateOf outcomeOf behind g
+  pub removed-le : removalOf (standIn (summary f) ++ t) .bytes ≤ length t
+  unfolding removalOf outcomeOf behind g
   removed-le = let all = length-append g t in omega (arith, kept-behind .0)
 
   -- and the front with the rest is what the stage keeps of the joined word
-  pub length-kept : length f + length t - fateOf (standIn (summary f) ++ t) .removed ≡ stageCall (f ++ t) .length
-  unfolding fateOf outcomeOf stageCall behind g
+  pub length-kept : length f + length t - removalOf (standIn (summary f) ++ t) .bytes ≡ stageCall (f ++ t) .length
+  unfolding removalOf outcomeOf stageCall behind g
   length-kept =
       rw joined
       (let all = length-append g t in
       omega (arith, kept-behind .0, kept-behind .1, kept-joined g-text f-text t-text alike enough, stageText-length (f ++ t) joined))
 
-  pub yes-kept : fateOf (standIn (summary f) ++ t) .yes ≡ stageCall (f ++ t) .yes
-  unfolding fateOf outcomeOf stageCall behind g
+  pub yes-kept : removalOf (standIn (summary f) ++ t) .yes ≡ stageCall (f ++ t) .yes
+  unfolding removalOf outcomeOf stageCall behind g
   yes-kept = rw joined (ap (λ (s : Staged). s .yes) same-stage ∙ sym (suffixStage-yes (chars (f ++ t))))
 
-  pub flag-kept : fateOf (standIn (summary f) ++ t) .flag ≡ stageCall (f ++ t) .flag
-  unfolding fateOf outcomeOf stageCall behind g
+  pub flag-kept : removalOf (standIn (summary f) ++ t) .flag ≡ stageCall (f ++ t) .flag
+  unfolding removalOf outcomeOf stageCall behind g
   flag-kept = rw joined (ap (λ (s : Staged). s .flag) same-stage ∙ sym (suffixStage-flag (chars (f ++ t))))

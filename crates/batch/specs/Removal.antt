@@ -1,16 +1,16 @@
--- What the stage does to a word of bytes, as the batch's code takes it. Assumes nothing.
+-- What the stage removes of a word of bytes, as the batch's code takes it. Assumes nothing.
 use Prim.Native.Nat.{ℕ, _+_, _-_}
 use mathlib.Core.List.{List}
 use lib.ListN.{length}
 use Rattle.turkish.specs.Calls.{limit}
 use Rattle.stages.specs.Outcome.{outcomeOf}
 use Rattle.fronts.specs.StandIn.{standInRoom}
-use Rattle.batch.specs.declared.entries.Fate.{Fate}
+use Rattle.batch.specs.declared.entries.Removal.{Removal}
 
-unfoldable pub fateOf : List ℕ → Fate
-fateOf w =
+unfoldable pub removalOf : List ℕ → Removal
+removalOf w =
     let o = outcomeOf w in
-    record { removed = length w - o .kept; yes = o .yes; flag = o .flag }
+    record { bytes = length w - o .kept; yes = o .yes; flag = o .flag }
 
 -- the bytes of a stand-in and a tail
 unfoldable pub wordRoom : ℕ
