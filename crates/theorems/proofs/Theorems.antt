@@ -107,9 +107,9 @@ refused-gives-nothing = refused-only
 pub answered-gives-0 : (c : Call) → refusalOf c ≡ 0 → reply c .number ≡ 0
 answered-gives-0 = answered-0
 
--- whole answers of each call, answered and refused, computed from turkish.sbl's own commands; those of the fold are in `words-folded`, and of the
--- calls on pieces in `words-with-pieces`
-pub words-answered-and-refused : CallWords.AnsweredMet × CallWords.RefusedMet
+-- whole answers of each call, answered and refused, and the outputs after it, computed from turkish.sbl's own commands; those of the fold are in
+-- `words-folded`, and of the calls on pieces in `words-with-pieces`
+pub words-answered-and-refused : CallWords.AnsweredMet × CallWords.RefusedMet × CallWords.OutputsMet
 words-answered-and-refused = CallWords.calls-met
 
 -- a call refused under any number leaves its output as it was

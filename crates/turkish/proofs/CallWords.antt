@@ -1,5 +1,5 @@
--- Whole answers of each call, answered and refused (document 01, "Whose fault a refusal is"), computed from turkish.sbl's own commands. Those of
--- the fold stand in `FoldWords`, and of the calls on pieces in `PieceWords`. Assumes nothing.
+-- Whole answers of each call, answered and refused (document 01, "Whose fault a refusal is"), and the outputs after it, computed from turkish.sbl's
+-- own commands. Those of the fold stand in `FoldWords`, and of the calls on pieces in `PieceWords`. Assumes nothing.
 use Prim.Native.Nat.{ℕ}
 use mathlib.Core.Path.{_≡_, refl}
 use mathlib.Core.Bool.{true, false}
@@ -25,7 +25,8 @@ use Rattle.turkish.specs.Pieces.{kindNames, numberFrom, kindOf, blank, r
 use Rattle.turkish.specs.Pieces.{reading, keptMarks, firstHeard, stageHeard}
 use Rattle.turkish.specs.WordPass.{passStage, pass}
 use Rattle.turkish.specs.Calls.{chars, bytes, offset, limit, refusal, refusalShort, accepted, syllableCall, stageText, stagePart, lastOffset, partnerOffset, stageCall}
-use Rattle.turkish.specs.Calls.{postludeText, postludeRefusal, postludeCall, passText, passRefusal, passCall, nounText, nounRefusal, nounCall, wholeText, wholeRefusal, wholeCall}
+use Rattle.turkish.specs.Calls.{written, postludeText, postludeRefusal, postludeCall, postludeOut, passText, passRefusal, passCall, passOut}
+use Rattle.turkish.specs.Calls.{nounText, nounRefusal, nounCall, nounOut, wholeText, wholeRefusal, wholeCall, wholeOut}
 use Rattle.turkish.proofs.Starred.{word}
 
 -- a byte that is not UTF-8
@@ -54,9 +55,17 @@ RefusedMet =
     × (nounCall (word "evler") 4 ≡ record { refusal = 3; length = 0; yes = false })
     × (wholeCall (word "evler") 6 ≡ record { refusal = 3; length = 0 })
 
--- every call has its answer
-pub calls-met : AnsweredMet × RefusedMet
-unfolding invalid word
+-- outputs after such calls, all stars before them: the text and the stars past it, or all the stars
+abbrev pub OutputsMet : Type 0
+OutputsMet =
+    (postludeOut (word "kanad") (word "********") ≡ word "kanadı*") × (postludeOut (word "kanad") (word "******") ≡ word "******")
+    × (passOut (word "kanaddır") (word "***********") ≡ word "kanadı****") × (passOut (word "kanaddır") (word "**********") ≡ word "**********")
+    × (nounOut (word "evler") (word "*****") ≡ word "ev***") × (nounOut (word "evler") (word "****") ≡ word "****")
+    × (wholeOut (word "evler") (word "*******") ≡ word "ev*****") × (wholeOut (word "evler") (word "******") ≡ word "******")
+
+-- every call has its answer and its output
+pub calls-met : AnsweredMet × RefusedMet × OutputsMet
+unfolding invalid word postludeOut passOut nounOut wholeOut written
     syllableCall stageCall stagePart stageText postludeCall postludeText postludeRefusal passCall passText passRefusal nounCall nounText nounRefusal wholeCall wholeText wholeRefusal
     lastOffset partnerOffset offset refusalShort accepted refusal limit chars bytes stageHeard firstHeard isHeard orHeard loanIn
     encodeAll encode decode isText accepts next lead leadIn table37 due refused before beforeWithin lastChar charAt lastWidth width goesOn continuation
@@ -69,4 +78,4 @@ unfolding invalid word
     stem-suffix-chain-before-ki stem-noun-suffixes mark-yUm mark-sUn mark-yUz mark-sUnUz mark-lAr mark-nUz mark-DUr mark-cAsInA mark-yDU mark-ysA mark-ymUs- mark-yken
     stem-nominal-verb-suffixes post-process-last-consonants append-U-to-stems-ending-with-d-or-g more-than-one-syllable-word is-reserved-word postlude stem
     vowel vowels starts has any fromEnd text
-calls-met = ((refl, refl, refl, refl, refl, refl, refl), (refl, refl, refl, refl, refl, refl, refl))
+calls-met = ((refl, refl, refl, refl, refl, refl, refl), (refl, refl, refl, refl, refl, refl, refl), (refl, refl, refl, refl, refl, refl, refl, refl))
