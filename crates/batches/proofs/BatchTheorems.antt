@@ -1,4 +1,4 @@
--- The buffers after a batch: each entry of a tail, those past the last, and a refused batch. Assumes nothing.
+-- The buffers after a batch: each entry of a tail, those past the last, and a refused batch; and its answer, refused or not. Assumes nothing.
 use Prim.Native.Nat.{ℕ, zero, suc, _<_}
 use mathlib.Core.Path.{_≡_, refl, ap, _∙_}
 use mathlib.Core.Bool.{false}
@@ -9,9 +9,12 @@ use native.Mathlib.Omega.{arith}
 use lib.ListN.{length, drop, getD, List·getD-append, length-map}
 use lib.Seq.{drop-append-seam}
 use lib.Dec.{eqb}
-use borrow.Author.Tests.{eq-eqb}
+use borrow.Author.Tests.{eq-eqb, ne-eqb}
 use Rattle.turkish.specs.Calls.{written}
-use Rattle.batches.specs.BatchCalls.{Batch, tailsIn, joinedWords, batchRefusal, batchCall, entriesAfter}
+use Rattle.theorems.specs.Replies.{GivesOnly}
+use Rattle.theorems.proofs.Laws.Tests.{every}
+use Rattle.theorems.proofs.Replies.{gives-only}
+use Rattle.batches.specs.BatchCalls.{Batch, tailsIn, joinedWords, batchRefusal, batchCall, batchReply, entriesAfter}
 
 -- what a function makes of a list, at a place
 getD-mapped : (f : List ℕ → ℕ) (ws : List (List ℕ)) (i : ℕ) → i < length ws → getD (map f ws) i 0 ≡ f (getD ws i [])
@@ -65,3 +68,13 @@ module _ (entry : List ℕ → ℕ) (b : Batch) (before : List ℕ) where
   pub entries-refused : eqb (batchRefusal b) 0 ≡ false → entriesAfter entry b before ≡ before
   unfolding entriesAfter
   entries-refused e = rw e
+
+-- its answer gives its number and nothing else
+pub refused-only : (b : Batch) → (batchRefusal b ≡ 0 → ⊥) → GivesOnly (batchRefusal b) (batchReply b)
+unfolding batchReply batchCall every
+refused-only b h = rw (ne-eqb (batchRefusal b) 0 h) (gives-only _ refl refl refl)
+
+-- that of one that is answered number 0
+pub answered-0 : (b : Batch) → batchRefusal b ≡ 0 → batchReply b .number ≡ 0
+unfolding batchReply batchCall
+answered-0 b z = rw (eq-eqb (batchRefusal b) 0 z)

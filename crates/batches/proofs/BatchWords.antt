@@ -9,6 +9,7 @@ use lib.ListN.{length, take, replicate}
 use Rattle.encoding.specs.Encoding.{encode, encodeAll, decode, continuation}
 use Rattle.encoding.specs.Validity.{lead, leadIn, table37, due, refused, next, accepts, isText}
 use Rattle.utf8.specs.Characters.{width, goesOn, lastWidth, charAt, lastChar, beforeWithin, before}
+use Rattle.turkish.specs.declared.answer.BatchAnswer.{BatchAnswer}
 use Rattle.turkish.specs.Letters.{text, fromEnd, lf, any, has, starts}
 use Rattle.turkish.specs.Lines.{unclosed, linesFrom}
 use Rattle.turkish.specs.Vowels.{vowels, vowel, lastVowel, beforeLastVowel}
@@ -27,11 +28,11 @@ use Rattle.turkish.proofs.Starred.{word}
 
 -- ---- answers ----
 
--- a front, its slice of tails, and the first entries of the three buffers after the call, which held 7 in each before it
+-- a front, its slice of tails, the answer, and the first entries of the three buffers after the call, which held 7 in each before it
 pub record Row : Type 0 where
   pub front : String
   pub tails : String
-  pub count : ℕ
+  pub answer : BatchAnswer
   pub lengths : List ℕ
   pub answers : List ℕ
   pub flags : List ℕ
@@ -43,15 +44,15 @@ table =
     record {
       front = "mikrodenetleyici";
       tails = "programlayıcısın\nprogramlayıcılar\nprogramlayıcıymışsınız";
-      count = 3;
+      answer = record { refusal = 0; count = 3 };
       lengths = 31 ∷ 31 ∷ 31 ∷ 7 ∷ [];
       answers = 1 ∷ 1 ∷ 1 ∷ 7 ∷ [];
       flags = 1 ∷ 0 ∷ 1 ∷ 7 ∷ [];
     }
-    ∷ record { front = "ebcd"; tails = "bcdfghklmnprsler\n"; count = 1; lengths = 17 ∷ 7 ∷ []; answers = 1 ∷ 7 ∷ []; flags = 0 ∷ 7 ∷ [] }
-    ∷ record { front = "abcd"; tails = "bcdfghklmnprsler\n"; count = 1; lengths = 20 ∷ 7 ∷ []; answers = 0 ∷ 7 ∷ []; flags = 1 ∷ 7 ∷ [] }
-    ∷ record { front = "bcd"; tails = "bcdfghklmnprsler"; count = 1; lengths = 19 ∷ 7 ∷ []; answers = 0 ∷ 7 ∷ []; flags = 1 ∷ 7 ∷ [] }
-    ∷ record { front = "ev"; tails = ""; count = 0; lengths = 7 ∷ []; answers = 7 ∷ []; flags = 7 ∷ [] }
+    ∷ record { front = "ebcd"; tails = "bcdfghklmnprsler\n"; answer = record { refusal = 0; count = 1 }; lengths = 17 ∷ 7 ∷ []; answers = 1 ∷ 7 ∷ []; flags = 0 ∷ 7 ∷ [] }
+    ∷ record { front = "abcd"; tails = "bcdfghklmnprsler\n"; answer = record { refusal = 0; count = 1 }; lengths = 20 ∷ 7 ∷ []; answers = 0 ∷ 7 ∷ []; flags = 1 ∷ 7 ∷ [] }
+    ∷ record { front = "bcd"; tails = "bcdfghklmnprsler"; answer = record { refusal = 0; count = 1 }; lengths = 19 ∷ 7 ∷ []; answers = 0 ∷ 7 ∷ []; flags = 1 ∷ 7 ∷ [] }
+    ∷ record { front = "ev"; tails = ""; answer = record { refusal = 0; count = 0 }; lengths = 7 ∷ []; answers = 7 ∷ []; flags = 7 ∷ [] }
     ∷ []
 
 -- a call on these words, with buffers of so many entries
@@ -64,7 +65,7 @@ found r =
     record {
       front = r .front;
       tails = r .tails;
-      count = batchCall b .count;
+      answer = batchCall b;
       lengths = take (length (r .lengths)) (lengthsAfter b);
       answers = take (length (r .answers)) (answersAfter b);
       flags = take (length (r .flags)) (flagsAfter b);
@@ -131,11 +132,15 @@ RefusalsMet =
     ∷ []
     ≡ 0 ∷ 1 ∷ 1 ∷ 1 ∷ 2 ∷ 2 ∷ 2 ∷ 6 ∷ 6 ∷ 0 ∷ 6 ∷ 0 ∷ 6 ∷ 3 ∷ 3 ∷ 3 ∷ 1 ∷ 2 ∷ 6 ∷ []
 
-pub refusals-met : RefusalsMet
-unfolding number lent sixteen fifteen repeated word batchRefusal numberOf firstRefusal roomsRefusal tailsRefusal wordsRefusal
+-- a room of 63 again, with the whole answer
+abbrev pub RefusedMet : Type 0
+RefusedMet = batchCall (lent (word "a") sixteen 63 64 64) ≡ record { refusal = 3; count = 0 }
+
+pub refusals-met : RefusalsMet × RefusedMet
+unfolding batchCall number lent sixteen fifteen repeated word batchRefusal numberOf firstRefusal roomsRefusal tailsRefusal wordsRefusal
     refusedUnder some joinedWords tailsIn mostTails linesFrom unclosed lf long endLength refusal limit chars
     encodeAll encode decode isText accepts next lead leadIn table37 due refused before beforeWithin lastChar charAt lastWidth width goesOn continuation text
-refusals-met = refl
+refusals-met = (refl, refl)
 
 -- ---- summaries ----
 

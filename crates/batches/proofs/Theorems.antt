@@ -11,25 +11,31 @@ use Rattle.encoding.specs.Encoding.{encode}
 use Rattle.turkish.specs.Answers.{suffixStage}
 use Rattle.turkish.specs.Calls.{chars, accepted, stageCall}
 use Rattle.theorems.specs.Fronts.{long}
+use Rattle.theorems.specs.Replies.{GivesOnly}
 use Rattle.batches.specs.Summary.{summary, added, removedFrom}
-use Rattle.batches.specs.BatchCalls.{Batch, tailsIn, batchRefusal, batchCall, bit, lengthsAfter, answersAfter, flagsAfter, Answered}
+use Rattle.batches.specs.BatchCalls.{Batch, tailsIn, batchRefusal, batchCall, batchReply, bit, lengthsAfter, answersAfter, flagsAfter, Answered}
 use Rattle.batches.proofs.Laws.Batches.{batch-answered, answered-batch}
 use Rattle.batches.proofs.Joined.{summary-grows, summary-settles}
-use Rattle.batches.proofs.BatchTheorems.{entry-at, entries-stay, entries-refused}
+use Rattle.batches.proofs.BatchTheorems.{entry-at, entries-stay, entries-refused, refused-only, answered-0}
 use Rattle.batches.proofs.BatchWords as BatchWords
 
 -- ---- many tails behind one front (document 02, request 7) ----
 
--- fronts with tails and what the call gives, computed from turkish.sbl's own commands; refusals of every number and in their order; and summaries
-pub words-batched : BatchWords.Met BatchWords.table × BatchWords.RefusalsMet × BatchWords.SummariesMet
-words-batched = (BatchWords.answers-met, BatchWords.refusals-met, BatchWords.summaries-met)
+-- fronts with tails and what the call gives, computed from turkish.sbl's own commands; refusals of every number and in their order, and the whole
+-- answer of a refused call; and summaries
+pub words-batched : BatchWords.Met BatchWords.table × BatchWords.RefusalsMet × BatchWords.RefusedMet × BatchWords.SummariesMet
+words-batched = (BatchWords.answers-met, BatchWords.refusals-met .0, BatchWords.refusals-met .1, BatchWords.summaries-met)
 
 -- a batch is answered exactly when the front is accepted, each tail is, has 16 characters or more and makes an accepted word with the front, there
 -- are no more than 64 tails, and each buffer has 64 entries or more
 pub batch-answered-exactly : (b : Batch) → (batchRefusal b ≡ 0) ↔ Answered b
 batch-answered-exactly b = (batch-answered b, answered-batch b)
 
--- then each entry is the stage's own answer on the joined word
+-- then it gives number 0
+pub answered-batch-gives-0 : (b : Batch) → batchRefusal b ≡ 0 → batchReply b .number ≡ 0
+answered-batch-gives-0 = answered-0
+
+-- and each entry is the stage's own answer on the joined word
 pub batch-is-the-stage : (b : Batch) → batchRefusal b ≡ 0 → (i : ℕ) → i < length (tailsIn (b .tails)) → let w = b .front ++ getD (tailsIn (b .tails)) i [] in
     (getD (lengthsAfter b) i 0 ≡ stageCall w .length)
     × (getD (answersAfter b) i 0 ≡ bit (stageCall w .yes))
@@ -51,6 +57,11 @@ pub refused-batch-stays : (b : Batch) → eqb (batchRefusal b) 0 ≡ false
 unfolding lengthsAfter answersAfter flagsAfter
 refused-batch-stays b e =
     (entries-refused (λ w. stageCall w .length) b (b .lengths) e, entries-refused (λ w. bit (stageCall w .yes)) b (b .answers) e, entries-refused (λ w. bit (stageCall w .flag)) b (b .flags) e)
+
+-- a refused batch gives its number and the count 0 (document 01, "Whose fault a refusal is"), as `refused-gives-nothing` of `theorems` says of the
+-- other calls
+pub refused-batch-gives-nothing : (b : Batch) → (batchRefusal b ≡ 0 → ⊥) → GivesOnly (batchRefusal b) (batchReply b)
+refused-batch-gives-nothing = refused-only
 
 -- a character added at an accepted front's end, the longer front being accepted too, changes the summary to the one built afresh
 pub summary-built-afresh : (f : List ℕ) (c : ℕ) → accepted f ≡ true → accepted (f ++ encode c) ≡ true → summary (f ++ encode c) ≡ added c (summary f)

@@ -9,6 +9,7 @@ use Rattle.turkish.specs.declared.answer.BatchAnswer.{BatchAnswer}
 use Rattle.turkish.specs.Lines.{linesFrom}
 use Rattle.turkish.specs.Calls.{refusal, accepted, written, stageCall}
 use Rattle.theorems.specs.Fronts.{long}
+use Rattle.theorems.specs.Replies.{Reply}
 
 -- what a call is lent: the front, the slice of tails, and the three buffers as they are before it
 pub record Batch : Type 0 where
@@ -98,6 +99,10 @@ unfoldable pub flagsAfter : Batch → List ℕ
 flagsAfter b = entriesAfter (λ (w : List ℕ). bit (stageCall w .flag)) b (b .flags)
 
 -- ---- for the theorems ----
+
+-- its answer laid out: the number, and how many tails were answered
+unfoldable pub batchReply : Batch → Reply
+batchReply b = let a = batchCall b in record { number = a .refusal; numbers = a .count ∷ []; answers = []; part = [] }
 
 -- a batch that is answered: the front is accepted; each tail is, has 16 characters or more, and makes an accepted word with the front; there are
 -- no more than 64 tails, and each buffer has as many entries

@@ -10,6 +10,7 @@ pub mod Shapes
 pub mod PieceLines
 pub mod ReadBack
 pub mod PieceTexts
+pub mod Replies
 pub mod Sizes
 pub mod Texts
 pub mod Folds

@@ -18,9 +18,9 @@ use Rattle.theorems.specs.Simple.Marks.{unjoined, byY, marked, yUm, sUn,
 use Rattle.theorems.specs.Simple.Stage.{person, branch1, branch2, branch3, branch4, branch5, branch6, branches, staged, stage, kept}
 use Rattle.theorems.specs.Simple.Postlude.{reserved, gained, appends, appendU, hard, harden, postlude}
 use Rattle.turkish.specs.WordPass.{pass}
-use Rattle.theorems.specs.Fronts.{endLength, mostRemoved, Alike, reachesReserved, SameAnswers}
+use Rattle.theorems.specs.Fronts.{endLength, Alike, reachesReserved, SameAnswers}
 use Rattle.theorems.proofs.Laws.Outcome.{Post, unfit, fits}
-use Rattle.theorems.proofs.Laws.Bounds.{longest, most, among-most, run-most, stage-most}
+use Rattle.theorems.proofs.Laws.Bounds.{longest, most, among-most, run-most, stage-taken}
 use Rattle.theorems.proofs.Source.Calls.{simplePass, pass-simple, reachesReserved-simple}
 use Rattle.theorems.proofs.Laws.Harmony.{harmony-any}
 use Rattle.theorems.proofs.Laws.Vowels.{any-vowels, partner-vowel, has-last-beforeLastVowel}
@@ -118,10 +118,10 @@ run-near unset e f g a h = refl
 
 -- ---- the stage ----
 
--- the stage's command may look at 16 characters
-need-branches : need branches ≡ endLength
+-- the stage's command may look at no more than 16 characters, and takes fewer than it may look at
+need-branches : (need branches ≤ endLength) × (most branches < need branches)
 unfolding endLength need most longest branches branch1 branch2 branch3 branch4 branch5 branch6 person try unjoined byY marked yUm sUn yUz sUnUz lAr nUz DUr cAsInA yDU ysA ymUs yken fromEnd text
-need-branches = refl
+need-branches = (omega arith, omega arith)
 
 -- the stage answers alike on words with a shared end of 16 characters
 pub stage-near : (e f g : List ℕ) → Alike f g → endLength ≤ length e → stage (e ++ f) ≡ stage (e ++ g)
@@ -130,10 +130,10 @@ stage-near e f g a h = ap staged (run-near branches e f g a (omega (arith, need-
 
 -- of words with a shared end of 16 characters the stage keeps some of it
 kept-near : (e f g : List ℕ) → Alike f g → endLength ≤ length e → (x : List ℕ) × (0 < length x) × (kept (e ++ f) ≡ x ++ f) × (kept (e ++ g) ≡ x ++ g)
-unfolding kept endLength mostRemoved
+unfolding kept
 kept-near e f g a h =
     let k : ℕ = stage (e ++ g) .removed in
-    let l : k ≤ mostRemoved = stage-most (e ++ g) in
+    let l : k < length e = omega (arith, stage-taken (e ++ g), need-branches) in
     (drop k e, omega (arith, length-drop k e), rw (stage-near e f g a h) (drop-append-le k e f (omega arith)), drop-append-le k e g (omega arith))
 
 -- ---- the pass ----

@@ -35,6 +35,7 @@ use Rattle.turkish.specs.Fold.{capitals01, foldBy}
 use Rattle.turkish.specs.Calls.{chars, bytes, limit, refusal, accepted, stageText, stagePart, stageCall, postludeText, postludeRefusal, postludeOut}
 use Rattle.turkish.specs.Calls.{foldText, foldRefusal, foldCall, foldOut, passText, passRefusal, passOut}
 use Rattle.turkish.specs.Calls.{nounText, nounRefusal, nounOut, wholeText, wholeRefusal, wholeOut}
+use Rattle.theorems.specs.Replies.{Call, refusalOf, reply, GivesOnly}
 use Rattle.theorems.specs.NounParts.{NounPart}
 use Rattle.turkish.specs.PieceCalls.{Span, spansOf, given, mostPieces, piecesRoom, buffer, bufferOf, piecesRefusal, PiecesOut, textRoom, pieceLine, textOf}
 use Rattle.turkish.specs.PieceCalls.{piecesTextRefusal, piecesTextCall, PiecesTextOut}
@@ -65,6 +66,7 @@ use Rattle.theorems.proofs.Laws.FirstLetters.{tellJoined}
 use Rattle.theorems.proofs.Laws.PieceForms.{bufferOf-perm, textOf-perm, none-written}
 use Rattle.theorems.proofs.Laws.Accepted.{accepted-iff}
 use Rattle.turkish.proofs.Limit.{limit-96}
+use Rattle.theorems.proofs.Replies.{refused-only, answered-0}
 use Rattle.theorems.proofs.Fronts.{pair-fares-alike}
 use Rattle.theorems.proofs.Nothing.{left-empty}
 use Rattle.theorems.proofs.Laws.Syllables.{moreThanOneSyllable-no}
@@ -82,10 +84,11 @@ use Rattle.theorems.proofs.PieceTexts.{textOf-text}
 use Rattle.turkish.proofs.PieceWords as PieceWords
 use Rattle.theorems.proofs.HeardTheorems.{harmony-finds, not-harmonic, none-tests, key-vowel}
 use Rattle.turkish.proofs.HeardWords as HeardWords
+use Rattle.turkish.proofs.CallWords as CallWords
 use Rattle.turkish.proofs.Starred as Starred
 use Rattle.turkish.proofs.NounWords as NounWords
 
--- ---- demand 1: who is refused, and that a refused output stays ----
+-- ---- demand 1: who is refused, what a refused call gives, and that its output stays ----
 
 -- a word is accepted exactly when it has no more bytes than the limit and is UTF-8
 pub accepts-exactly : (w : List ℕ) → (accepted w ≡ true) ↔ ((length w ≤ limit) × (isText w ≡ true))
@@ -94,6 +97,20 @@ accepts-exactly w = accepted-iff w
 -- 96 bytes pass and 97 do not (document 02, request 6): a text of up to 96 is accepted, and more bytes, whatever they are, are refused under 1
 pub passes-96-not-97 : (w : List ℕ) → (length w ≤ 96 → isText w ≡ true → accepted w ≡ true) × (96 < length w → refusal w ≡ 1)
 passes-96-not-97 = limit-96
+
+-- "A refused call gives its number, length and any other number or count 0, every yes/no answer no, flag false, an empty part where a part is
+-- handed back": every call on a word. That no lent byte changes is what `refused-stays` and `refused-pieces-stay` say
+pub refused-gives-nothing : (c : Call) → (refusalOf c ≡ 0 → ⊥) → GivesOnly (refusalOf c) (reply c)
+refused-gives-nothing = refused-only
+
+-- and one that is not refused gives number 0
+pub answered-gives-0 : (c : Call) → refusalOf c ≡ 0 → reply c .number ≡ 0
+answered-gives-0 = answered-0
+
+-- whole answers of each call, answered and refused, and the outputs after it, computed from turkish.sbl's own commands; those of the fold are in
+-- `words-folded`, and of the calls on pieces in `words-with-pieces`
+pub words-answered-and-refused : CallWords.AnsweredMet × CallWords.RefusedMet × CallWords.OutputsMet
+words-answered-and-refused = CallWords.calls-met
 
 -- a call refused under any number leaves its output as it was
 pub refused-stays : (w out : List ℕ)
@@ -240,9 +257,10 @@ one-syllable-has-no-ending cs e =
 
 -- ---- the pieces of an ending (document 02, request 1) ----
 
--- words with their pieces, both forms and the calls' answers, computed from turkish.sbl's own commands; and the kinds with their numbers
-pub words-with-pieces : PieceWords.Pieced PieceWords.table × PieceWords.Formed PieceWords.forms × PieceWords.AnswersMet × PieceWords.KindsMet
-words-with-pieces = (PieceWords.words-met .0, PieceWords.words-met .1, PieceWords.words-met .2, PieceWords.kinds-met)
+-- words with their pieces, both forms, the calls' answers and the entries for Rattle callers, computed from turkish.sbl's own commands; and the
+-- kinds with their numbers
+pub words-with-pieces : PieceWords.Pieced PieceWords.table × PieceWords.Formed PieceWords.forms × PieceWords.AnswersMet × PieceWords.ToldMet × PieceWords.KindsMet
+words-with-pieces = (PieceWords.words-met .0, PieceWords.words-met .1, PieceWords.words-met .2, PieceWords.words-met .3, PieceWords.kinds-met)
 
 -- a word has at most three pieces, and each has a kind from 1 to 12
 pub three-pieces-at-most : (w : List ℕ) → (length (spansOf w) ≤ mostPieces) × ((p : Span) → List·Memᴰ p (spansOf w) → (0 < p .kind) × (p .kind ≤ 12))

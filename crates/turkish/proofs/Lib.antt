@@ -5,4 +5,5 @@ pub mod NounWords
 pub mod PieceWords
 pub mod HeardWords
 pub mod FoldWords
+pub mod CallWords
 pub mod Limit

@@ -1,5 +1,5 @@
--- Words with the pieces of their endings, both forms of these and what the calls answer, computed from turkish.sbl's own commands; and
--- the kinds with their numbers. Assumes nothing.
+-- Words with the pieces of their endings, both forms of these, what the calls answer and the entries that tell the pieces, computed from
+-- turkish.sbl's own commands; and the kinds with their numbers. Assumes nothing.
 use Prim.Native.Nat.{ℕ, _-_}
 use Prim.Native.String.{String}
 use mathlib.Core.Path.{_≡_, refl}
@@ -11,7 +11,9 @@ use Rattle.utf8.specs.Steps.{same}
 use Rattle.turkish.specs.declared.answer.PiecesAnswer.{PiecesAnswer}
 use Rattle.turkish.specs.declared.answer.PiecesTextAnswer.{PiecesTextAnswer}
 use Rattle.turkish.specs.declared.endings.Joining.the-variants.{WithY, AfterVowel}
+use Rattle.turkish.specs.declared.endings.Kind.{Kind}
 use Rattle.turkish.specs.declared.endings.Kind.the-variants.{YUm, SUn, YUz, SUnUz, LAr, NUz, DUr, CAsInA, YDU, YsA, YmUs, Yken}
+use Rattle.turkish.specs.declared.endings.Piece.{Piece}
 use Rattle.turkish.specs.Letters.{text, fromEnd, tab, lf, any, has, starts}
 use Rattle.turkish.specs.Snowball.{ahead, place, limit as textLimit, moveTo, withSlice, withFlag, withStrlen, withFound, withText, andThen, orElse, tested, negated, readIf, isLeft, isIn, letters, longer, longest, keyAhead, fits, goPast, placeAfter, sliceFrom, enough, run}
 use Rattle.turkish.specs.Source.{check-vowel-harmony, mark-suffix-with-optional-y-consonant, mark-yUm, mark-sUn, mark-yUz, mark-sUnUz, mark-lAr, mark-nUz, mark-DUr, mark-cAsInA, mark-yDU, mark-ysA, mark-ymUs-, mark-yken, stem-nominal-verb-suffixes}
@@ -108,11 +110,20 @@ AnswersMet =
     × (answered (word "saatler") 9 96 ≡ answer 0 7 0 0) × (answered (word "saatler") 8 95 ≡ answer 5 0 0 0)
     × (answered (0xFF ∷ []) 8 95 ≡ answer 2 0 0 0)
 
+-- ---- the list for Rattle callers ----
+
+abbrev piece : Kind → ℕ → ℕ → Piece
+piece k f l = record { kind = k; first = f; last = l }
+
+-- entries with a kind, a first and a last byte, which tell the pieces of a word
+abbrev pub ToldMet : Type 0
+ToldMet = map told (piece DUr 9 11 ∷ piece LAr 6 8 ∷ piece (YmUs AfterVowel) 2 5 ∷ []) ≡ spansOf (word "evmişlerdir")
+
 -- ---- all of them ----
 
--- every word has its pieces, its forms and its answers, computed from turkish.sbl's own commands
-pub words-met : Pieced table × Formed forms × AnswersMet
-unfolding table row span word forms form answered answer
+-- every word has its pieces, its forms, its answers and its entries, computed from turkish.sbl's own commands
+pub words-met : Pieced table × Formed forms × AnswersMet × ToldMet
+unfolding table row span word forms form answered answer told kindNumber kindJoined joinedOf
     piecesCall piecesRefusal piecesRoom bufferOf buffer piecesTextCall piecesTextRefusal textRoom textOf pieceLine lettersOf pieceRefusal refusalShort refusal limit stageText bytes
     isText accepts next lead leadIn table37 due refused suffixStage stemmed called succeeded left
     spansOf spanOf offset keptMarks reading readIn oneMark heardBy stoppedAt jointOf readOr readAfter readThen orJoined blank kindOf numberFrom kindName nameFrom kindNames same tab lf
@@ -121,7 +132,7 @@ unfolding table row span word forms form answered answer
     readIf isLeft isIn letters longer longest keyAhead fits goPast placeAfter sliceFrom
     check-vowel-harmony mark-suffix-with-optional-y-consonant mark-yUm mark-sUn mark-yUz mark-sUnUz mark-lAr mark-nUz mark-DUr mark-cAsInA mark-yDU mark-ysA mark-ymUs- mark-yken
     stem-nominal-verb-suffixes starts has any fromEnd text
-words-met = (refl, (refl, refl), (refl, refl, refl, refl, refl))
+words-met = (refl, (refl, refl), (refl, refl, refl, refl, refl), refl)
 
 -- ---- the kinds ----
 

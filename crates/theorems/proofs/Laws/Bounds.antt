@@ -85,21 +85,25 @@ run-least p cs = post-map (λ k f h. h .0) (run-between p cs)
 -- ---- the stage ----
 
 -- the stage's command takes at least one character and at most 15
-branches-between : (least branches ≡ 1) × (most branches ≡ mostRemoved)
+branches-between : (1 ≤ least branches) × (most branches ≤ mostRemoved)
 unfolding mostRemoved least most branches branch1 branch2 branch3 branch4 branch5 branch6 person try unjoined byY marked yUm sUn yUz sUnUz lAr nUz DUr cAsInA yDU ysA ymUs yken fromEnd text
-branches-between = (refl, refl)
+branches-between = (omega arith, omega arith)
 
 -- so does the stage where it says yes
 staged-between : {o : Out} → Post (Between (least branches) (most branches)) o
-    → (staged o .removed ≤ mostRemoved) × (staged o .yes ≡ true → 0 < staged o .removed)
+    → (staged o .removed ≤ most branches) × (staged o .yes ≡ true → 0 < staged o .removed)
 unfolding staged
 staged-between unfit = (omega arith, λ e. absurd (false≢true e))
-staged-between (fits k h) = (omega (arith, branches-between), λ e. omega (arith, branches-between))
+staged-between (fits k h) = (omega arith, λ e. omega (arith, branches-between))
 
--- at most 15 characters are removed
-pub stage-most : (cs : List ℕ) → stage cs .removed ≤ mostRemoved
+-- no more characters are removed than its command takes
+pub stage-taken : (cs : List ℕ) → stage cs .removed ≤ most branches
 unfolding stage
-stage-most cs = staged-between (run-between branches cs) .0
+stage-taken cs = staged-between (run-between branches cs) .0
+
+-- so at most 15
+pub stage-most : (cs : List ℕ) → stage cs .removed ≤ mostRemoved
+stage-most cs = omega (arith, stage-taken cs, branches-between)
 
 -- where the stage says yes it removes something
 pub stage-yes : (cs : List ℕ) → stage cs .yes ≡ true → 0 < stage cs .removed

@@ -90,10 +90,10 @@ run-bytes unset cs = fits 0 (omega arith)
 -- ---- the stage ----
 
 -- the stage's command takes at most 20 bytes
-branches-bytes : mostTaken branches ≡ mostBytes
+branches-bytes : mostTaken branches ≤ mostBytes
 unfolding mostBytes mostTaken letterBytes longestBytes bytes encodeAll encode branches branch1 branch2 branch3 branch4 branch5 branch6 person try
     unjoined byY marked yUm sUn yUz sUnUz lAr nUz DUr cAsInA yDU ysA ymUs yken fromEnd text
-branches-bytes = refl
+branches-bytes = omega arith
 
 -- so does the stage, which takes none where it says no
 staged-bytes : (cs : List ℕ) {o : Out} → Post (λ k. sizeOf k cs ≤ mostTaken branches) o → sizeOf (staged o .removed) cs ≤ mostBytes

@@ -81,8 +81,9 @@ write-repair-requires c κs =
     let at-stage = c .before .before .before .before in
     let at-number = at-stage .before .before .before in
     let room = into-room _ _ _ _ (at-number .before .refusal-into .ensures) (at-number .if1 .left) in
-    let fits = repair-fits _ _ _ _ (c .before .postlude .ensures) (kept-le _ _ (at-stage .stem-nominal-verb-suffixes .ensures)) room in
-    (fits .0, (fits .1, fits .2))
+    let front = kept-le _ _ (at-stage .stem-nominal-verb-suffixes .ensures) in
+    let fits = repair-fits _ _ _ _ (c .before .postlude .ensures) front room in
+    search needs
 
 same-length-3 : tie.Need-same-length-3
 same-length-3 c = search needs
