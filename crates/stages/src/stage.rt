@@ -5,23 +5,20 @@ use crate::trail::Branch;
 use crate::trail::Trail;
 use crate::trail::Way;
 use letters::ends;
-use letters::harmony;
-use letters::harmony::Accord;
 use letters::seen;
 use letters::seen::Seen;
 use marks::mark;
 use marks::marked::Marked;
 use utf8::cursor::Cursor;
 ghost use mathlib.Core.Path.{_≡_};
-ghost use mathlib.Core.Bool.{true};
-ghost use Rattle.utf8.specs.Behind.{behind, Open};
+ghost use Rattle.utf8.specs.Behind.{behind};
 ghost use Rattle.theorems.specs.Simple.Grammar.{mark, _then_};
 ghost use Rattle.theorems.specs.Simple.Marks.{ymUs};
 ghost use Rattle.theorems.specs.Simple.Pieces.{trace};
 ghost use Rattle.theorems.specs.Simple.Stage.{person, branch1, branch2, branch3, branch4, branch5, branch6};
 ghost use Rattle.letters.specs.Seen.{Sees};
-ghost use Rattle.letters.specs.Ends.{personEnd};
-ghost use Rattle.letters.specs.Accord.{Listens, accordIf};
+ghost use Rattle.marks.specs.Reach.{reach};
+ghost use Rattle.stages.specs.Groups.{personMark, personAlone, afterLAr, afterNUz, firstEnds, fifthEnds};
 ghost use Rattle.stages.specs.Trail.{along, cutTo};
 ghost use Rattle.stages.specs.Outcome.{outcomeOf, uncut, cut};
 
@@ -75,42 +72,105 @@ impl Outcome {
 }
 
 // The marks of line 314.
-const FIRST: [u32; 4] = [mark::YMUS, mark::YDU, mark::YSA, mark::YKEN];
+fn first_mark(w: &[u8], s: Seen) -> Marked
+    requires { ⌜ Sees (now w) s ⌝ }
+    ensures { λ r. ⌜ r ≡ reach (now (w .entry)) (s .c) (trace branch1 (behind (now (w .entry)) (s .c))) ⌝ }
+{
+    if let Marked::To(c, kind, told) = mark::mark_ymUs_(w, s) {
+        return Marked::To(c, kind, told);
+    }
+    if let Marked::To(c, kind, told) = mark::mark_yDU(w, s) {
+        return Marked::To(c, kind, told);
+    }
+    if let Marked::To(c, kind, told) = mark::mark_ysA(w, s) {
+        return Marked::To(c, kind, told);
+    }
+    mark::mark_yken(w, s)
+}
 
 // A person's ending (lines 316 and 327).
-const PERSON: [u32; 5] = [mark::SUNUZ, mark::LAR, mark::YUM, mark::SUN, mark::YUZ];
+fn person(w: &[u8], s: Seen) -> Marked
+    requires { ⌜ Sees (now w) s ⌝ }
+    ensures { λ r. ⌜ r ≡ reach (now (w .entry)) (s .c) (trace personMark (behind (now (w .entry)) (s .c))) ⌝ }
+{
+    if let Marked::To(c, kind, told) = mark::mark_sUnUz(w, s) {
+        return Marked::To(c, kind, told);
+    }
+    if let Marked::To(c, kind, told) = mark::mark_lAr(w, s) {
+        return Marked::To(c, kind, told);
+    }
+    if let Marked::To(c, kind, told) = mark::mark_yUm(w, s) {
+        return Marked::To(c, kind, told);
+    }
+    if let Marked::To(c, kind, told) = mark::mark_sUn(w, s) {
+        return Marked::To(c, kind, told);
+    }
+    mark::mark_yUz(w, s)
+}
 
 // What may follow lAr (line 319).
-const AFTER_LAR: [u32; 4] = [mark::DUR, mark::YDU, mark::YSA, mark::YMUS];
+fn after_lAr(w: &[u8], s: Seen) -> Marked
+    requires { ⌜ Sees (now w) s ⌝ }
+    ensures { λ r. ⌜ r ≡ reach (now (w .entry)) (s .c) (trace afterLAr (behind (now (w .entry)) (s .c))) ⌝ }
+{
+    if let Marked::To(c, kind, told) = mark::mark_DUr(w, s) {
+        return Marked::To(c, kind, told);
+    }
+    if let Marked::To(c, kind, told) = mark::mark_yDU(w, s) {
+        return Marked::To(c, kind, told);
+    }
+    if let Marked::To(c, kind, told) = mark::mark_ysA(w, s) {
+        return Marked::To(c, kind, told);
+    }
+    mark::mark_ymUs_(w, s)
+}
 
 // What must follow nUz (line 323).
-const AFTER_NUZ: [u32; 2] = [mark::YDU, mark::YSA];
+fn after_nUz(w: &[u8], s: Seen) -> Marked
+    requires { ⌜ Sees (now w) s ⌝ }
+    ensures { λ r. ⌜ r ≡ reach (now (w .entry)) (s .c) (trace afterNUz (behind (now (w .entry)) (s .c))) ⌝ }
+{
+    if let Marked::To(c, kind, told) = mark::mark_yDU(w, s) {
+        return Marked::To(c, kind, told);
+    }
+    mark::mark_ysA(w, s)
+}
 
 // A person's ending without lAr (line 325).
-const PERSON_ALONE: [u32; 4] = [mark::SUNUZ, mark::YUZ, mark::SUN, mark::YUM];
+fn person_alone(w: &[u8], s: Seen) -> Marked
+    requires { ⌜ Sees (now w) s ⌝ }
+    ensures { λ r. ⌜ r ≡ reach (now (w .entry)) (s .c) (trace personAlone (behind (now (w .entry)) (s .c))) ⌝ }
+{
+    if let Marked::To(c, kind, told) = mark::mark_sUnUz(w, s) {
+        return Marked::To(c, kind, told);
+    }
+    if let Marked::To(c, kind, told) = mark::mark_yUz(w, s) {
+        return Marked::To(c, kind, told);
+    }
+    if let Marked::To(c, kind, told) = mark::mark_sUn(w, s) {
+        return Marked::To(c, kind, told);
+    }
+    mark::mark_yUm(w, s)
+}
 
-// ymUs_ alone, where no person's ending stands (lines 316 and 327).
+// ymUs_ by itself (lines 316, 325 and 327).
 fn ymUs_alone(w: &[u8], s: Seen) -> Branch
     requires { ⌜ Sees (now w) s ⌝ }
     ensures { λ r. ⌜ r ≡ along (now (w .entry)) (s .c) (trace (mark ymUs) (behind (now (w .entry)) (s .c))) ⌝ }
 {
-    if !ends::may_end(mark::YMUS, s.last, s.second, s.third) {
-        return Branch::Unfit;
-    }
-    let Marked::To(e, kind, told) = mark::full_mark(w, s, Accord::UNASKED, mark::YMUS) else {
+    let Marked::To(e, kind, told) = mark::mark_ymUs_(w, s) else {
         return Branch::Unfit;
     };
     Branch::Fits(e, Way::NONE.behind(kind, e.cursor, told))
 }
 
-// A person's ending, then ymUs_, where the last letter may be that of a person's ending (lines 316 and 327).
+// A person's ending or nothing, then ymUs_ (lines 316 and 327).
 fn person_and_ymUs(w: &[u8], s: Seen) -> Branch
     requires { ⌜ Sees (now w) s ⌝ }
-    requires { ⌜ personEnd (s .last) ≡ true ⌝ }
     ensures { λ r. ⌜ r ≡ along (now (w .entry)) (s .c) (trace (person then mark ymUs) (behind (now (w .entry)) (s .c))) ⌝ }
 {
-    let Marked::To(d, kind, told) = mark::first_of(w, s, Accord::UNASKED, &PERSON) else {
-        return Branch::Unfit;
+    let Marked::To(d, kind, told) = person(w, s) else {
+        return ymUs_alone(w, s);
     };
     let Branch::Fits(e, rest) = ymUs_alone(w, seen::look_back(w, d)) else {
         return Branch::Unfit;
@@ -119,54 +179,40 @@ fn person_and_ymUs(w: &[u8], s: Seen) -> Branch
 }
 
 // Line 314: ymUs_, yDU, ysA or yken.
-fn first_branch(w: &[u8], s: Seen, t: Accord) -> Branch
+fn first_branch(w: &[u8], s: Seen) -> Branch
     requires { ⌜ Sees (now w) s ⌝ }
-    requires { ⌜ Listens (now w) (s .c) t ⌝ }
     ensures { λ r. ⌜ r ≡ cutTo (now (w .entry)) (s .c) (trace branch1 (behind (now (w .entry)) (s .c))) ⌝ }
 {
-    let Marked::To(c, kind, told) = mark::first_of(w, s, t, &FIRST) else {
+    let Marked::To(c, kind, told) = first_mark(w, s) else {
         return Branch::Unfit;
     };
     Branch::Fits(c.deleted(), Way::NONE.behind(kind, c.cursor, told))
 }
 
 // Line 316: cAsInA, a person's ending or nothing, then ymUs_.
-fn second_branch(w: &[u8], s: Seen, t: Accord) -> Branch
+fn second_branch(w: &[u8], s: Seen) -> Branch
     requires { ⌜ Sees (now w) s ⌝ }
-    requires { ⌜ Listens (now w) (s .c) t ⌝ }
     ensures { λ r. ⌜ r ≡ cutTo (now (w .entry)) (s .c) (trace branch2 (behind (now (w .entry)) (s .c))) ⌝ }
 {
-    let Marked::To(c, kind, told) = mark::full_mark(w, s, t, mark::CASINA) else {
+    let Marked::To(c, kind, told) = mark::mark_cAsInA(w, s) else {
         return Branch::Unfit;
     };
-    let before = seen::look_back(w, c);
-    if !ends::ends_person(before.last) {
-        let Branch::Fits(e, next) = ymUs_alone(w, before) else {
-            return Branch::Unfit;
-        };
-        return Branch::Fits(e.deleted(), next.behind(kind, c.cursor, told));
-    }
-    let Branch::Fits(d, rest) = person_and_ymUs(w, before) else {
+    let Branch::Fits(d, rest) = person_and_ymUs(w, seen::look_back(w, c)) else {
         return Branch::Unfit;
     };
     Branch::Fits(d.deleted(), rest.behind(kind, c.cursor, told))
 }
 
 // Lines 318 to 320: lAr, deleted; then DUr, yDU, ysA or ymUs_ if one fits. The flag goes down.
-fn third_branch(w: &[u8], s: Seen, t: Accord) -> Branch
+fn third_branch(w: &[u8], s: Seen) -> Branch
     requires { ⌜ Sees (now w) s ⌝ }
-    requires { ⌜ Listens (now w) (s .c) t ⌝ }
     ensures { λ r. ⌜ r ≡ cutTo (now (w .entry)) (s .c) (trace branch3 (behind (now (w .entry)) (s .c))) ⌝ }
 {
-    let Marked::To(c, kind, told) = mark::full_mark(w, s, t, mark::LAR) else {
+    let Marked::To(c, kind, told) = mark::mark_lAr(w, s) else {
         return Branch::Unfit;
     };
     let d = c.deleted();
-    let before = seen::look_back(w, d);
-    if !ends::ends_after_lAr(before.last, before.second, before.third) {
-        return Branch::Fits(d, Way::NONE.behind(kind, c.cursor, told));
-    }
-    let Marked::To(e, next, heard) = mark::first_of(w, before, Accord::UNASKED, &AFTER_LAR) else {
+    let Marked::To(e, next, heard) = after_lAr(w, seen::look_back(w, d)) else {
         return Branch::Fits(d, Way::NONE.behind(kind, c.cursor, told));
     };
     Branch::Fits(
@@ -178,19 +224,14 @@ fn third_branch(w: &[u8], s: Seen, t: Accord) -> Branch
 }
 
 // Line 323: nUz, then yDU or ysA.
-fn fourth_branch(w: &[u8], s: Seen, t: Accord) -> Branch
+fn fourth_branch(w: &[u8], s: Seen) -> Branch
     requires { ⌜ Sees (now w) s ⌝ }
-    requires { ⌜ Listens (now w) (s .c) t ⌝ }
     ensures { λ r. ⌜ r ≡ cutTo (now (w .entry)) (s .c) (trace branch4 (behind (now (w .entry)) (s .c))) ⌝ }
 {
-    let Marked::To(c, kind, told) = mark::full_mark(w, s, t, mark::NUZ) else {
+    let Marked::To(c, kind, told) = mark::mark_nUz(w, s) else {
         return Branch::Unfit;
     };
-    let before = seen::look_back(w, c);
-    if !ends::ends_after_nUz(before.last, before.second, before.third) {
-        return Branch::Unfit;
-    }
-    let Marked::To(d, next, heard) = mark::first_of(w, before, Accord::UNASKED, &AFTER_NUZ) else {
+    let Marked::To(d, next, heard) = after_nUz(w, seen::look_back(w, c)) else {
         return Branch::Unfit;
     };
     Branch::Fits(
@@ -202,12 +243,11 @@ fn fourth_branch(w: &[u8], s: Seen, t: Accord) -> Branch
 }
 
 // Line 325: sUnUz, yUz, sUn or yUm, deleted; then ymUs_ if it fits.
-fn fifth_branch(w: &[u8], s: Seen, t: Accord) -> Branch
+fn fifth_branch(w: &[u8], s: Seen) -> Branch
     requires { ⌜ Sees (now w) s ⌝ }
-    requires { ⌜ Listens (now w) (s .c) t ⌝ }
     ensures { λ r. ⌜ r ≡ cutTo (now (w .entry)) (s .c) (trace branch5 (behind (now (w .entry)) (s .c))) ⌝ }
 {
-    let Marked::To(c, kind, told) = mark::first_of(w, s, t, &PERSON_ALONE) else {
+    let Marked::To(c, kind, told) = person_alone(w, s) else {
         return Branch::Unfit;
     };
     let d = c.deleted();
@@ -218,41 +258,35 @@ fn fifth_branch(w: &[u8], s: Seen, t: Accord) -> Branch
 }
 
 // Line 327: DUr, deleted; then a person's ending or nothing and ymUs_, if that fits whole.
-fn sixth_branch(w: &[u8], s: Seen, t: Accord) -> Branch
+fn sixth_branch(w: &[u8], s: Seen) -> Branch
     requires { ⌜ Sees (now w) s ⌝ }
-    requires { ⌜ Listens (now w) (s .c) t ⌝ }
     ensures { λ r. ⌜ r ≡ cutTo (now (w .entry)) (s .c) (trace branch6 (behind (now (w .entry)) (s .c))) ⌝ }
 {
-    let Marked::To(c, kind, told) = mark::full_mark(w, s, t, mark::DUR) else {
+    let Marked::To(c, kind, told) = mark::mark_DUr(w, s) else {
         return Branch::Unfit;
     };
     let d = c.deleted();
-    let before = seen::look_back(w, d);
-    if !ends::ends_person(before.last) {
-        let Branch::Fits(e, next) = ymUs_alone(w, before) else {
-            return Branch::Fits(d, Way::NONE.behind(kind, c.cursor, told));
-        };
-        return Branch::Fits(e.deleted(), next.behind(kind, c.cursor, told));
-    }
-    let Branch::Fits(f, rest) = person_and_ymUs(w, before) else {
+    let Branch::Fits(e, rest) = person_and_ymUs(w, seen::look_back(w, d)) else {
         return Branch::Fits(d, Way::NONE.behind(kind, c.cursor, told));
     };
-    Branch::Fits(f.deleted(), rest.behind(kind, c.cursor, told))
+    Branch::Fits(e.deleted(), rest.behind(kind, c.cursor, told))
 }
 
-// Harmony at the word's end, walked for where the last letters are those of a mark that tests it.
-fn told_at_end(w: &[u8], c: Cursor, harmonic: bool) -> Accord
-    requires { ⌜ Open (now w) c ⌝ }
-    ensures { λ r. ⌜ r ≡ accordIf harmonic (now (w .entry)) c ⌝ }
+// Whether the last letter may be that of a mark with which the first branch begins, or the fifth. Of the others it is one letter or A.
+fn ends_first(a: u32) -> bool
+    ensures { λ r. ⌜ r ≡ firstEnds a ⌝ }
 {
-    if !harmonic {
-        return Accord::UNASKED;
-    }
-    harmony::listen(w, c)
+    (ends::is_U(a) | ends::is_kmn(a)) | (ends::is_A(a) | (a == 0x15F))
 }
 
-// The suffix stage of a word, entered at its end with limit_backward 0: the first branch that fits. Only those are tried with whose last
-// letters the word ends.
+fn ends_fifth(a: u32) -> bool
+    ensures { λ r. ⌜ r ≡ fifthEnds a ⌝ }
+{
+    (a == 0x7A) | ((a == 0x6E) | (a == 0x6D))
+}
+
+// The suffix stage of a word, entered at its end with limit_backward 0: the first branch that fits. Only those are tried that may begin with
+// the word's last letter.
 pub fn stem_nominal_verb_suffixes(w: &[u8]) -> Outcome
     ensures { λ r. ⌜ r ≡ outcomeOf (now (w .entry)) ⌝ }
 {
@@ -265,35 +299,34 @@ pub fn stem_nominal_verb_suffixes(w: &[u8]) -> Outcome
             limit_backward: 0,
         },
     );
-    let may = ends::starts_of(s.last, s.second, s.third);
-    let t = told_at_end(w, s.c, may.harmonic);
-    if may.first {
-        if let Branch::Fits(c, way) = first_branch(w, s, t) {
+    let last = s.last;
+    if ends_first(last) {
+        if let Branch::Fits(c, way) = first_branch(w, s) {
             return Outcome::cut(c, way, true);
         }
     }
-    if may.second {
-        if let Branch::Fits(c, way) = second_branch(w, s, t) {
+    if ends::is_A(last) {
+        if let Branch::Fits(c, way) = second_branch(w, s) {
             return Outcome::cut(c, way, true);
         }
     }
-    if may.third {
-        if let Branch::Fits(c, way) = third_branch(w, s, t) {
+    if last == 0x72 {
+        if let Branch::Fits(c, way) = third_branch(w, s) {
             return Outcome::cut(c, way, false);
         }
     }
-    if may.fourth {
-        if let Branch::Fits(c, way) = fourth_branch(w, s, t) {
+    if last == 0x7A {
+        if let Branch::Fits(c, way) = fourth_branch(w, s) {
             return Outcome::cut(c, way, true);
         }
     }
-    if may.fifth {
-        if let Branch::Fits(c, way) = fifth_branch(w, s, t) {
+    if ends_fifth(last) {
+        if let Branch::Fits(c, way) = fifth_branch(w, s) {
             return Outcome::cut(c, way, true);
         }
     }
-    if may.sixth {
-        if let Branch::Fits(c, way) = sixth_branch(w, s, t) {
+    if last == 0x72 {
+        if let Branch::Fits(c, way) = sixth_branch(w, s) {
             return Outcome::cut(c, way, true);
         }
     }

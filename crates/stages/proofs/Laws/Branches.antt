@@ -1,29 +1,31 @@
--- The branches of the stage: groups of marks as the grammar has them, what is seen from a record, which branches the last letters rule
--- out, and what the stage answers where a branch fits, and where none does. Assumes nothing.
+-- The branches of the stage: a person's ending as the grammar has it, what is seen from a record, which branches the last letter rules out, and
+-- what the stage answers where a branch fits, and where none does. Assumes nothing.
 use Prim.Native.Nat.{ℕ}
+use Prim.Native.Char.{code}
 use mathlib.Core.Path.{_≡_, refl, sym, ap, _∙_}
 use mathlib.Core.Bool.{Bool, true, false}
 use mathlib.Core.List.{List, [], _∷_, append-nil}
 use native.Mathlib.Omega.{arith}
 use lib.ListN.{length, drop, getD}
+use lib.Dec.{eqb}
 use Rattle.utf8.specs.declared.cursor.Cursor.{Cursor}
 use Rattle.utf8.specs.Characters.{back}
 use Rattle.utf8.specs.Behind.{behind, backBy, deleted, Open}
 use Rattle.utf8.proofs.Laws.Behind.{behind-before, backBy-back, open-start}
 use Rattle.theorems.specs.Simple.Grammar.{Out, took, Command, mark, _then_, _or_, run}
-use Rattle.theorems.specs.Simple.Marks.{ymUs}
+use Rattle.turkish.specs.Letters.{text, fromEnd}
+use Rattle.theorems.specs.Simple.Marks.{marked, yUm, sUn, yUz, sUnUz, lAr, nUz, DUr, cAsInA, yDU, ysA, ymUs, yken}
 use Rattle.theorems.specs.Simple.Stage.{person, branch1, branch2, branch3, branch4, branch5, branch6, branches, staged, stage, keptLength}
 use Rattle.theorems.specs.Simple.Pieces.{Taken, Trace, none, keeps, total, moreTrace, afterTrace, firstTrace, traceOf, trace, summed, takenOf, stageMarks}
 use Rattle.turkish.specs.Calls.{chars}
 use Rattle.theorems.proofs.Laws.Outcome.{Flagged, unfit, fits}
-use Rattle.theorems.proofs.Laws.Traces.{first-none, run-trace}
+use Rattle.theorems.proofs.Laws.Traces.{run-trace}
 use Rattle.letters.specs.declared.harmony.Accord.{Accord}
 use Rattle.letters.specs.declared.seen.Seen.{Seen}
 use Rattle.letters.specs.Seen.{seenAt}
-use Rattle.letters.specs.declared.ends.Starts.{Starts}
-use Rattle.letters.specs.Ends.{someEnd, personEnd, startsOf}
-use Rattle.letters.specs.Numbered.{numbered, firstOf}
-use Rattle.letters.proofs.Laws.Ends.{test-seen, traceOf-unfit, someEnd-unfit, person-letters, person-not-ymUs}
+use Rattle.theorems.proofs.Laws.Tests.{every}
+use Rattle.letters.specs.Ends.{isU, isA, isKMN}
+use Rattle.letters.proofs.Laws.Ends.{lastPasses, begins, trace-unfit}
 use Rattle.letters.proofs.Laws.Sees.{seen-c}
 use Rattle.marks.specs.declared.marked.Marked.{Marked}
 use Rattle.marks.specs.declared.marked.Marked.the-variants.{To}
@@ -31,9 +33,10 @@ use Rattle.marks.specs.Reach.{reach}
 use Rattle.stages.specs.declared.trail.Way.{Way}
 use Rattle.stages.specs.declared.trail.Branch.{Branch}
 use Rattle.stages.specs.declared.trail.Branch.the-variants.{Fits, Unfit}
+use Rattle.stages.specs.Groups.{personMark, firstEnds, fifthEnds}
 use Rattle.stages.specs.Trail.{trailOf, heardAlong, wayOf, along, cutTo}
 use Rattle.stages.specs.Outcome.{whole, outcomeOf, uncut, cut}
-use Rattle.stages.proofs.Laws.Trails.{Steps, steps-group, first-step, fits-unfit, after-none}
+use Rattle.stages.proofs.Laws.Trails.{Steps, onlyMarks, steps-group, first-step, fits-unfit}
 
 -- `unset` after the second of two commands cuts no more
 pub cut-unset : (w : List ℕ) (c : Cursor) (o : Trace) (q : ℕ → Trace)
@@ -54,32 +57,14 @@ unfolding firstTrace
 first-assoc none p q = refl
 first-assoc (keeps ts f) p q = refl
 
--- the marks of a person's ending, and those that may follow lAr
-abbrev personMarks : List ℕ
-personMarks = 4 ∷ 5 ∷ 1 ∷ 2 ∷ 3 ∷ []
-
-abbrev pub afterLAr : List ℕ
-afterLAr = 7 ∷ 9 ∷ 10 ∷ 11 ∷ []
-
 module _ (cs : List ℕ) where
-  -- a group of four marks as the grammar has it
-  pub group-four : (h i j k : ℕ) → firstOf (h ∷ i ∷ j ∷ k ∷ []) cs
-      ≡ trace (mark (numbered h) or (mark (numbered i) or (mark (numbered j) or mark (numbered k)))) cs
-  unfolding firstOf trace
-  group-four h i j k = simp first-none
-
-  -- and of two
-  pub group-two : (h i : ℕ) → firstOf (h ∷ i ∷ []) cs ≡ trace (mark (numbered h) or mark (numbered i)) cs
-  unfolding firstOf trace
-  group-two h i = simp first-none
-
   -- a person's ending or nothing
-  person-first : firstTrace (firstOf personMarks cs) (keeps [] true) ≡ trace person cs
-  unfolding trace person firstOf numbered
-  person-first = simp (first-assoc, first-none)
+  person-first : firstTrace (trace personMark cs) (keeps [] true) ≡ trace person cs
+  unfolding trace person
+  person-first = simp first-assoc
 
   -- where no person's ending fits, ymUs_ stands alone
-  person-absent : firstOf personMarks cs ≡ none → trace (person then mark ymUs) cs ≡ traceOf ymUs cs
+  pub person-absent : trace personMark cs ≡ none → trace (person then mark ymUs) cs ≡ trace (mark ymUs) cs
   unfolding trace afterTrace firstTrace total
   person-absent fails =
       ap (λ (o : Trace). afterTrace o (λ k. traceOf ymUs (drop k cs)))
@@ -91,29 +76,12 @@ module _ (cs : List ℕ) where
       go (keeps us g) = unfold moreTrace in refl
 
 -- a person's ending that fits is a step
-pub steps-person : (w : List ℕ) (c : Cursor) {r : Marked} {d : Cursor} {k : ℕ} {h : Accord} → r ≡ reach w c (firstOf personMarks (behind w c))
+pub steps-person : (w : List ℕ) (c : Cursor) {r : Marked} {d : Cursor} {k : ℕ} {h : Accord} → r ≡ reach w c (trace personMark (behind w c))
     → r ≡ To d k h → Steps w c (trace person (behind w c)) d k h
-steps-person w c is to = rw (person-first (behind w c)) at (first-step w c (steps-group w c personMarks refl is to) (keeps [] true))
+unfolding onlyMarks
+steps-person w c is to = rw (person-first (behind w c)) at (first-step w c (steps-group w c personMark refl is to) (keeps [] true))
 
 -- ---- what is seen from a record ----
-
-module _ (w : List ℕ) (c : Cursor) {s : Seen} (is : s ≡ seenAt w c) where
-  -- what the last letters seen rule out of a group
-  pub someEnd-seen : (ks : List ℕ) {b : Bool} → b ≡ someEnd ks (s .last) (s .second) (s .third) → b ≡ false → firstOf ks (behind w c) ≡ none
-  someEnd-seen ks e fails = someEnd-unfit ks (behind w c) (sym (test-seen (someEnd ks) w c is) ∙ sym e ∙ fails)
-
-  -- the last letter seen is that behind the record
-  last-seen : {b : Bool} → personEnd (s .last) ≡ b → personEnd (getD (behind w c) 0 0) ≡ b
-  last-seen e = sym (test-seen (λ x y z. personEnd x) w c is) ∙ e
-
-  -- where it is that of a person's ending, and none fits, nor does ymUs_
-  pub person-unfit : personEnd (s .last) ≡ true → firstOf personMarks (behind w c) ≡ none → trace (person then mark ymUs) (behind w c) ≡ none
-  unfolding numbered
-  person-unfit ends fails = person-absent (behind w c) fails ∙ traceOf-unfit 11 (behind w c) (person-not-ymUs _ _ _ (last-seen ends))
-
-  -- where it is none of one's, none fits
-  person-none : personEnd (s .last) ≡ false → firstOf personMarks (behind w c) ≡ none
-  person-none fails = someEnd-unfit _ _ (person-letters _ _ _ (last-seen fails))
 
 -- an answer from what is seen is one from the record
 from-seen : {R : Type 0} (f : List ℕ → Cursor → Trace → R) (w : List ℕ) (c : Cursor) (q : List ℕ → Trace) {s : Seen} {r : R} → s ≡ seenAt w c
@@ -130,50 +98,38 @@ pub along-seen : (w : List ℕ) (c : Cursor) (q : List ℕ → Trace) {s : Seen}
     → r ≡ along w c (q (behind w c))
 along-seen = from-seen along
 
--- ymUs_ stands alone where the last letter seen is none of a person's ending
-pub along-alone : (w : List ℕ) (c : Cursor) {s : Seen} {r : Branch} → s ≡ seenAt w c → personEnd (s .last) ≡ false
-    → r ≡ along w (s .c) (trace (mark ymUs) (behind w (s .c))) → r ≡ along w c (trace (person then mark ymUs) (behind w c))
-unfolding trace
-along-alone w c e fails is = along-seen w c (traceOf ymUs) e is ∙ sym (ap (along w c) (person-absent (behind w c) (person-none w c e fails)))
+-- ---- the last letters with which a branch may begin ----
 
--- ---- what the last letters rule out ----
+pub first-begins : begins firstEnds branch1 ≡ true
+unfolding begins every lastPasses firstEnds isU isA isKMN branch1 ymUs yDU ysA yken marked fromEnd text
+first-begins = refl
 
--- which branches may fit a text
-abbrev pub startsAt : List ℕ → Starts
-startsAt cs = startsOf (getD cs 0 0) (getD cs 1 0) (getD cs 2 0)
+pub second-begins : begins isA branch2 ≡ true
+unfolding begins every lastPasses isA branch2 cAsInA marked fromEnd text
+second-begins = refl
 
--- one that may not keeps nothing
-module _ (cs : List ℕ) {m : Starts} (e : m ≡ startsAt cs) where
-  pub first-out : m .first ≡ false → trace branch1 cs ≡ none
-  unfolding startsOf branch1 numbered
-  first-out fails = sym (group-four cs 11 9 10 12) ∙ someEnd-unfit _ cs (ap (λ (x : Starts). x .first) (sym e) ∙ fails)
+pub third-begins : begins (λ a. eqb a (code "r")) branch3 ≡ true
+unfolding begins every lastPasses branch3 lAr marked fromEnd text
+third-begins = refl
 
-  pub second-out : m .second ≡ false → trace branch2 cs ≡ none
-  unfolding startsOf trace branch2 numbered
-  second-out fails = after-none _ _ (traceOf-unfit 8 cs (ap (λ (x : Starts). x .second) (sym e) ∙ fails))
+pub fourth-begins : begins (λ a. eqb a (code "z")) branch4 ≡ true
+unfolding begins every lastPasses branch4 nUz marked fromEnd text
+fourth-begins = refl
 
-  pub third-out : m .third ≡ false → trace branch3 cs ≡ none
-  unfolding startsOf trace branch3 numbered
-  third-out fails = after-none _ _ (traceOf-unfit 5 cs (ap (λ (x : Starts). x .third) (sym e) ∙ fails))
+pub fifth-begins : begins fifthEnds branch5 ≡ true
+unfolding begins every lastPasses fifthEnds branch5 sUnUz yUz sUn yUm marked fromEnd text
+fifth-begins = refl
 
-  pub fourth-out : m .fourth ≡ false → trace branch4 cs ≡ none
-  unfolding startsOf trace branch4 numbered
-  fourth-out fails = after-none _ _ (traceOf-unfit 6 cs (ap (λ (x : Starts). x .fourth) (sym e) ∙ fails))
+pub sixth-begins : begins (λ a. eqb a (code "r")) branch6 ≡ true
+unfolding begins every lastPasses branch6 DUr marked fromEnd text
+sixth-begins = refl
 
-  pub fifth-out : m .fifth ≡ false → trace branch5 cs ≡ none
-  unfolding startsOf trace branch5 numbered
-  fifth-out fails = after-none _ _ (sym (group-four cs 4 3 2 1) ∙ someEnd-unfit _ cs (ap (λ (x : Starts). x .fifth) (sym e) ∙ fails))
-
-  pub sixth-out : m .sixth ≡ false → trace branch6 cs ≡ none
-  unfolding startsOf trace branch6 numbered
-  sixth-out fails = after-none _ _ (traceOf-unfit 7 cs (ap (λ (x : Starts). x .sixth) (sym e) ∙ fails))
+-- ---- the stage ----
 
 -- a branch that keeps nothing is passed over
 pub passed-over : (b q : Command) (cs : List ℕ) → trace b cs ≡ none → trace (b or q) cs ≡ trace q cs
 unfolding trace firstTrace
 passed-over b q cs e = ap (λ (o : Trace). firstTrace o (trace q cs)) e
-
--- ---- the stage ----
 
 -- a branch that is cut keeps these marks, and its flag is f
 record Cut (w : List ℕ) (c : Cursor) (o : Trace) (f : Bool) (d : Cursor) (t : Way) : Type 0 where
@@ -227,10 +183,12 @@ module _ (w : List ℕ) {s : Seen} (is : s ≡ seenAt w (whole w)) where
   unfolding chars whole
   at-end b e = from-seen cutTo w (whole w) (trace b) is e ∙ ap (λ (cs : List ℕ). cutTo w (whole w) (trace b cs)) (behind-before w (length w) (length w))
 
-  -- and the last letters seen there are the word's
-  pub startsAt-seen : {m : Starts} → m ≡ startsOf (s .last) (s .second) (s .third) → m ≡ startsAt (chars w)
-  unfolding chars whole
-  startsAt-seen e = e ∙ test-seen startsOf w (whole w) is ∙ ap startsAt (behind-before w (length w) (length w))
+  -- a branch that may not begin with the last letter seen there keeps nothing
+  pub branch-out : (p : ℕ → Bool) (b : Command) → begins p b ≡ true → p (s .last) ≡ false → trace b (chars w) ≡ none
+  unfolding chars whole seenAt
+  branch-out p b e fails =
+      let last = ap (λ (x : Seen). x .last) is ∙ ap (λ (cs : List ℕ). getD cs 0 0) (behind-before w (length w) (length w)) in
+      trace-unfit p b (chars w) e (ap p (sym last) ∙ fails)
 
   module _ (b : Command) {r : Branch} (e : r ≡ cutTo w (s .c) (trace b (behind w (s .c)))) where
     -- a branch that does not fit keeps nothing

@@ -2,7 +2,7 @@
 -- a command answers by itself, and what one answers after a step. Assumes nothing.
 use Prim.Native.Nat.{ℕ}
 use mathlib.Core.Path.{_≡_, refl, sym, ap, ap₂, _∙_}
-use mathlib.Core.Bool.{Bool, true}
+use mathlib.Core.Bool.{Bool, true, false, _&&_, false≢true}
 use mathlib.Core.List.{List, [], _∷_, _++_, append-nil}
 use native.Mathlib.Nat.{add-zero}
 use native.Mathlib.Omega.{arith}
@@ -10,12 +10,12 @@ use lib.ListN.{drop}
 use Rattle.utf8.specs.declared.cursor.Cursor.{Cursor}
 use Rattle.utf8.specs.Steps.{moveTo}
 use Rattle.utf8.specs.Behind.{behind, backBy, deleted, Open}
+use Rattle.encoding.proofs.Laws.Booleans.{and-left, and-right}
 use Rattle.utf8.proofs.Laws.Behind.{behind-backBy, backBy-add, backBy-zero, open-backBy, open-deleted}
 use Rattle.theorems.specs.Simple.Harmony.{Found, nowhere, at}
-use Rattle.theorems.specs.Simple.Grammar.{Out, fail, took, Mark, markOf}
-use Rattle.theorems.specs.Simple.Pieces.{Taken, Trace, none, keeps, total, moreTrace, afterTrace, firstTrace, traceOut, traceOf}
+use Rattle.theorems.specs.Simple.Grammar.{Out, fail, took, Mark, markOf, Command, mark, _then_, _or_, nothing, unset}
+use Rattle.theorems.specs.Simple.Pieces.{Taken, Trace, none, keeps, total, moreTrace, afterTrace, firstTrace, traceOut, traceOf, trace}
 use Rattle.theorems.proofs.Laws.Traces.{total-append}
-use Rattle.letters.specs.Numbered.{numbered, firstOf}
 use Rattle.marks.specs.declared.marked.Marked.{Marked}
 use Rattle.marks.specs.declared.marked.Marked.the-variants.{To}
 use Rattle.letters.specs.declared.harmony.Accord.{Accord}
@@ -47,11 +47,23 @@ unfolding firstTrace
 one-first failing y = y
 one-first (single t f) y = single t f
 
--- and so is a group's
-one-group : (ks cs : List ℕ) → One (firstOf ks cs)
-unfolding firstOf traceOf
-one-group [] cs = failing
-one-group (k ∷ ks) cs = one-first (one-out (numbered k) cs (markOf (numbered k) cs)) (one-group ks cs)
+-- a command of marks alone, the first of which that fits is kept
+unfoldable pub onlyMarks : Command → Bool
+onlyMarks (mark m) = true
+onlyMarks (p then q) = false
+onlyMarks (p or q) = onlyMarks p && onlyMarks q
+onlyMarks nothing = false
+onlyMarks unset = false
+
+-- its answer is one
+one-group : (p : Command) (cs : List ℕ) → onlyMarks p ≡ true → One (trace p cs)
+unfolding onlyMarks trace traceOf
+one-group (mark m) cs e = one-out m cs (markOf m cs)
+one-group (p then q) cs e = absurd (false≢true e)
+one-group (p or q) cs e =
+    one-first (one-group p cs (and-left (onlyMarks p) (onlyMarks q) e)) (one-group q cs (and-right (onlyMarks p) (onlyMarks q) e))
+one-group nothing cs e = absurd (false≢true e)
+one-group unset cs e = absurd (false≢true e)
 
 -- ---- a step ----
 
@@ -83,10 +95,10 @@ pub steps-mark : (w : List ℕ) (c : Cursor) (m : Mark) {r : Marked} {d : Cursor
 unfolding traceOf
 steps-mark w c m = steps-one w c (one-out m (behind w c) (markOf m (behind w c)))
 
--- and a group, whichever way it is written
-pub steps-group : (w : List ℕ) (c : Cursor) (ks : List ℕ) {o : Trace} {r : Marked} {d : Cursor} {k : ℕ} {h : Accord} → firstOf ks (behind w c) ≡ o
-    → r ≡ reach w c (firstOf ks (behind w c)) → r ≡ To d k h → Steps w c o d k h
-steps-group w c ks same is to = rw same at (steps-one w c (one-group ks (behind w c)) is to)
+-- and a group
+pub steps-group : (w : List ℕ) (c : Cursor) (p : Command) → onlyMarks p ≡ true → {r : Marked} {d : Cursor} {k : ℕ} {h : Accord}
+    → r ≡ reach w c (trace p (behind w c)) → r ≡ To d k h → Steps w c (trace p (behind w c)) d k h
+steps-group w c p e = steps-one w c (one-group p (behind w c) e)
 
 -- ---- what a command answers ----
 

@@ -1,0 +1,48 @@
+-- `stages::stage::person` meets its contract: the first mark of the group that fits. Assumes nothing.
+use borrow.Author.Needs.{needs}
+use Rattle.theorems.specs.Simple.Pieces.{trace}
+use Rattle.marks.proofs.Laws.Marks.{reach-first, reach-next}
+use Rattle.stages.proofs.stage.person.Statement.{statement}
+use Rattle.stages.proofs.stage.person.Tie as tie
+
+returns : tie.Need-returns
+unfolding trace
+returns c =
+    reach-first _ _ _ _ (c .before .before .before .mark-sUnUz .ensures) (c .before .c .given .1)
+
+returns-2 : tie.Need-returns-2
+unfolding trace
+returns-2 c =
+    reach-next _ _ _ _ (c .before .before .before .before .before .before .mark-sUnUz .ensures) (c .before .before .before .before .enum-told .given .1)
+    (reach-first _ _ _ _ (c .before .before .before .mark-lAr .ensures) (c .before .c2 .given .1))
+
+returns-3 : tie.Need-returns-3
+unfolding trace
+returns-3 c =
+    reach-next _ _ _ _ (c .before .before .before .before .before .before .before .before .before .mark-sUnUz .ensures) (c .before .before .before .before .before .before .before .enum-told .given .1)
+    (reach-next _ _ _ _ (c .before .before .before .before .before .before .mark-lAr .ensures) (c .before .before .before .before .enum-told2 .given .1)
+    (reach-first _ _ _ _ (c .before .before .before .mark-yUm .ensures) (c .before .c3 .given .1)))
+
+returns-4 : tie.Need-returns-4
+unfolding trace
+returns-4 c =
+    reach-next _ _ _ _ (c .before .before .before .before .before .before .before .before .before .before .before .before .mark-sUnUz .ensures) (c .before .before .before .before .before .before .before .before .before .before .enum-told .given .1)
+    (reach-next _ _ _ _ (c .before .before .before .before .before .before .before .before .before .mark-lAr .ensures) (c .before .before .before .before .before .before .before .enum-told2 .given .1)
+    (reach-next _ _ _ _ (c .before .before .before .before .before .before .mark-yUm .ensures) (c .before .before .before .before .enum-told3 .given .1)
+    (reach-first _ _ _ _ (c .before .before .before .mark-sUn .ensures) (c .before .c4 .given .1))))
+
+returns-5 : tie.Need-returns-5
+unfolding trace
+returns-5 c =
+    reach-next _ _ _ _ (c .before .before .before .before .before .before .before .before .before .before .before .before .mark-sUnUz .ensures) (c .before .before .before .before .before .before .before .before .before .before .enum-told .given .1)
+    (reach-next _ _ _ _ (c .before .before .before .before .before .before .before .before .before .mark-lAr .ensures) (c .before .before .before .before .before .before .before .enum-told2 .given .1)
+    (reach-next _ _ _ _ (c .before .before .before .before .before .before .mark-yUm .ensures) (c .before .before .before .before .enum-told3 .given .1)
+    (reach-next _ _ _ _ (c .before .before .before .mark-sUn .ensures) (c .before .enum-told4 .given .1)
+    (c .mark-yUz .ensures))))
+
+pub person-spec : {M : Type 1} → statement M
+person-spec =
+    tie.close
+    (tie.spec (λ c κs. search needs) (λ c. search needs) returns (λ c. search needs) (λ c κs. search needs) (λ c. search needs) returns-2
+    (λ c. search needs) (λ c κs. search needs) (λ c. search needs) returns-3 (λ c. search needs) (λ c κs. search needs) (λ c. search needs)
+    returns-4 (λ c. search needs) (λ c κs. search needs) returns-5)
