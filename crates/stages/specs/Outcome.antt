@@ -1,6 +1,6 @@
 -- The suffix stage's answer on a word, as the code gives it. Assumes nothing.
 use Prim.Native.Nat.{ℕ}
-use mathlib.Core.Bool.{Bool, true, false}
+use mathlib.Core.Bool.{Bool}
 use mathlib.Core.List.{List}
 use lib.ListN.{length}
 use Rattle.utf8.specs.declared.cursor.Cursor.{Cursor}
@@ -9,10 +9,9 @@ use Rattle.theorems.specs.Simple.Pieces.{stageMarks}
 use Rattle.turkish.specs.Calls.{chars}
 use Rattle.stages.specs.declared.stage.Outcome.{Outcome}
 use Rattle.letters.specs.declared.harmony.Accord.{Accord}
-use Rattle.letters.specs.Accord.{asked, skips, noAccord}
+use Rattle.letters.specs.Accord.{asked, skips}
 use Rattle.stages.specs.declared.trail.Trail.{Trail}
-use Rattle.stages.specs.declared.trail.Way.{Way}
-use Rattle.stages.specs.Trail.{noTrail, trailOf, heardAlong}
+use Rattle.stages.specs.Trail.{trailOf, heardAlong}
 
 -- the record at the word's end
 unfoldable pub whole : List ℕ → Cursor
@@ -28,11 +27,3 @@ outcomeOf w =
     let s = stage (chars w) in
     let ts = stageMarks (chars w) in
     outcome (keptLength w) (s .yes) (s .flag) (trailOf w (whole w) ts) (heardAlong w (whole w) ts)
-
--- no ending: all n bytes are kept
-unfoldable pub uncut : ℕ → Outcome
-uncut n = outcome n false true noTrail noAccord
-
--- a branch taken: what stands before the record's limit is kept
-unfoldable pub cut : Cursor → Way → Bool → Outcome
-cut c y f = outcome (c .limit) true f (y .trail) (y .heard)

@@ -20,7 +20,7 @@ ghost use Rattle.letters.specs.Seen.{Sees};
 ghost use Rattle.marks.specs.Reach.{reach};
 ghost use Rattle.stages.specs.Groups.{personMark, personAlone, afterLAr, afterNUz, firstEnds, fifthEnds};
 ghost use Rattle.stages.specs.Trail.{along, cutTo};
-ghost use Rattle.stages.specs.Outcome.{outcomeOf, uncut, cut};
+ghost use Rattle.stages.specs.Outcome.{outcome, outcomeOf};
 
 // The place before which the text kept stands, whether an ending was removed, and the flag; whether a mark kept tests harmony, for the first
 // that does the places of the two vowels, and whether a vowel was skipped between them; and the marks kept.
@@ -36,31 +36,15 @@ pub struct Outcome {
 }
 
 impl Outcome {
-    // No ending: all n bytes are kept.
-    fn uncut(n: usize) -> Outcome
-        ensures { λ r. ⌜ r ≡ uncut n ⌝ }
-    {
-        Outcome {
-            kept: n,
-            yes: false,
-            flag: true,
-            harmonic: false,
-            last: 0,
-            partner: 0,
-            loan: false,
-            trail: Trail::NONE,
-        }
-    }
-
-    // A branch taken: what stands before the record's limit is kept.
-    fn cut(c: Cursor, way: Way, flag: bool) -> Outcome
-        ensures { λ r. ⌜ r ≡ cut c way flag ⌝ }
+    // So many bytes kept, with the answers and what was kept on the way.
+    fn of(kept: usize, yes: bool, flag: bool, way: Way) -> Outcome
+        ensures { λ r. ⌜ r ≡ outcome kept yes flag (way .trail) (way .heard) ⌝ }
     {
         let trail = way.trail;
         let h = way.heard;
         Outcome {
-            kept: c.limit,
-            yes: true,
+            kept,
+            yes,
             flag,
             harmonic: h.asked(),
             last: h.last,
@@ -302,33 +286,33 @@ pub fn stem_nominal_verb_suffixes(w: &[u8]) -> Outcome
     let last = s.last;
     if ends_first(last) {
         if let Branch::Fits(c, way) = first_branch(w, s) {
-            return Outcome::cut(c, way, true);
+            return Outcome::of(c.limit, true, true, way); // line 314
         }
     }
     if ends::is_A(last) {
         if let Branch::Fits(c, way) = second_branch(w, s) {
-            return Outcome::cut(c, way, true);
+            return Outcome::of(c.limit, true, true, way); // line 316
         }
     }
     if last == 0x72 {
         if let Branch::Fits(c, way) = third_branch(w, s) {
-            return Outcome::cut(c, way, false);
+            return Outcome::of(c.limit, true, false, way); // line 318
         }
     }
     if last == 0x7A {
         if let Branch::Fits(c, way) = fourth_branch(w, s) {
-            return Outcome::cut(c, way, true);
+            return Outcome::of(c.limit, true, true, way); // line 323
         }
     }
     if ends_fifth(last) {
         if let Branch::Fits(c, way) = fifth_branch(w, s) {
-            return Outcome::cut(c, way, true);
+            return Outcome::of(c.limit, true, true, way); // line 325
         }
     }
     if last == 0x72 {
         if let Branch::Fits(c, way) = sixth_branch(w, s) {
-            return Outcome::cut(c, way, true);
+            return Outcome::of(c.limit, true, true, way); // line 327
         }
     }
-    Outcome::uncut(n)
+    Outcome::of(n, false, true, Way::NONE)
 }

@@ -21,6 +21,7 @@ use Rattle.turkish.specs.Calls.{chars}
 use Rattle.theorems.proofs.Laws.Outcome.{Flagged, unfit, fits}
 use Rattle.theorems.proofs.Laws.Traces.{run-trace}
 use Rattle.letters.specs.declared.harmony.Accord.{Accord}
+use Rattle.letters.specs.Accord.{noAccord}
 use Rattle.letters.specs.declared.seen.Seen.{Seen}
 use Rattle.letters.specs.Seen.{seenAt}
 use Rattle.theorems.proofs.Laws.Tests.{every}
@@ -34,8 +35,8 @@ use Rattle.stages.specs.declared.trail.Way.{Way}
 use Rattle.stages.specs.declared.trail.Branch.{Branch}
 use Rattle.stages.specs.declared.trail.Branch.the-variants.{Fits, Unfit}
 use Rattle.stages.specs.Groups.{personMark, firstEnds, fifthEnds}
-use Rattle.stages.specs.Trail.{trailOf, heardAlong, wayOf, along, cutTo}
-use Rattle.stages.specs.Outcome.{whole, outcomeOf, uncut, cut}
+use Rattle.stages.specs.Trail.{noTrail, trailOf, heardAlong, wayOf, along, cutTo}
+use Rattle.stages.specs.Outcome.{whole, outcome, outcomeOf}
 use Rattle.stages.proofs.Laws.Trails.{Steps, onlyMarks, steps-group, first-step, fits-unfit}
 
 -- `unset` after the second of two commands cuts no more
@@ -160,14 +161,14 @@ cut-unfit w c (keeps ts f) is fails = fits-unfit is fails
 
 -- the stage's answer where a branch fits
 outcome-keeps : (w : List ℕ) {o : Trace} {f : Bool} {d : Cursor} {t : Way} (a : Cut w (whole w) o f d t) → trace branches (chars w) ≡ keeps (a .marks) f
-    → cut d t f ≡ outcomeOf w
-unfolding outcomeOf keptLength stage staged stageMarks takenOf summed cut whole wayOf
+    → outcome (d .limit) true f (t .trail) (t .heard) ≡ outcomeOf w
+unfolding outcomeOf keptLength stage staged stageMarks takenOf summed whole wayOf
 outcome-keeps w a e =
     rw (run-trace branches (chars w), e, a .there, a .along-is, backBy-back w (length w) (length w) (total (a .marks)))
 
 -- and where none does
-pub outcome-none : (w : List ℕ) → trace branches (chars w) ≡ none → uncut (length w) ≡ outcomeOf w
-unfolding outcomeOf keptLength stage staged stageMarks takenOf summed back trailOf heardAlong uncut
+pub outcome-none : (w : List ℕ) → trace branches (chars w) ≡ none → outcome (length w) false true noTrail noAccord ≡ outcomeOf w
+unfolding outcomeOf keptLength stage staged stageMarks takenOf summed back trailOf heardAlong
 outcome-none w e = rw (run-trace branches (chars w), e)
 
 -- ---- at the word's end ----
@@ -201,10 +202,10 @@ module _ (w : List ℕ) {s : Seen} (is : s ≡ seenAt w (whole w)) where
       cuts = cut-fits w (whole w) (trace b (chars w)) (rw (run-trace b (chars w)) at flag) (at-end b e) to
 
       -- the stage's answer where it is the last one left
-      pub outcome-last : trace branches (chars w) ≡ trace b (chars w) → cut d t f ≡ outcomeOf w
+      pub outcome-last : trace branches (chars w) ≡ trace b (chars w) → outcome (d .limit) true f (t .trail) (t .heard) ≡ outcomeOf w
       outcome-last left = outcome-keeps w cuts (left ∙ cuts .keeps-is)
 
       -- or one before others
-      pub outcome-cut : (q : Command) → trace branches (chars w) ≡ trace (b or q) (chars w) → cut d t f ≡ outcomeOf w
+      pub outcome-cut : (q : Command) → trace branches (chars w) ≡ trace (b or q) (chars w) → outcome (d .limit) true f (t .trail) (t .heard) ≡ outcomeOf w
       unfolding trace firstTrace
       outcome-cut q left = outcome-keeps w cuts (left ∙ ap (λ (o : Trace). firstTrace o (trace q (chars w))) (cuts .keeps-is))

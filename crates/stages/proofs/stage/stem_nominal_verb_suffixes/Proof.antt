@@ -16,11 +16,13 @@ use Rattle.theorems.specs.Simple.Stage.{branch1, branch2, branch3, branch4, bra
 use Rattle.theorems.specs.Simple.Pieces.{none, trace}
 use Rattle.turkish.specs.Calls.{chars}
 use Rattle.theorems.proofs.Laws.Flag.{branch1-keeps, branch2-keeps, branch3-lowers, branch4-keeps, branch5-keeps, branch6-keeps}
+use Rattle.letters.specs.Accord.{noAccord}
 use Rattle.letters.specs.Ends.{isA}
 use Rattle.letters.specs.Seen.{seenAt, Sees}
 use Rattle.letters.proofs.Laws.Sees.{sees-made}
 use Rattle.stages.specs.Groups.{firstEnds, fifthEnds}
 use Rattle.stages.specs.Outcome.{whole}
+use Rattle.stages.specs.Trail.{noStop, noTrail}
 use Rattle.stages.proofs.Laws.Branches.{first-begins, second-begins, third-begins, fourth-begins, fifth-begins, sixth-begins, passed-over}
 use Rattle.stages.proofs.Laws.Branches.{open-whole, branch-out, branch-unfit, outcome-none, outcome-last, outcome-cut}
 use Rattle.stages.proofs.stage.stem_nominal_verb_suffixes.Statement.{statement}
@@ -132,45 +134,46 @@ returns c =
     let a = c .before .before in
     let b = c .before .before .before .before in
     let j = c .before .before .before .before .before .before in
-    c .cut .ensures ∙ outcome-cut _ (ended (end1 j)) branch1 (b .first-branch .ensures) (branch1-keeps _) (a .c .given .1) _ (left1 j)
+    c .of .ensures ∙ outcome-cut _ (ended (end1 j)) branch1 (b .first-branch .ensures) (branch1-keeps _) (a .c .given .1) _ (left1 j)
 
 returns-2 : tie.Need-returns-2
 returns-2 c =
     let a = c .before .before in
     let b = c .before .before .before .before in
     let j = c .before .before .before .before .before .before .before in
-    c .cut2 .ensures ∙ outcome-cut _ (ended (end2 j)) branch2 (b .second-branch .ensures) (branch2-keeps _) (a .c2 .given .1) _ (left2 j)
+    c .of2 .ensures ∙ outcome-cut _ (ended (end2 j)) branch2 (b .second-branch .ensures) (branch2-keeps _) (a .c2 .given .1) _ (left2 j)
 
 returns-3 : tie.Need-returns-3
 returns-3 c =
     let a = c .before .before in
     let b = c .before .before .before .before in
     let j = c .before .before .before .before .before .before in
-    c .cut3 .ensures ∙ outcome-cut _ (ended (end3 j)) branch3 (b .third-branch .ensures) (branch3-lowers _) (a .c3 .given .1) _ (left3 j)
+    c .of3 .ensures ∙ outcome-cut _ (ended (end3 j)) branch3 (b .third-branch .ensures) (branch3-lowers _) (a .c3 .given .1) _ (left3 j)
 
 returns-4 : tie.Need-returns-4
 returns-4 c =
     let a = c .before .before in
     let b = c .before .before .before .before in
     let j = c .before .before .before .before .before .before in
-    c .cut4 .ensures ∙ outcome-cut _ (ended (end4 j)) branch4 (b .fourth-branch .ensures) (branch4-keeps _) (a .c4 .given .1) _ (left4 j)
+    c .of4 .ensures ∙ outcome-cut _ (ended (end4 j)) branch4 (b .fourth-branch .ensures) (branch4-keeps _) (a .c4 .given .1) _ (left4 j)
 
 returns-5 : tie.Need-returns-5
 returns-5 c =
     let a = c .before .before in
     let b = c .before .before .before .before in
     let j = c .before .before .before .before .before .before .before in
-    c .cut5 .ensures ∙ outcome-cut _ (ended (end5 j)) branch5 (b .fifth-branch .ensures) (branch5-keeps _) (a .c5 .given .1) _ (left5 j)
+    c .of5 .ensures ∙ outcome-cut _ (ended (end5 j)) branch5 (b .fifth-branch .ensures) (branch5-keeps _) (a .c5 .given .1) _ (left5 j)
 
 returns-6 : tie.Need-returns-6
 returns-6 c =
     let a = c .before .before in
     let b = c .before .before .before .before in
     let j = c .before .before .before .before .before .before in
-    c .cut6 .ensures ∙ outcome-last _ (ended (end6 j)) branch6 (b .sixth-branch .ensures) (branch6-keeps _) (a .c6 .given .1) (left6 j)
+    c .of6 .ensures ∙ outcome-last _ (ended (end6 j)) branch6 (b .sixth-branch .ensures) (branch6-keeps _) (a .c6 .given .1) (left6 j)
 
 returns-7 : tie.Need-returns-7
-returns-7 c = c .uncut .ensures ∙ outcome-none _ (left7 (c .before))
+unfolding noTrail noStop noAccord
+returns-7 c = c .of7 .ensures ∙ outcome-none _ (left7 (c .before))
 
 pub stem-nominal-verb-suffixes-spec : {M : Type 1} → statement M
 stem-nominal-verb-suffixes-spec =
