@@ -1,6 +1,7 @@
 // The marks of the suffix stage (turkish.rs, `r_mark_yUm` to `r_mark_yken`), numbered 1 to 12 in the order of document 01's mark tables with
 // yken last. Each takes the word and what is seen from a record, searches its own table, and answers the record moved back, its number and what
-// its harmony test found. Before the search only the last letter is tested: most marks fail by it.
+// its harmony test found. Before the search only the last letter is tested: most marks fail by it. Beside a search that fails stands a word that
+// has the last letter and no key.
 use crate::marked::Marked;
 use crate::tables;
 use letters::among::Among;
@@ -62,7 +63,7 @@ pub fn mark_yUm(w: &[u8], s: Seen) -> Marked
         return Marked::Fails;
     }
     let Among::Key(_, d) = find_among_b(w, s, &tables::A_12, 2) else {
-        return Marked::Fails;
+        return Marked::Fails; // adam
     };
     let p = mark_suffix_with_optional_consonant(w, d, 0x79);
     Marked::kept_in_harmony(w, s.c, YUM, p)
@@ -76,9 +77,9 @@ pub fn mark_sUn(w: &[u8], s: Seen) -> Marked
         return Marked::Fails;
     }
     let Among::Key(_, d) = find_among_b(w, s, &tables::A_13, 3) else {
-        return Marked::Fails;
+        return Marked::Fails; // insan
     };
-    Marked::kept_in_harmony(w, s.c, SUN, Passed::to(d.cursor))
+    Marked::in_harmony(w, s.c, SUN, d.cursor)
 }
 
 pub fn mark_yUz(w: &[u8], s: Seen) -> Marked
@@ -89,7 +90,7 @@ pub fn mark_yUz(w: &[u8], s: Seen) -> Marked
         return Marked::Fails;
     }
     let Among::Key(_, d) = find_among_b(w, s, &tables::A_14, 2) else {
-        return Marked::Fails;
+        return Marked::Fails; // kaz
     };
     let p = mark_suffix_with_optional_consonant(w, d, 0x79);
     Marked::kept_in_harmony(w, s.c, YUZ, p)
@@ -103,7 +104,7 @@ pub fn mark_sUnUz(w: &[u8], s: Seen) -> Marked
         return Marked::Fails;
     }
     let Among::Key(_, d) = find_among_b(w, s, &tables::A_15, 5) else {
-        return Marked::Fails;
+        return Marked::Fails; // deniz
     };
     Marked::kept(s.c, SUNUZ, Passed::to(d.cursor))
 }
@@ -116,9 +117,9 @@ pub fn mark_lAr(w: &[u8], s: Seen) -> Marked
         return Marked::Fails;
     }
     let Among::Key(_, d) = find_among_b(w, s, &tables::A_16, 3) else {
-        return Marked::Fails;
+        return Marked::Fails; // bahar
     };
-    Marked::kept_in_harmony(w, s.c, LAR, Passed::to(d.cursor))
+    Marked::in_harmony(w, s.c, LAR, d.cursor)
 }
 
 pub fn mark_nUz(w: &[u8], s: Seen) -> Marked
@@ -129,9 +130,9 @@ pub fn mark_nUz(w: &[u8], s: Seen) -> Marked
         return Marked::Fails;
     }
     let Among::Key(_, d) = find_among_b(w, s, &tables::A_17, 3) else {
-        return Marked::Fails;
+        return Marked::Fails; // yaz
     };
-    Marked::kept_in_harmony(w, s.c, NUZ, Passed::to(d.cursor))
+    Marked::in_harmony(w, s.c, NUZ, d.cursor)
 }
 
 pub fn mark_DUr(w: &[u8], s: Seen) -> Marked
@@ -142,9 +143,9 @@ pub fn mark_DUr(w: &[u8], s: Seen) -> Marked
         return Marked::Fails;
     }
     let Among::Key(_, d) = find_among_b(w, s, &tables::A_18, 3) else {
-        return Marked::Fails;
+        return Marked::Fails; // kar
     };
-    Marked::kept_in_harmony(w, s.c, DUR, Passed::to(d.cursor))
+    Marked::in_harmony(w, s.c, DUR, d.cursor)
 }
 
 pub fn mark_cAsInA(w: &[u8], s: Seen) -> Marked
@@ -155,7 +156,7 @@ pub fn mark_cAsInA(w: &[u8], s: Seen) -> Marked
         return Marked::Fails;
     }
     let Among::Key(_, d) = find_among_b(w, s, &tables::A_19, 6) else {
-        return Marked::Fails;
+        return Marked::Fails; // masa
     };
     Marked::kept(s.c, CASINA, Passed::to(d.cursor))
 }
@@ -197,7 +198,7 @@ pub fn mark_ysA(w: &[u8], s: Seen) -> Marked
         return Marked::Fails;
     }
     let Among::Key(_, d) = find_among_b(w, s, &tables::A_21, 3) else {
-        return Marked::Fails;
+        return Marked::Fails; // araba
     };
     let p = mark_suffix_with_optional_consonant(w, d, 0x79);
     Marked::kept(s.c, YSA, p)
@@ -211,7 +212,7 @@ pub fn mark_ymUs_(w: &[u8], s: Seen) -> Marked
         return Marked::Fails;
     }
     let Among::Key(_, d) = find_among_b(w, s, &tables::A_22, 3) else {
-        return Marked::Fails;
+        return Marked::Fails; // kış
     };
     let p = mark_suffix_with_optional_consonant(w, d, 0x79);
     Marked::kept_in_harmony(w, s.c, YMUS, p)

@@ -5,6 +5,7 @@ use letters::passed::Passed;
 use utf8::cursor::Cursor;
 ghost use mathlib.Core.Path.{_≡_};
 ghost use Rattle.utf8.specs.Behind.{Open};
+ghost use Rattle.letters.specs.Passed.{passedTo};
 ghost use Rattle.marks.specs.Reach.{kept, keptInHarmony, placeOf};
 
 pub enum Marked {
@@ -23,8 +24,7 @@ impl Marked {
         Marked::To(c.moved_to(p.at), kind, Accord::UNASKED)
     }
 
-    // A mark that tests harmony, which is walked for only where its key and what joins it fit: all must hold, so the answer is the same as in the
-    // Rust, which tests harmony first.
+    // The same of a mark that tests harmony.
     pub fn kept_in_harmony(w: &[u8], c: Cursor, kind: u32, p: Passed) -> Marked
         requires { ⌜ Open (now w) c ⌝ }
         ensures { λ r. ⌜ r ≡ keptInHarmony (now (w .entry)) c kind p ⌝ }
@@ -32,11 +32,20 @@ impl Marked {
         if !p.moved {
             return Marked::Fails;
         }
+        Marked::in_harmony(w, c, kind, p.at)
+    }
+
+    // A mark that tests harmony and goes to a place. Harmony is walked for only here, where all else fits: all must hold, so the answer is the
+    // same as in the Rust, which tests harmony first. With many callers this stays a function of its own, and the tests before it are inlined.
+    pub fn in_harmony(w: &[u8], c: Cursor, kind: u32, at: usize) -> Marked
+        requires { ⌜ Open (now w) c ⌝ }
+        ensures { λ r. ⌜ r ≡ keptInHarmony (now (w .entry)) c kind (passedTo at) ⌝ }
+    {
         let heard = harmony::listen(w, c);
         if !heard.holds() {
             return Marked::Fails;
         }
-        Marked::To(c.moved_to(p.at), kind, heard)
+        Marked::To(c.moved_to(at), kind, heard)
     }
 
     // How far it went alone.

@@ -29,11 +29,11 @@ returns-2 c = mark-nothing nUz (nUz .keys) _ _ refl (searched (c .before .before
 returns-3 : tie.Need-returns-3
 unfolding unjoined nUz marked
 returns-3 c =
-    let p = key-alone nUz (nUz .keys) _ _ refl (searched (c .before .before .before .before .before)) (c .before .before .before .d .given .1) refl (c .before .to .ensures) in
-    mark-in-harmony nUz _ _ p refl (c .kept-in-harmony .ensures)
+    let p = key-alone nUz (nUz .keys) _ _ refl (searched (c .before .before .before .before)) (c .before .before .d .given .1) refl refl in
+    mark-in-harmony nUz _ _ p refl (c .in-harmony .ensures)
 
 pub mark-nUz-spec : {M : Type 1} → statement M
 mark-nUz-spec =
     tie.close
     (tie.spec returns (λ c. search needs) (λ c κs. search needs) (λ c. search needs) (λ c. search needs) returns-2 (λ c κs. search needs)
-    (λ c κs. search needs) returns-3)
+    returns-3)
