@@ -113,13 +113,14 @@ pub fn mark_lAr(w: &[u8], s: Seen) -> Marked
     requires { ⌜ Sees (now w) s ⌝ }
     ensures { λ r. ⌜ r ≡ reach (now (w .entry)) (s .c) (traceOf lAr (behind (now (w .entry)) (s .c))) ⌝ }
 {
+    let c = s.c;
     if s.last != 0x72 {
         return Marked::Fails;
     }
     let Among::Key(_, d) = find_among_b(w, s, &tables::A_16, 3) else {
         return Marked::Fails; // bahar
     };
-    Marked::in_harmony(w, s.c, LAR, d.cursor)
+    Marked::in_harmony(w, c, LAR, d.cursor)
 }
 
 pub fn mark_nUz(w: &[u8], s: Seen) -> Marked

@@ -15,13 +15,13 @@ use Rattle.marks.proofs.mark.mark_lAr.Statement.{statement}
 use Rattle.marks.proofs.mark.mark_lAr.Tie as tie
 
 -- the table computes to the mark's keys
-searched : (c : tie.After-find-among-b) → let s = c .before .before .before .before .before in c .find-among-b .result ≡ found (lAr .keys) (now (s .args .w)) (s .args .s .c)
+searched : (c : tie.After-find-among-b) → let s = c .before .before .before .before .before .before in c .find-among-b .result ≡ found (lAr .keys) (now (s .args .w)) (s .args .s .c)
 unfolding rows rowsWithin row upToZero lAr marked fromEnd text
 searched c = c .find-among-b .ensures
 
 returns : tie.Need-returns
 unfolding begins every lastPasses lAr marked fromEnd text
-returns c = let s = c .before .before .before in mark-unfit lAr (λ a. eqb a 0x72) refl _ (s .args .s) (s .pre) (ne-eqb _ 0x72 (c .if1 .taken))
+returns c = let s = c .before .before .before .before in mark-unfit lAr (λ a. eqb a 0x72) refl _ (s .args .s) (s .pre) (ne-eqb _ 0x72 (c .if1 .taken))
 
 returns-2 : tie.Need-returns-2
 returns-2 c = mark-nothing lAr (lAr .keys) _ _ refl (searched (c .before .before)) (c .enum-told .given .1)
