@@ -1,10 +1,8 @@
 -- The noun stage's answer on a word, as the code gives it, and its alternatives by their parts. Assumes nothing.
 use Prim.Native.Nat.{ℕ, _+_}
-use Prim.Native.Char.{code}
-use mathlib.Core.Bool.{true, false, cond, _||_}
+use mathlib.Core.Bool.{true, false}
 use mathlib.Core.List.{List}
 use lib.ListN.{drop}
-use lib.Dec.{eqb}
 use Rattle.utf8.specs.declared.cursor.Cursor.{Cursor}
 use Rattle.utf8.specs.Characters.{before}
 use Rattle.utf8.specs.Behind.{backBy}
@@ -13,10 +11,6 @@ use Rattle.theorems.specs.Simple.Marks.{lAr}
 use Rattle.theorems.specs.Simple.NounMarks.{possessives, lArI, yU, nU, nUn, yA, DA, ndAn, ylA}
 use Rattle.theorems.specs.Simple.Nouns.{Taking, both, either, perhaps, plural, possessed, owned, ownedBySU, chain, afterNdAn, afterDAn, afterNUn, afterDA, pronominal, afterPronominal}
 use Rattle.theorems.specs.Simple.Nouns.{Rest, whole, cut, parted, cutBy, partedBy, nounRest}
-use Rattle.letters.specs.declared.harmony.Told.{Told}
-use Rattle.letters.specs.declared.seen.Seen.{Seen}
-use Rattle.letters.specs.Ends.{isA, isU}
-use Rattle.letters.specs.Told.{toldAt, unasked}
 use Rattle.nouns.specs.declared.stage.Uninflected.{Uninflected}
 
 -- ---- the parts of the alternatives ----
@@ -65,12 +59,6 @@ laterLines =
 -- lines 374 to 380
 unfoldable pub pronominalRest : List ℕ → Rest
 pronominalRest cs = cutBy (afterPronominal cs) (partedBy (pronominal cs) (λ j. chain (drop j cs)) whole)
-
--- ---- harmony ----
-
--- at the text's end it is asked for where the last letter is one of a mark that tests it
-unfoldable pub nounTold : List ℕ → Seen → Told
-nounTold w s = cond ((isA (s .last) || isU (s .last)) || (eqb (s .last) (code "n") || eqb (s .last) (code "r"))) (toldAt w (s .c)) unasked
 
 -- ---- what is left ----
 

@@ -1,5 +1,5 @@
-// The chain before `ki` (turkish.rs, `r_stem_suffix_chain_before_ki`). There it calls itself; each call that can be reached is its last act, under
-// `try`, so it is a loop here.
+// The chain before `ki` (turkish.rs, `r_stem_suffix_chain_before_ki`), which calls itself: each turn that calls has taken `ki`, so the cursor falls.
+// The calls of a turn are under `try` and its last act, so they stand here in one place.
 use crate::link;
 use crate::link::Link;
 use utf8::cursor::Cursor;
@@ -13,12 +13,9 @@ pub fn stem_suffix_chain_before_ki(w: &[u8], c: Cursor) -> usize
     requires { ⌜ Open (now w) c ⌝ }
     ensures { λ r. ⌜ r ≡ placeAfter (now (w .entry)) c (perhaps chain (behind (now (w .entry)) c)) ⌝ }
 {
-    let mut at = c.cursor;
-    loop {
-        match link::one_link(w, c.moved_to(at)) {
-            Link::Unfit => return at,
-            Link::Ends(p) => return p,
-            Link::Calls(p) => at = p,
-        }
+    match link::one_link(w, c) {
+        Link::Unfit => c.cursor,
+        Link::Ends(p) => p,
+        Link::Calls(p) => stem_suffix_chain_before_ki(w, c.moved_to(p)),
     }
 }

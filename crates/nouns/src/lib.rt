@@ -3,5 +3,4 @@ mod chain;
 mod link;
 mod mark;
 pub mod stage;
-mod tabled;
 mod tables;

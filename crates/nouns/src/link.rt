@@ -1,8 +1,8 @@
 // One turn of the chain before `ki` (turkish.rs, `r_stem_suffix_chain_before_ki`, up to where it calls itself). Line 351's ndA is left out:
 // it fails wherever DA does.
 use crate::mark;
-use letters::harmony::Told;
 use letters::seen;
+use marks::mark::mark_lAr;
 use utf8::cursor::Cursor;
 ghost use mathlib.Core.Path.{_≡_};
 ghost use Rattle.utf8.specs.Behind.{behind, Open};
@@ -20,7 +20,7 @@ fn before_possessive(w: &[u8], c: Cursor) -> Link
     requires { ⌜ Open (now w) c ⌝ }
     ensures { λ r. ⌜ r ≡ linked (now (w .entry)) c (beforeLAr (behind (now (w .entry)) c)) ⌝ }
 {
-    let p = mark::mark_lAr(w, seen::look_back(w, c), Told::UNASKED);
+    let p = mark_lAr(w, seen::look_back(w, c)).place();
     if p.moved {
         return Link::Calls(p.at);
     }
@@ -33,11 +33,11 @@ fn before_DA(w: &[u8], c: Cursor) -> Link
     ensures { λ r. ⌜ r ≡ linked (now (w .entry)) c (beforeDA (behind (now (w .entry)) c)) ⌝ }
 {
     let s = seen::look_back(w, c);
-    let p = mark::mark_lAr(w, s, Told::UNASKED);
+    let p = mark_lAr(w, s).place();
     if p.moved {
         return Link::Calls(p.at);
     }
-    let q = mark::mark_possessives(w, s);
+    let q = mark::mark_possessives(w, s).place();
     if q.moved {
         return before_possessive(w, c.moved_to(q.at));
     }
@@ -50,15 +50,15 @@ fn before_nUn(w: &[u8], c: Cursor) -> Link
     ensures { λ r. ⌜ r ≡ linked (now (w .entry)) c (beforeNUn (behind (now (w .entry)) c)) ⌝ }
 {
     let s = seen::look_back(w, c);
-    let p = mark::mark_lArI(w, s);
+    let p = mark::mark_lArI(w, s).place();
     if p.moved {
         return Link::Ends(p.at);
     }
-    let q = mark::mark_possessives(w, s);
+    let q = mark::mark_possessives(w, s).place();
     if q.moved {
         return before_possessive(w, c.moved_to(q.at));
     }
-    let r = mark::mark_sU(w, s, Told::UNASKED);
+    let r = mark::mark_sU(w, s).place();
     if r.moved {
         return before_possessive(w, c.moved_to(r.at));
     }
@@ -70,17 +70,17 @@ pub fn one_link(w: &[u8], c: Cursor) -> Link
     requires { ⌜ Open (now w) c ⌝ }
     ensures { λ r. ⌜ r ≡ linked (now (w .entry)) c (linkOf (behind (now (w .entry)) c)) ⌝ }
 {
-    let k = mark::mark_ki(w, seen::look_back(w, c));
+    let k = mark::mark_ki(w, seen::look_back(w, c)).place();
     if !k.moved {
         return Link::Unfit;
     }
     let d = c.moved_to(k.at);
     let s = seen::look_back(w, d);
-    let p = mark::mark_DA(w, s, Told::UNASKED);
+    let p = mark::mark_DA(w, s).place();
     if p.moved {
         return before_DA(w, d.moved_to(p.at));
     }
-    let q = mark::mark_nUn(w, s, Told::UNASKED);
+    let q = mark::mark_nUn(w, s).place();
     if q.moved {
         return before_nUn(w, d.moved_to(q.at));
     }

@@ -1,191 +1,176 @@
-// The marks of the noun stage (turkish.rs, `r_mark_possessives` to `r_mark_ncA`, and `r_mark_lAr`). Each takes the word and what is seen from
-// a record and answers the place that it came to. The last letters are tested before the table is searched: most marks fail by them.
-use crate::tabled::mark_of;
+// The marks of the noun stage (turkish.rs, `r_mark_possessives` to `r_mark_ncA`); its `r_mark_lAr` is the suffix stage's. Each takes the word and
+// what is seen from a record, searches its own table, with no test before that, and answers the record moved back and what its harmony test found.
 use crate::tables;
-use letters::ends;
-use letters::harmony::Told;
-use letters::joint::Joint;
+use letters::among::Among;
+use letters::among::find_among_b;
+use letters::joint::mark_suffix_with_optional_U_vowel;
+use letters::joint::mark_suffix_with_optional_consonant;
 use letters::passed::Passed;
 use letters::seen::Seen;
-use marks::tables::A_16;
+use marks::marked::Marked;
 ghost use mathlib.Core.Path.{_≡_};
 ghost use Rattle.utf8.specs.Behind.{behind};
-ghost use Rattle.theorems.specs.Simple.Grammar.{markOf};
-ghost use Rattle.theorems.specs.Simple.Marks.{lAr};
 ghost use Rattle.theorems.specs.Simple.NounMarks.{possessives, sU, lArI, yU, nU, nUn, yA, nA, DA, ndA, DAn, ndAn, ylA, ki, ncA};
+ghost use Rattle.theorems.specs.Simple.Pieces.{traceOf};
 ghost use Rattle.letters.specs.Seen.{Sees};
-ghost use Rattle.letters.specs.Told.{Hears};
-ghost use Rattle.letters.specs.Passed.{passes};
+ghost use Rattle.marks.specs.Reach.{reach};
 
-pub fn mark_possessives(w: &[u8], s: Seen) -> Passed
+// The number of a mark that has none: no piece is one of these.
+const UNNUMBERED: u32 = 0;
+
+pub fn mark_possessives(w: &[u8], s: Seen) -> Marked
     requires { ⌜ Sees (now w) s ⌝ }
-    ensures { λ r. ⌜ r ≡ passes (now (w .entry)) (s .c) (markOf possessives (behind (now (w .entry)) (s .c))) ⌝ }
+    ensures { λ r. ⌜ r ≡ reach (now (w .entry)) (s .c) (traceOf possessives (behind (now (w .entry)) (s .c))) ⌝ }
 {
-    if !(((s.last == 0x6D) | (s.last == 0x6E)) | (s.last == 0x7A)) {
-        return Passed::NOT;
-    }
-    mark_of(w, s, Told::UNASKED, &tables::A_0, 3, Joint::U, false)
+    let Among::Key(_, d) = find_among_b(w, s, &tables::A_0, 3) else {
+        return Marked::Fails;
+    };
+    let p = mark_suffix_with_optional_U_vowel(w, d);
+    Marked::kept(s.c, UNNUMBERED, p)
 }
 
-pub fn mark_sU(w: &[u8], s: Seen, told: Told) -> Passed
+pub fn mark_sU(w: &[u8], s: Seen) -> Marked
     requires { ⌜ Sees (now w) s ⌝ }
-    requires { ⌜ Hears (now w) (s .c) told ⌝ }
-    ensures { λ r. ⌜ r ≡ passes (now (w .entry)) (s .c) (markOf sU (behind (now (w .entry)) (s .c))) ⌝ }
+    ensures { λ r. ⌜ r ≡ reach (now (w .entry)) (s .c) (traceOf sU (behind (now (w .entry)) (s .c))) ⌝ }
 {
-    if !ends::is_U(s.last) {
-        return Passed::NOT;
-    }
-    mark_of(w, s, told, &tables::U, 1, Joint::S, true)
+    let Among::Key(_, d) = find_among_b(w, s, &tables::U, 1) else {
+        return Marked::Fails;
+    };
+    let p = mark_suffix_with_optional_consonant(w, d, 0x73);
+    Marked::kept_in_harmony(w, s.c, UNNUMBERED, p)
 }
 
-pub fn mark_lArI(w: &[u8], s: Seen) -> Passed
+pub fn mark_lArI(w: &[u8], s: Seen) -> Marked
     requires { ⌜ Sees (now w) s ⌝ }
-    ensures { λ r. ⌜ r ≡ passes (now (w .entry)) (s .c) (markOf lArI (behind (now (w .entry)) (s .c))) ⌝ }
+    ensures { λ r. ⌜ r ≡ reach (now (w .entry)) (s .c) (traceOf lArI (behind (now (w .entry)) (s .c))) ⌝ }
 {
-    if !(ends::is_U(s.last) & ((s.second == 0x72) & ends::is_A(s.third))) {
-        return Passed::NOT;
-    }
-    mark_of(w, s, Told::UNASKED, &tables::A_1, 4, Joint::Unjoined, false)
+    let Among::Key(_, d) = find_among_b(w, s, &tables::A_1, 4) else {
+        return Marked::Fails;
+    };
+    Marked::kept(s.c, UNNUMBERED, Passed::to(d.cursor))
 }
 
-pub fn mark_yU(w: &[u8], s: Seen, told: Told) -> Passed
+pub fn mark_yU(w: &[u8], s: Seen) -> Marked
     requires { ⌜ Sees (now w) s ⌝ }
-    requires { ⌜ Hears (now w) (s .c) told ⌝ }
-    ensures { λ r. ⌜ r ≡ passes (now (w .entry)) (s .c) (markOf yU (behind (now (w .entry)) (s .c))) ⌝ }
+    ensures { λ r. ⌜ r ≡ reach (now (w .entry)) (s .c) (traceOf yU (behind (now (w .entry)) (s .c))) ⌝ }
 {
-    if !ends::is_U(s.last) {
-        return Passed::NOT;
-    }
-    mark_of(w, s, told, &tables::U, 1, Joint::Y, true)
+    let Among::Key(_, d) = find_among_b(w, s, &tables::U, 1) else {
+        return Marked::Fails;
+    };
+    let p = mark_suffix_with_optional_consonant(w, d, 0x79);
+    Marked::kept_in_harmony(w, s.c, UNNUMBERED, p)
 }
 
-pub fn mark_nU(w: &[u8], s: Seen, told: Told) -> Passed
+pub fn mark_nU(w: &[u8], s: Seen) -> Marked
     requires { ⌜ Sees (now w) s ⌝ }
-    requires { ⌜ Hears (now w) (s .c) told ⌝ }
-    ensures { λ r. ⌜ r ≡ passes (now (w .entry)) (s .c) (markOf nU (behind (now (w .entry)) (s .c))) ⌝ }
+    ensures { λ r. ⌜ r ≡ reach (now (w .entry)) (s .c) (traceOf nU (behind (now (w .entry)) (s .c))) ⌝ }
 {
-    if !(ends::is_U(s.last) & (s.second == 0x6E)) {
-        return Passed::NOT;
-    }
-    mark_of(w, s, told, &tables::A_2, 2, Joint::Unjoined, true)
+    let Among::Key(_, d) = find_among_b(w, s, &tables::A_2, 2) else {
+        return Marked::Fails;
+    };
+    Marked::kept_in_harmony(w, s.c, UNNUMBERED, Passed::to(d.cursor))
 }
 
-pub fn mark_nUn(w: &[u8], s: Seen, told: Told) -> Passed
+pub fn mark_nUn(w: &[u8], s: Seen) -> Marked
     requires { ⌜ Sees (now w) s ⌝ }
-    requires { ⌜ Hears (now w) (s .c) told ⌝ }
-    ensures { λ r. ⌜ r ≡ passes (now (w .entry)) (s .c) (markOf nUn (behind (now (w .entry)) (s .c))) ⌝ }
+    ensures { λ r. ⌜ r ≡ reach (now (w .entry)) (s .c) (traceOf nUn (behind (now (w .entry)) (s .c))) ⌝ }
 {
-    if !((s.last == 0x6E) & ends::is_U(s.second)) {
-        return Passed::NOT;
-    }
-    mark_of(w, s, told, &tables::A_3, 2, Joint::N, true)
+    let Among::Key(_, d) = find_among_b(w, s, &tables::A_3, 2) else {
+        return Marked::Fails;
+    };
+    let p = mark_suffix_with_optional_consonant(w, d, 0x6E);
+    Marked::kept_in_harmony(w, s.c, UNNUMBERED, p)
 }
 
-pub fn mark_yA(w: &[u8], s: Seen, told: Told) -> Passed
+pub fn mark_yA(w: &[u8], s: Seen) -> Marked
     requires { ⌜ Sees (now w) s ⌝ }
-    requires { ⌜ Hears (now w) (s .c) told ⌝ }
-    ensures { λ r. ⌜ r ≡ passes (now (w .entry)) (s .c) (markOf yA (behind (now (w .entry)) (s .c))) ⌝ }
+    ensures { λ r. ⌜ r ≡ reach (now (w .entry)) (s .c) (traceOf yA (behind (now (w .entry)) (s .c))) ⌝ }
 {
-    if !ends::is_A(s.last) {
-        return Passed::NOT;
-    }
-    mark_of(w, s, told, &tables::A_4, 1, Joint::Y, true)
+    let Among::Key(_, d) = find_among_b(w, s, &tables::A_4, 1) else {
+        return Marked::Fails;
+    };
+    let p = mark_suffix_with_optional_consonant(w, d, 0x79);
+    Marked::kept_in_harmony(w, s.c, UNNUMBERED, p)
 }
 
-pub fn mark_nA(w: &[u8], s: Seen, told: Told) -> Passed
+pub fn mark_nA(w: &[u8], s: Seen) -> Marked
     requires { ⌜ Sees (now w) s ⌝ }
-    requires { ⌜ Hears (now w) (s .c) told ⌝ }
-    ensures { λ r. ⌜ r ≡ passes (now (w .entry)) (s .c) (markOf nA (behind (now (w .entry)) (s .c))) ⌝ }
+    ensures { λ r. ⌜ r ≡ reach (now (w .entry)) (s .c) (traceOf nA (behind (now (w .entry)) (s .c))) ⌝ }
 {
-    if !(ends::is_A(s.last) & (s.second == 0x6E)) {
-        return Passed::NOT;
-    }
-    mark_of(w, s, told, &tables::A_5, 2, Joint::Unjoined, true)
+    let Among::Key(_, d) = find_among_b(w, s, &tables::A_5, 2) else {
+        return Marked::Fails;
+    };
+    Marked::kept_in_harmony(w, s.c, UNNUMBERED, Passed::to(d.cursor))
 }
 
-pub fn mark_DA(w: &[u8], s: Seen, told: Told) -> Passed
+pub fn mark_DA(w: &[u8], s: Seen) -> Marked
     requires { ⌜ Sees (now w) s ⌝ }
-    requires { ⌜ Hears (now w) (s .c) told ⌝ }
-    ensures { λ r. ⌜ r ≡ passes (now (w .entry)) (s .c) (markOf DA (behind (now (w .entry)) (s .c))) ⌝ }
+    ensures { λ r. ⌜ r ≡ reach (now (w .entry)) (s .c) (traceOf DA (behind (now (w .entry)) (s .c))) ⌝ }
 {
-    if !(ends::is_A(s.last) & ends::is_D(s.second)) {
-        return Passed::NOT;
-    }
-    mark_of(w, s, told, &tables::A_6, 2, Joint::Unjoined, true)
+    let Among::Key(_, d) = find_among_b(w, s, &tables::A_6, 2) else {
+        return Marked::Fails;
+    };
+    Marked::kept_in_harmony(w, s.c, UNNUMBERED, Passed::to(d.cursor))
 }
 
-pub fn mark_ndA(w: &[u8], s: Seen, told: Told) -> Passed
+pub fn mark_ndA(w: &[u8], s: Seen) -> Marked
     requires { ⌜ Sees (now w) s ⌝ }
-    requires { ⌜ Hears (now w) (s .c) told ⌝ }
-    ensures { λ r. ⌜ r ≡ passes (now (w .entry)) (s .c) (markOf ndA (behind (now (w .entry)) (s .c))) ⌝ }
+    ensures { λ r. ⌜ r ≡ reach (now (w .entry)) (s .c) (traceOf ndA (behind (now (w .entry)) (s .c))) ⌝ }
 {
-    if !(ends::is_A(s.last) & ((s.second == 0x64) & (s.third == 0x6E))) {
-        return Passed::NOT;
-    }
-    mark_of(w, s, told, &tables::A_7, 3, Joint::Unjoined, true)
+    let Among::Key(_, d) = find_among_b(w, s, &tables::A_7, 3) else {
+        return Marked::Fails;
+    };
+    Marked::kept_in_harmony(w, s.c, UNNUMBERED, Passed::to(d.cursor))
 }
 
-pub fn mark_DAn(w: &[u8], s: Seen, told: Told) -> Passed
+pub fn mark_DAn(w: &[u8], s: Seen) -> Marked
     requires { ⌜ Sees (now w) s ⌝ }
-    requires { ⌜ Hears (now w) (s .c) told ⌝ }
-    ensures { λ r. ⌜ r ≡ passes (now (w .entry)) (s .c) (markOf DAn (behind (now (w .entry)) (s .c))) ⌝ }
+    ensures { λ r. ⌜ r ≡ reach (now (w .entry)) (s .c) (traceOf DAn (behind (now (w .entry)) (s .c))) ⌝ }
 {
-    if !((s.last == 0x6E) & (ends::is_A(s.second) & ends::is_D(s.third))) {
-        return Passed::NOT;
-    }
-    mark_of(w, s, told, &tables::A_8, 3, Joint::Unjoined, true)
+    let Among::Key(_, d) = find_among_b(w, s, &tables::A_8, 3) else {
+        return Marked::Fails;
+    };
+    Marked::kept_in_harmony(w, s.c, UNNUMBERED, Passed::to(d.cursor))
 }
 
-pub fn mark_ndAn(w: &[u8], s: Seen, told: Told) -> Passed
+pub fn mark_ndAn(w: &[u8], s: Seen) -> Marked
     requires { ⌜ Sees (now w) s ⌝ }
-    requires { ⌜ Hears (now w) (s .c) told ⌝ }
-    ensures { λ r. ⌜ r ≡ passes (now (w .entry)) (s .c) (markOf ndAn (behind (now (w .entry)) (s .c))) ⌝ }
+    ensures { λ r. ⌜ r ≡ reach (now (w .entry)) (s .c) (traceOf ndAn (behind (now (w .entry)) (s .c))) ⌝ }
 {
-    if !((s.last == 0x6E) & (ends::is_A(s.second) & (s.third == 0x64))) {
-        return Passed::NOT;
-    }
-    mark_of(w, s, told, &tables::A_9, 4, Joint::Unjoined, true)
+    let Among::Key(_, d) = find_among_b(w, s, &tables::A_9, 4) else {
+        return Marked::Fails;
+    };
+    Marked::kept_in_harmony(w, s.c, UNNUMBERED, Passed::to(d.cursor))
 }
 
-pub fn mark_ylA(w: &[u8], s: Seen, told: Told) -> Passed
+pub fn mark_ylA(w: &[u8], s: Seen) -> Marked
     requires { ⌜ Sees (now w) s ⌝ }
-    requires { ⌜ Hears (now w) (s .c) told ⌝ }
-    ensures { λ r. ⌜ r ≡ passes (now (w .entry)) (s .c) (markOf ylA (behind (now (w .entry)) (s .c))) ⌝ }
+    ensures { λ r. ⌜ r ≡ reach (now (w .entry)) (s .c) (traceOf ylA (behind (now (w .entry)) (s .c))) ⌝ }
 {
-    if !(ends::is_A(s.last) & (s.second == 0x6C)) {
-        return Passed::NOT;
-    }
-    mark_of(w, s, told, &tables::A_10, 2, Joint::Y, true)
+    let Among::Key(_, d) = find_among_b(w, s, &tables::A_10, 2) else {
+        return Marked::Fails;
+    };
+    let p = mark_suffix_with_optional_consonant(w, d, 0x79);
+    Marked::kept_in_harmony(w, s.c, UNNUMBERED, p)
 }
 
-pub fn mark_ki(w: &[u8], s: Seen) -> Passed
+pub fn mark_ki(w: &[u8], s: Seen) -> Marked
     requires { ⌜ Sees (now w) s ⌝ }
-    ensures { λ r. ⌜ r ≡ passes (now (w .entry)) (s .c) (markOf ki (behind (now (w .entry)) (s .c))) ⌝ }
+    ensures { λ r. ⌜ r ≡ reach (now (w .entry)) (s .c) (traceOf ki (behind (now (w .entry)) (s .c))) ⌝ }
 {
-    if !((s.last == 0x69) & (s.second == 0x6B)) {
-        return Passed::NOT;
-    }
-    mark_of(w, s, Told::UNASKED, &tables::KI, 2, Joint::Unjoined, false)
+    let Among::Key(_, d) = find_among_b(w, s, &tables::KI, 2) else {
+        return Marked::Fails;
+    };
+    Marked::kept(s.c, UNNUMBERED, Passed::to(d.cursor))
 }
 
-pub fn mark_ncA(w: &[u8], s: Seen, told: Told) -> Passed
+pub fn mark_ncA(w: &[u8], s: Seen) -> Marked
     requires { ⌜ Sees (now w) s ⌝ }
-    requires { ⌜ Hears (now w) (s .c) told ⌝ }
-    ensures { λ r. ⌜ r ≡ passes (now (w .entry)) (s .c) (markOf ncA (behind (now (w .entry)) (s .c))) ⌝ }
+    ensures { λ r. ⌜ r ≡ reach (now (w .entry)) (s .c) (traceOf ncA (behind (now (w .entry)) (s .c))) ⌝ }
 {
-    if !(ends::is_A(s.last) & (s.second == 0x63)) {
-        return Passed::NOT;
-    }
-    mark_of(w, s, told, &tables::A_11, 2, Joint::N, true)
-}
-
-pub fn mark_lAr(w: &[u8], s: Seen, told: Told) -> Passed
-    requires { ⌜ Sees (now w) s ⌝ }
-    requires { ⌜ Hears (now w) (s .c) told ⌝ }
-    ensures { λ r. ⌜ r ≡ passes (now (w .entry)) (s .c) (markOf lAr (behind (now (w .entry)) (s .c))) ⌝ }
-{
-    if !((s.last == 0x72) & (ends::is_A(s.second) & (s.third == 0x6C))) {
-        return Passed::NOT;
-    }
-    mark_of(w, s, told, &A_16, 3, Joint::Unjoined, true)
+    let Among::Key(_, d) = find_among_b(w, s, &tables::A_11, 2) else {
+        return Marked::Fails;
+    };
+    let p = mark_suffix_with_optional_consonant(w, d, 0x6E);
+    Marked::kept_in_harmony(w, s.c, UNNUMBERED, p)
 }

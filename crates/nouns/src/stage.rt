@@ -3,12 +3,10 @@
 // where sU does, and line 402's chain where line 398 lost a plural, which has failed before.
 use crate::chain::stem_suffix_chain_before_ki;
 use crate::mark;
-use letters::ends;
-use letters::harmony;
-use letters::harmony::Told;
 use letters::passed::Passed;
 use letters::seen;
 use letters::seen::Seen;
+use marks::mark::mark_lAr;
 use utf8::cursor::Cursor;
 ghost use mathlib.Core.Path.{_≡_};
 ghost use Prim.Native.Nat.{_≤_};
@@ -18,10 +16,9 @@ ghost use Rattle.theorems.specs.Simple.Grammar.{markOf};
 ghost use Rattle.theorems.specs.Simple.Marks.{lAr};
 ghost use Rattle.theorems.specs.Simple.Nouns.{chain, perhaps, plural, possessed, owned, ownedBySU, afterNcA, pronominal, afterNdAn, afterDAn, afterNUn, afterDA};
 ghost use Rattle.letters.specs.Seen.{Sees};
-ghost use Rattle.letters.specs.Told.{Hears};
 ghost use Rattle.letters.specs.Passed.{passes};
 ghost use Rattle.nouns.specs.Places.{placeAfter};
-ghost use Rattle.nouns.specs.Stage.{wholeLeft, cutLeft, nounTold, nearNcA, nearPronominal, pronominalRest, ndAnOrNU, nearDAn, nUnOrYlA, nearLAr, nearNUn, DAOrYUOrYA};
+ghost use Rattle.nouns.specs.Stage.{wholeLeft, cutLeft, nearNcA, nearPronominal, pronominalRest, ndAnOrNU, nearDAn, nUnOrYlA, nearLAr, nearNUn, DAOrYUOrYA};
 ghost use Rattle.nouns.specs.Stage.{possessivesOrLAr, nearDA, laterLines, leftAt, uninflectedOf};
 
 // The text that the stage leaves of the first n bytes: those before `front`, and those from `from` on; and whether it is another text.
@@ -55,24 +52,12 @@ impl Uninflected {
     }
 }
 
-// Harmony at the text's end, walked for where the last letter is one of a mark that tests it.
-fn told_at_end(w: &[u8], s: Seen) -> Told
-    requires { ⌜ Sees (now w) s ⌝ }
-    ensures { λ r. ⌜ r ≡ nounTold (now (w .entry)) s ⌝ }
-{
-    if (ends::is_A(s.last) | ends::is_U(s.last)) | ((s.last == 0x6E) | (s.last == 0x72)) {
-        return harmony::hear(w, s.c, Told::UNASKED);
-    }
-    Told::UNASKED
-}
-
 // lAr, and the chain before it in the word (lines 362, 370, 390).
-fn plural(w: &[u8], s: Seen, told: Told) -> Passed
+fn plural(w: &[u8], s: Seen) -> Passed
     requires { ⌜ Sees (now w) s ⌝ }
-    requires { ⌜ Hears (now w) (s .c) told ⌝ }
     ensures { λ r. ⌜ r ≡ passes (now (w .entry)) (s .c) (plural chain (behind (now (w .entry)) (s .c))) ⌝ }
 {
-    let p = mark::mark_lAr(w, s, told);
+    let p = mark_lAr(w, s).place();
     if !p.moved {
         return Passed::NOT;
     }
@@ -84,7 +69,7 @@ fn try_plural(w: &[u8], c: Cursor) -> usize
     requires { ⌜ Open (now w) c ⌝ }
     ensures { λ r. ⌜ r ≡ placeAfter (now (w .entry)) c (perhaps (plural chain) (behind (now (w .entry)) c)) ⌝ }
 {
-    let p = plural(w, seen::look_back(w, c), Told::UNASKED);
+    let p = plural(w, seen::look_back(w, c));
     if p.moved {
         return p.at;
     }
@@ -96,7 +81,7 @@ fn possessed(w: &[u8], s: Seen) -> Passed
     requires { ⌜ Sees (now w) s ⌝ }
     ensures { λ r. ⌜ r ≡ passes (now (w .entry)) (s .c) (possessed chain (behind (now (w .entry)) (s .c))) ⌝ }
 {
-    let p = mark::mark_possessives(w, s);
+    let p = mark::mark_possessives(w, s).place();
     if !p.moved {
         return Passed::NOT;
     }
@@ -104,12 +89,11 @@ fn possessed(w: &[u8], s: Seen) -> Passed
 }
 
 // sU, and a plural before it in the word (lines 378, 384, and within 368, 400, 412).
-fn owned_by_sU(w: &[u8], s: Seen, told: Told) -> Passed
+fn owned_by_sU(w: &[u8], s: Seen) -> Passed
     requires { ⌜ Sees (now w) s ⌝ }
-    requires { ⌜ Hears (now w) (s .c) told ⌝ }
     ensures { λ r. ⌜ r ≡ passes (now (w .entry)) (s .c) (ownedBySU chain (behind (now (w .entry)) (s .c))) ⌝ }
 {
-    let p = mark::mark_sU(w, s, told);
+    let p = mark::mark_sU(w, s).place();
     if !p.moved {
         return Passed::NOT;
     }
@@ -117,16 +101,15 @@ fn owned_by_sU(w: &[u8], s: Seen, told: Told) -> Passed
 }
 
 // Possessives or sU, and a plural before it in the word (lines 368, 400, 412).
-fn owned(w: &[u8], s: Seen, told: Told) -> Passed
+fn owned(w: &[u8], s: Seen) -> Passed
     requires { ⌜ Sees (now w) s ⌝ }
-    requires { ⌜ Hears (now w) (s .c) told ⌝ }
     ensures { λ r. ⌜ r ≡ passes (now (w .entry)) (s .c) (owned chain (behind (now (w .entry)) (s .c))) ⌝ }
 {
     let p = possessed(w, s);
     if p.moved {
         return p;
     }
-    owned_by_sU(w, s, told)
+    owned_by_sU(w, s)
 }
 
 // What may stand before ncA in the word (lines 366 to 370).
@@ -135,15 +118,15 @@ fn near_ncA(w: &[u8], c: Cursor) -> usize
     ensures { λ r. ⌜ r ≡ placeAfter (now (w .entry)) c (perhaps nearNcA (behind (now (w .entry)) c)) ⌝ }
 {
     let s = seen::look_back(w, c);
-    let p = mark::mark_lArI(w, s);
+    let p = mark::mark_lArI(w, s).place();
     if p.moved {
         return p.at;
     }
-    let q = owned(w, s, Told::UNASKED);
+    let q = owned(w, s);
     if q.moved {
         return q.at;
     }
-    let r = plural(w, s, Told::UNASKED);
+    let r = plural(w, s);
     if r.moved {
         return r.at;
     }
@@ -151,12 +134,11 @@ fn near_ncA(w: &[u8], c: Cursor) -> usize
 }
 
 // Lines 364 to 370.
-fn after_ncA(w: &[u8], s: Seen, told: Told) -> Passed
+fn after_ncA(w: &[u8], s: Seen) -> Passed
     requires { ⌜ Sees (now w) s ⌝ }
-    requires { ⌜ Hears (now w) (s .c) told ⌝ }
     ensures { λ r. ⌜ r ≡ passes (now (w .entry)) (s .c) (afterNcA (behind (now (w .entry)) (s .c))) ⌝ }
 {
-    let p = mark::mark_ncA(w, s, told);
+    let p = mark::mark_ncA(w, s).place();
     if !p.moved {
         return Passed::NOT;
     }
@@ -164,16 +146,15 @@ fn after_ncA(w: &[u8], s: Seen, told: Told) -> Passed
 }
 
 // ndA or nA (line 374).
-fn pronominal(w: &[u8], s: Seen, told: Told) -> Passed
+fn pronominal(w: &[u8], s: Seen) -> Passed
     requires { ⌜ Sees (now w) s ⌝ }
-    requires { ⌜ Hears (now w) (s .c) told ⌝ }
     ensures { λ r. ⌜ r ≡ passes (now (w .entry)) (s .c) (pronominal (behind (now (w .entry)) (s .c))) ⌝ }
 {
-    let p = mark::mark_ndA(w, s, told);
+    let p = mark::mark_ndA(w, s).place();
     if p.moved {
         return p;
     }
-    mark::mark_nA(w, s, told)
+    mark::mark_nA(w, s).place()
 }
 
 // What may stand before ndA or nA in the word (lines 376 and 378).
@@ -182,21 +163,20 @@ fn near_pronominal(w: &[u8], c: Cursor) -> Passed
     ensures { λ r. ⌜ r ≡ passes (now (w .entry)) c (nearPronominal (behind (now (w .entry)) c)) ⌝ }
 {
     let s = seen::look_back(w, c);
-    let p = mark::mark_lArI(w, s);
+    let p = mark::mark_lArI(w, s).place();
     if p.moved {
         return p;
     }
-    owned_by_sU(w, s, Told::UNASKED)
+    owned_by_sU(w, s)
 }
 
 // Lines 374 to 380. On line 380 the chain cuts before ndA or nA, which stays.
-fn after_pronominal(w: &[u8], s: Seen, told: Told) -> Uninflected
+fn after_pronominal(w: &[u8], s: Seen) -> Uninflected
     requires { ⌜ Sees (now w) s ⌝ }
-    requires { ⌜ Hears (now w) (s .c) told ⌝ }
     ensures { λ r. ⌜ r ≡ leftAt (now (w .entry)) (s .c) (pronominalRest (behind (now (w .entry)) (s .c))) ⌝ }
 {
     let n = s.c.cursor;
-    let p = pronominal(w, s, told);
+    let p = pronominal(w, s);
     if !p.moved {
         return Uninflected::whole(n);
     }
@@ -217,29 +197,27 @@ fn after_pronominal(w: &[u8], s: Seen, told: Told) -> Uninflected
 }
 
 // ndAn or nU (line 384).
-fn ndAn_or_nU(w: &[u8], s: Seen, told: Told) -> Passed
+fn ndAn_or_nU(w: &[u8], s: Seen) -> Passed
     requires { ⌜ Sees (now w) s ⌝ }
-    requires { ⌜ Hears (now w) (s .c) told ⌝ }
     ensures { λ r. ⌜ r ≡ passes (now (w .entry)) (s .c) (ndAnOrNU (behind (now (w .entry)) (s .c))) ⌝ }
 {
-    let p = mark::mark_ndAn(w, s, told);
+    let p = mark::mark_ndAn(w, s).place();
     if p.moved {
         return p;
     }
-    mark::mark_nU(w, s, told)
+    mark::mark_nU(w, s).place()
 }
 
 // Line 384.
-fn after_ndAn(w: &[u8], s: Seen, told: Told) -> Passed
+fn after_ndAn(w: &[u8], s: Seen) -> Passed
     requires { ⌜ Sees (now w) s ⌝ }
-    requires { ⌜ Hears (now w) (s .c) told ⌝ }
     ensures { λ r. ⌜ r ≡ passes (now (w .entry)) (s .c) (afterNdAn (behind (now (w .entry)) (s .c))) ⌝ }
 {
-    let p = ndAn_or_nU(w, s, told);
+    let p = ndAn_or_nU(w, s);
     if !p.moved {
         return Passed::NOT;
     }
-    owned_by_sU(w, seen::look_back(w, s.c.moved_to(p.at)), Told::UNASKED)
+    owned_by_sU(w, seen::look_back(w, s.c.moved_to(p.at)))
 }
 
 // What may stand before DAn in the word (lines 388 to 392).
@@ -252,7 +230,7 @@ fn near_DAn(w: &[u8], c: Cursor) -> usize
     if p.moved {
         return p.at;
     }
-    let q = plural(w, s, Told::UNASKED);
+    let q = plural(w, s);
     if q.moved {
         return q.at;
     }
@@ -260,12 +238,11 @@ fn near_DAn(w: &[u8], c: Cursor) -> usize
 }
 
 // Lines 386 to 392.
-fn after_DAn(w: &[u8], s: Seen, told: Told) -> Passed
+fn after_DAn(w: &[u8], s: Seen) -> Passed
     requires { ⌜ Sees (now w) s ⌝ }
-    requires { ⌜ Hears (now w) (s .c) told ⌝ }
     ensures { λ r. ⌜ r ≡ passes (now (w .entry)) (s .c) (afterDAn (behind (now (w .entry)) (s .c))) ⌝ }
 {
-    let p = mark::mark_DAn(w, s, told);
+    let p = mark::mark_DAn(w, s).place();
     if !p.moved {
         return Passed::NOT;
     }
@@ -273,16 +250,15 @@ fn after_DAn(w: &[u8], s: Seen, told: Told) -> Passed
 }
 
 // nUn or ylA (line 396).
-fn nUn_or_ylA(w: &[u8], s: Seen, told: Told) -> Passed
+fn nUn_or_ylA(w: &[u8], s: Seen) -> Passed
     requires { ⌜ Sees (now w) s ⌝ }
-    requires { ⌜ Hears (now w) (s .c) told ⌝ }
     ensures { λ r. ⌜ r ≡ passes (now (w .entry)) (s .c) (nUnOrYlA (behind (now (w .entry)) (s .c))) ⌝ }
 {
-    let p = mark::mark_nUn(w, s, told);
+    let p = mark::mark_nUn(w, s).place();
     if p.moved {
         return p;
     }
-    mark::mark_ylA(w, s, told)
+    mark::mark_ylA(w, s).place()
 }
 
 // Before lAr of line 398: the chain or, lAr being cut all the same, line 400.
@@ -294,7 +270,7 @@ fn near_lost_lAr(w: &[u8], c: Cursor) -> usize
     if at != c.cursor {
         return at;
     }
-    let p = owned(w, seen::look_back(w, c), Told::UNASKED);
+    let p = owned(w, seen::look_back(w, c));
     if p.moved {
         return p.at;
     }
@@ -307,11 +283,11 @@ fn near_nUn(w: &[u8], c: Cursor) -> usize
     ensures { λ r. ⌜ r ≡ placeAfter (now (w .entry)) c (perhaps nearNUn (behind (now (w .entry)) c)) ⌝ }
 {
     let s = seen::look_back(w, c);
-    let p = mark::mark_lAr(w, s, Told::UNASKED);
+    let p = mark_lAr(w, s).place();
     if p.moved {
         return near_lost_lAr(w, c.moved_to(p.at));
     }
-    let q = owned(w, s, Told::UNASKED);
+    let q = owned(w, s);
     if q.moved {
         return q.at;
     }
@@ -319,12 +295,11 @@ fn near_nUn(w: &[u8], c: Cursor) -> usize
 }
 
 // Lines 396 to 402.
-fn after_nUn(w: &[u8], s: Seen, told: Told) -> Passed
+fn after_nUn(w: &[u8], s: Seen) -> Passed
     requires { ⌜ Sees (now w) s ⌝ }
-    requires { ⌜ Hears (now w) (s .c) told ⌝ }
     ensures { λ r. ⌜ r ≡ passes (now (w .entry)) (s .c) (afterNUn (behind (now (w .entry)) (s .c))) ⌝ }
 {
-    let p = nUn_or_ylA(w, s, told);
+    let p = nUn_or_ylA(w, s);
     if !p.moved {
         return Passed::NOT;
     }
@@ -332,20 +307,19 @@ fn after_nUn(w: &[u8], s: Seen, told: Told) -> Passed
 }
 
 // DA, yU or yA (line 410).
-fn DA_or_yU_or_yA(w: &[u8], s: Seen, told: Told) -> Passed
+fn DA_or_yU_or_yA(w: &[u8], s: Seen) -> Passed
     requires { ⌜ Sees (now w) s ⌝ }
-    requires { ⌜ Hears (now w) (s .c) told ⌝ }
     ensures { λ r. ⌜ r ≡ passes (now (w .entry)) (s .c) (DAOrYUOrYA (behind (now (w .entry)) (s .c))) ⌝ }
 {
-    let p = mark::mark_DA(w, s, told);
+    let p = mark::mark_DA(w, s).place();
     if p.moved {
         return p;
     }
-    let q = mark::mark_yU(w, s, told);
+    let q = mark::mark_yU(w, s).place();
     if q.moved {
         return q;
     }
-    mark::mark_yA(w, s, told)
+    mark::mark_yA(w, s).place()
 }
 
 // lAr where it need not fit (line 410).
@@ -353,7 +327,7 @@ fn try_lAr(w: &[u8], c: Cursor) -> usize
     requires { ⌜ Open (now w) c ⌝ }
     ensures { λ r. ⌜ r ≡ placeAfter (now (w .entry)) c (perhaps (markOf lAr) (behind (now (w .entry)) c)) ⌝ }
 {
-    let p = mark::mark_lAr(w, seen::look_back(w, c), Told::UNASKED);
+    let p = mark_lAr(w, seen::look_back(w, c)).place();
     if p.moved {
         return p.at;
     }
@@ -366,11 +340,11 @@ fn possessives_or_lAr(w: &[u8], c: Cursor) -> Passed
     ensures { λ r. ⌜ r ≡ passes (now (w .entry)) c (possessivesOrLAr (behind (now (w .entry)) c)) ⌝ }
 {
     let s = seen::look_back(w, c);
-    let p = mark::mark_possessives(w, s);
+    let p = mark::mark_possessives(w, s).place();
     if p.moved {
         return Passed::to(try_lAr(w, c.moved_to(p.at)));
     }
-    mark::mark_lAr(w, s, Told::UNASKED)
+    mark_lAr(w, s).place()
 }
 
 // What may stand before DA, yU or yA in the word (line 410).
@@ -386,12 +360,11 @@ fn near_DA(w: &[u8], c: Cursor) -> usize
 }
 
 // Line 410.
-fn after_DA(w: &[u8], s: Seen, told: Told) -> Passed
+fn after_DA(w: &[u8], s: Seen) -> Passed
     requires { ⌜ Sees (now w) s ⌝ }
-    requires { ⌜ Hears (now w) (s .c) told ⌝ }
     ensures { λ r. ⌜ r ≡ passes (now (w .entry)) (s .c) (afterDA (behind (now (w .entry)) (s .c))) ⌝ }
 {
-    let p = DA_or_yU_or_yA(w, s, told);
+    let p = DA_or_yU_or_yA(w, s);
     if !p.moved {
         return Passed::NOT;
     }
@@ -403,7 +376,7 @@ fn chain_alone(w: &[u8], s: Seen) -> Passed
     requires { ⌜ Sees (now w) s ⌝ }
     ensures { λ r. ⌜ r ≡ passes (now (w .entry)) (s .c) (chain (behind (now (w .entry)) (s .c))) ⌝ }
 {
-    let k = mark::mark_ki(w, s);
+    let k = mark::mark_ki(w, s).place();
     if !k.moved {
         return Passed::NOT;
     }
@@ -415,24 +388,23 @@ fn chain_alone(w: &[u8], s: Seen) -> Passed
 }
 
 // Lines 384 to 412.
-fn later_lines(w: &[u8], s: Seen, told: Told) -> Passed
+fn later_lines(w: &[u8], s: Seen) -> Passed
     requires { ⌜ Sees (now w) s ⌝ }
-    requires { ⌜ Hears (now w) (s .c) told ⌝ }
     ensures { λ r. ⌜ r ≡ passes (now (w .entry)) (s .c) (laterLines (behind (now (w .entry)) (s .c))) ⌝ }
 {
-    let a = after_ndAn(w, s, told);
+    let a = after_ndAn(w, s);
     if a.moved {
         return a;
     }
-    let b = after_DAn(w, s, told);
+    let b = after_DAn(w, s);
     if b.moved {
         return b;
     }
-    let c = after_nUn(w, s, told);
+    let c = after_nUn(w, s);
     if c.moved {
         return c;
     }
-    let d = mark::mark_lArI(w, s);
+    let d = mark::mark_lArI(w, s).place();
     if d.moved {
         return d;
     }
@@ -440,11 +412,11 @@ fn later_lines(w: &[u8], s: Seen, told: Told) -> Passed
     if e.moved {
         return e;
     }
-    let f = after_DA(w, s, told);
+    let f = after_DA(w, s);
     if f.moved {
         return f;
     }
-    owned(w, s, told)
+    owned(w, s)
 }
 
 // The noun stage of the first n bytes of a word, entered at their end with limit_backward 0: the first alternative that fits.
@@ -460,20 +432,19 @@ pub fn stem_noun_suffixes(w: &[u8], n: usize) -> Uninflected
             limit_backward: 0,
         },
     );
-    let told = told_at_end(w, s);
-    let p = plural(w, s, told);
+    let p = plural(w, s);
     if p.moved {
         return Uninflected::cut(p.at, n);
     }
-    let q = after_ncA(w, s, told);
+    let q = after_ncA(w, s);
     if q.moved {
         return Uninflected::cut(q.at, n);
     }
-    let u = after_pronominal(w, s, told);
+    let u = after_pronominal(w, s);
     if u.yes {
         return u;
     }
-    let r = later_lines(w, s, told);
+    let r = later_lines(w, s);
     if r.moved {
         return Uninflected::cut(r.at, n);
     }

@@ -1,13 +1,10 @@
--- What the noun stage's lines leave of a text, by the places that they came to: a line that is cut, the chain cut before marks that stay, the
--- first line that fits; and what is known of harmony at the text's end. Assumes nothing.
+-- What the noun stage's lines leave of a text, by the places that they came to: a line that is cut, the chain cut before marks that stay, and the
+-- first line that fits. Assumes nothing.
 use Prim.Native.Nat.{ℕ, _+_}
-use Prim.Native.Char.{code}
-use mathlib.Core.Path.{_≡_, refl, sym, ap, ap₂, subst, _∙_}
-use mathlib.Core.Bool.{Bool, true, false, _||_, false≢true}
+use mathlib.Core.Path.{_≡_, refl, sym, ap, ap₂, _∙_}
+use mathlib.Core.Bool.{true, false, false≢true}
 use mathlib.Core.List.{List}
 use lib.ListN.{drop}
-use lib.Dec.{eqb}
-use Rattle.encoding.proofs.Laws.Booleans.{cond-both}
 use Rattle.utf8.specs.declared.cursor.Cursor.{Cursor}
 use Rattle.utf8.specs.Steps.{moveTo}
 use Rattle.utf8.specs.Behind.{behind, backBy}
@@ -16,39 +13,15 @@ use Rattle.theorems.specs.Simple.Grammar.{Out, fail, took, first, markOf}
 use Rattle.theorems.specs.Simple.NounMarks.{lArI}
 use Rattle.theorems.specs.Simple.Nouns.{Taking, either, chain, plural, owned, afterNcA, pronominal, afterPronominal, afterNdAn, afterDAn, afterNUn, afterDA, Rest, whole, cut, parted}
 use Rattle.theorems.specs.Simple.Nouns.{cutBy, partedAt, partedBy, nounRest}
-use Rattle.letters.specs.declared.harmony.Told.{Told}
 use Rattle.letters.specs.declared.passed.Passed.{Passed}
 use Rattle.letters.specs.declared.seen.Seen.{Seen}
-use Rattle.letters.specs.Ends.{isA, isU}
 use Rattle.letters.specs.Passed.{passes}
 use Rattle.letters.specs.Seen.{seenAt}
-use Rattle.letters.specs.Told.{toldAt, unasked, Hears}
 use Rattle.letters.proofs.Laws.Sees.{seen-c}
-use Rattle.letters.proofs.Laws.Told.{hears-told, hears-unasked}
 use Rattle.nouns.specs.declared.stage.Uninflected.{Uninflected}
 use Rattle.nouns.specs.Places.{placeAfter}
-use Rattle.nouns.specs.Stage.{nounTold, wholeLeft, cutLeft, leftAt, uninflectedOf, laterLines, pronominalRest}
+use Rattle.nouns.specs.Stage.{wholeLeft, cutLeft, leftAt, uninflectedOf, laterLines, pronominalRest}
 use Rattle.nouns.proofs.Laws.Passing.{Leads, not-moved, leads-moved, leads-behind, place-moved}
-
--- ---- harmony at the text's end ----
-
-module _ (w : List ℕ) (s : Seen) {a u : Bool} (e : a ≡ isA (s .last)) (f : u ≡ isU (s .last)) where
-  -- it is asked for where one of the tests of the last letter passes
-  pub told-asked : (a || u) || (eqb (s .last) (code "n") || eqb (s .last) (code "r")) ≡ true → {t : Told} → t ≡ toldAt w (s .c) → t ≡ nounTold w s
-  unfolding nounTold
-  told-asked test is = rw (← e, ← f, test) is
-
-  -- and not where none does
-  pub told-unasked : (a || u) || (eqb (s .last) (code "n") || eqb (s .last) (code "r")) ≡ false → unasked ≡ nounTold w s
-  unfolding nounTold
-  told-unasked test = rw (← e, ← f, test)
-
--- what is told there is true, whether or not it was asked for
-pub hears-nounTold : (w : List ℕ) (s : Seen) {t : Told} → t ≡ nounTold w s → Hears w (s .c) t
-unfolding nounTold unasked
-hears-nounTold w s e =
-    let ends = (isA (s .last) || isU (s .last)) || (eqb (s .last) (code "n") || eqb (s .last) (code "r")) in
-    subst (Hears w (s .c)) (sym e) (cond-both (Hears w (s .c)) ends (toldAt w (s .c)) unasked (hears-told w (s .c)) (hears-unasked w (s .c)))
 
 -- ---- what is seen ----
 

@@ -81,11 +81,11 @@ unfolding first more
 more-first k fail = refl
 more-first k (took j f) = refl
 
--- where the chain is called at place p behind record d: it goes on there, from an open record before this one
-record Called (w : List ℕ) (d : Cursor) (p : ℕ) : Type 0 where
-  less : p < d .cursor
-  opens : Open w (moveTo d p)
-  same : placeAfter w (moveTo d p) (perhaps chain (behind w (moveTo d p))) ≡ placeAfter w d (perhaps chain (behind w d))
+-- where the chain is called at record e behind record d: e is open and nearer to the word's start, and from there the chain comes to the same place
+pub record Called (w : List ℕ) (d e : Cursor) : Type 0 where
+  pub less : e .cursor < d .cursor
+  pub opens : Open w e
+  pub same : placeAfter w e (perhaps chain (behind w e)) ≡ placeAfter w d (perhaps chain (behind w d))
 
 module _ (w : List ℕ) (d : Cursor) (h : Open w d) where
   -- the place that the chain comes to, by its first turn
@@ -95,15 +95,15 @@ module _ (w : List ℕ) (d : Cursor) (h : Open w d) where
       ap (λ (o : Out). placeAfter w d (first o (took 0 true))) (chain-closed (behind w d) ∙ ap (λ (x : Turn). closed x (behind w d)) e)
 
   -- a turn that calls goes on so many characters back
-  called : (k : ℕ) → linkOf (behind w d) ≡ calls k → Called w d (backBy w d k .cursor)
+  called : (k : ℕ) → linkOf (behind w d) ≡ calls k → {e : Cursor} → e ≡ backBy w d k → Called w d e
   unfolding perhaps closed
-  called k t =
+  called k t to =
       let cs = behind w d in
       record {
-        less = backBy-less w d k (calls-some cs k t) (calls-within cs k t);
-        opens = rw (moveTo-backBy w d k) (open-backBy w d k h);
+        less = rw to (backBy-less w d k (calls-some cs k t) (calls-within cs k t));
+        opens = rw to (open-backBy w d k h);
         same =
-            ap (λ (x : Cursor). placeAfter w x (perhaps chain (behind w x))) (moveTo-backBy w d k)
+            ap (λ (x : Cursor). placeAfter w x (perhaps chain (behind w x))) to
             ∙ ap (λ (ds : List ℕ). placeAfter w (backBy w d k) (perhaps chain ds)) (behind-backBy w d k)
             ∙ more-place w d k true (chain (drop k cs))
             ∙ sym (place-closed (calls k) t ∙ ap (placeAfter w d) (more-first k (chain (drop k cs))));
@@ -123,7 +123,7 @@ module _ (w : List ℕ) (d : Cursor) (h : Open w d) where
         go (calls k) e i = c k e i
 
     -- it does not fit
-    chain-unfit : l ≡ Unfit → d .cursor ≡ placeAfter w d (perhaps chain (behind w d))
+    pub chain-unfit : l ≡ Unfit → d .cursor ≡ placeAfter w d (perhaps chain (behind w d))
     unfolding closed first placeAfter
     chain-unfit e =
         turn (λ (t : Turn). d .cursor ≡ placeAfter w d (perhaps chain (behind w d)))
@@ -132,7 +132,7 @@ module _ (w : List ℕ) (d : Cursor) (h : Open w d) where
         (λ k t i. let z : _≡_ {A = ℕ} 0 1 = cc in absurd (omega arith))
 
     -- it ends at a place
-    chain-ends : {p : ℕ} → l ≡ Ends p → p ≡ placeAfter w d (perhaps chain (behind w d))
+    pub chain-ends : {p : ℕ} → l ≡ Ends p → p ≡ placeAfter w d (perhaps chain (behind w d))
     unfolding closed first placeAfter
     chain-ends {p} e =
         turn (λ (t : Turn). p ≡ placeAfter w d (perhaps chain (behind w d)))
@@ -141,46 +141,9 @@ module _ (w : List ℕ) (d : Cursor) (h : Open w d) where
         (λ k t i. let z : _≡_ {A = ℕ} 0 1 = cc in absurd (omega arith))
 
     -- it is called at a place
-    chain-calls : {p : ℕ} → l ≡ Calls p → Called w d p
-    chain-calls {p} e =
-        turn (λ (t : Turn). Called w d p)
+    pub chain-calls : {p : ℕ} {e : Cursor} → l ≡ Calls p → e ≡ moveTo d p → Called w d e
+    chain-calls {p} {e} call to =
+        turn (λ (t : Turn). Called w d e)
         (λ t i. let z : _≡_ {A = ℕ} 0 1 = cc in absurd (omega arith))
         (λ k t i. let z : _≡_ {A = ℕ} 0 1 = cc in absurd (omega arith))
-        (λ k t i. let at : backBy w d k .cursor ≡ p = cc in rw (sym at) (called k t))
-
--- ---- turn by turn ----
-
--- the chain from record c has come to a place, from which it goes on to where it goes from c
-pub record Goes (w : List ℕ) (c : Cursor) (at : ℕ) : Type 0 where
-  opens : Open w (moveTo c at)
-  same : placeAfter w (moveTo c at) (perhaps chain (behind w (moveTo c at))) ≡ placeAfter w c (perhaps chain (behind w c))
-
--- at first it stands at the record's own
-pub goes-start : (w : List ℕ) (c : Cursor) → Open w c → Goes w c (c .cursor)
-unfolding moveTo
-goes-start w c h = record { opens = h; same = refl }
-
-module _ (w : List ℕ) (c : Cursor) {at : ℕ} (g : Goes w c at) {d : Cursor} (to : d ≡ moveTo c at) where
-  -- a turn starts from an open record
-  pub goes-open : Open w d
-  goes-open = rw to (g .opens)
-
-  module _ {l : Link} (is : l ≡ linked w d (linkOf (behind w d))) where
-    here : l ≡ linked w (moveTo c at) (linkOf (behind w (moveTo c at)))
-    here = is ∙ ap (λ (x : Cursor). linked w x (linkOf (behind w x))) to
-
-    -- where a turn does not fit the chain ends where it stands
-    pub goes-unfit : l ≡ Unfit → at ≡ placeAfter w c (perhaps chain (behind w c))
-    unfolding moveTo
-    goes-unfit e = chain-unfit w (moveTo c at) (g .opens) here e ∙ g .same
-
-    -- or at the place where the turn ends
-    pub goes-ends : {p : ℕ} → l ≡ Ends p → p ≡ placeAfter w c (perhaps chain (behind w c))
-    goes-ends e = chain-ends w (moveTo c at) (g .opens) here e ∙ g .same
-
-    -- and where it is called it goes on from there, which is nearer to the word's start
-    pub goes-calls : {p : ℕ} → l ≡ Calls p → (p < at) × Goes w c p
-    unfolding moveTo
-    goes-calls e =
-        let on = chain-calls w (moveTo c at) (g .opens) here e in
-        (on .less, record { opens = on .opens; same = on .same ∙ g .same })
+        (λ k t i. let at : p ≡ backBy w d k .cursor = cc in called k t (to ∙ ap (moveTo d) at ∙ moveTo-backBy w d k))

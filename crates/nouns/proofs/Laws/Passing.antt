@@ -11,9 +11,10 @@ use Rattle.utf8.specs.declared.cursor.Cursor.{Cursor}
 use Rattle.utf8.specs.Steps.{moveTo}
 use Rattle.utf8.specs.Behind.{behind, backBy, Open}
 use Rattle.utf8.proofs.Laws.Behind.{behind-backBy, backBy-add, backBy-zero, backBy-less, open-backBy}
-use Rattle.theorems.specs.Simple.Grammar.{Out, fail, took, more, after, first, markOf}
+use Rattle.theorems.specs.Simple.Grammar.{Out, fail, took, more, after, first, Mark, markOf}
 use Rattle.theorems.specs.Simple.NounMarks.{possessives, sU, ki}
 use Rattle.theorems.specs.Simple.Nouns.{Taking, both, either, perhaps, plural, possessed, owned, ownedBySU, link, chain}
+use Rattle.theorems.specs.Simple.Pieces.{traceOf}
 use Rattle.theorems.proofs.Laws.Outcome.{Post, unfit, fits}
 use Rattle.theorems.proofs.Laws.Chain.{chain-text, chain-two}
 use Rattle.letters.specs.declared.passed.Passed.{Passed}
@@ -21,6 +22,9 @@ use Rattle.letters.specs.declared.seen.Seen.{Seen}
 use Rattle.letters.specs.Passed.{passes, passedTo, notPassed}
 use Rattle.letters.specs.Seen.{seenAt}
 use Rattle.letters.proofs.Laws.Sees.{seen-c}
+use Rattle.marks.specs.declared.marked.Marked.{Marked}
+use Rattle.marks.specs.Reach.{reach, placeOf}
+use Rattle.marks.proofs.Laws.Marks.{place-reach}
 use Rattle.nouns.specs.Places.{placeAfter}
 
 -- ---- one answer ----
@@ -40,6 +44,11 @@ module _ (w : List ℕ) (c : Cursor) where
   -- a step from what is seen is one from the record
   pub passes-seen : (f : Taking) {s : Seen} {p : Passed} → s ≡ seenAt w c → p ≡ passes w (s .c) (f (behind w (s .c))) → p ≡ passes w c (f (behind w c))
   passes-seen f e is = is ∙ ap (λ (x : Cursor). passes w x (f (behind w x))) (seen-c w c e)
+
+  -- so is a mark's place
+  pub mark-seen : (m : Mark) {s : Seen} {a : Marked} {p : Passed} → s ≡ seenAt w c → a ≡ reach w (s .c) (traceOf m (behind w (s .c))) → p ≡ placeOf a
+      → p ≡ passes w c (markOf m (behind w c))
+  mark-seen m {s} e is at = passes-seen (markOf m) e (place-reach m w (s .c) is at)
 
   module _ (o : Out) {p : Passed} (is : p ≡ passes w c o) where
     -- where nothing is passed over, the answer is that it fails

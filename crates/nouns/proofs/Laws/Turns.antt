@@ -1,6 +1,5 @@
 -- The chain before `ki` by its turns: it takes what its first turn takes, and where that calls the chain, what the chain takes behind it. A
--- turn that calls has taken a character. Then the same as the code holds it, a turn's parts and the chain by the places that they come to.
--- Assumes nothing.
+-- turn that calls has taken a character. Assumes nothing.
 use Prim.Native.Nat.{ℕ, _+_, _≤_, _<_}
 use mathlib.Core.Path.{_≡_, refl, sym, ap, ap₂, _∙_}
 use mathlib.Core.Bool.{Bool, true, false}

@@ -1,29 +1,39 @@
--- `nouns::mark::mark_ncA` meets its contract: every key passes the test of the last letters, and the table computes to the mark's keys.
--- Assumes nothing.
-use borrow.Author.Needs.{needs}
-use borrow.Author.Tests.{not-true}
+-- `nouns::mark::mark_ncA` meets its contract: by the key found in its table, what joins it and harmony. Assumes nothing.
+use mathlib.Core.Path.{_≡_, refl}
 use denote.Ref.{now}
+use borrow.Author.Needs.{needs}
 use Rattle.turkish.specs.Letters.{text, fromEnd}
+use Rattle.theorems.specs.Simple.Grammar.{joining}
 use Rattle.theorems.specs.Simple.Marks.{marked}
-use Rattle.theorems.specs.Simple.NounMarks.{ncA}
+use Rattle.theorems.specs.Simple.NounMarks.{byN, ncA}
 use Rattle.letters.specs.Keys.{upToZero, row, rowsWithin, rows}
-use Rattle.letters.specs.Joints.{jointOf}
-use Rattle.letters.specs.Passed.{notPassed}
-use Rattle.nouns.specs.Marks.{markBy}
-use Rattle.nouns.proofs.Laws.Marks.{passes-unfit}
-use Rattle.nouns.proofs.Laws.Endings.{ncA-ends}
+use Rattle.letters.specs.Search.{found}
+use Rattle.marks.proofs.Laws.Marks.{mark-nothing, mark-in-harmony, key-open, key-joined}
 use Rattle.nouns.proofs.mark.mark_ncA.Statement.{statement}
 use Rattle.nouns.proofs.mark.mark_ncA.Tie as tie
 
+-- the table computes to the mark's keys
+searched : (c : tie.After-find-among-b) → let s = c .before .before .before in c .find-among-b .result ≡ found (ncA .keys) (now (s .args .w)) (s .args .s .c)
+unfolding rows rowsWithin row upToZero ncA marked fromEnd text
+searched c = c .find-among-b .ensures
+
 returns : tie.Need-returns
-unfolding notPassed
-returns c =
-    let s = c .before .before .before .before in
-    passes-unfit ncA-ends (now (s .args .w)) (s .args .s) (s .pre .0) (rw (← c .before .before .is-A .ensures) (not-true _ (c .if1 .taken)))
+returns c = mark-nothing ncA (ncA .keys) _ _ refl (searched (c .before .before)) (c .enum-told .given .1)
+
+mark-suffix-with-optional-consonant-requires : tie.Need-mark-suffix-with-optional-consonant-requires
+mark-suffix-with-optional-consonant-requires c κs =
+    let s = c .before .before .before .before .before .before in
+    key-open ncA (ncA .keys) _ _ refl (searched (c .before .before .before)) (c .before .d .given .1) (s .pre .opens)
 
 returns-2 : tie.Need-returns-2
-unfolding markBy rows rowsWithin row upToZero jointOf ncA marked fromEnd text
-returns-2 c = c .mark-of .ensures
+unfolding joining byN ncA marked text
+returns-2 c =
+    let k = searched (c .before .before .before .before .before) in
+    let p = key-joined ncA (ncA .keys) _ _ refl k (c .before .before .before .d .given .1) (c .before .mark-suffix-with-optional-consonant .ensures) in
+    mark-in-harmony ncA _ _ p refl (c .kept-in-harmony .ensures)
 
 pub mark-ncA-spec : {M : Type 1} → statement M
-mark-ncA-spec = tie.close (tie.spec (λ c κs. search needs) returns (λ c. search needs) (λ c κs. search needs) returns-2)
+mark-ncA-spec =
+    tie.close
+    (tie.spec (λ c. search needs) (λ c κs. search needs) (λ c. search needs) (λ c. search needs) returns
+    mark-suffix-with-optional-consonant-requires (λ c κs. search needs) returns-2)

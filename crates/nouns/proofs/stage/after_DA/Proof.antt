@@ -18,7 +18,7 @@ near-DA-requires : tie.Need-near-DA-requires
 near-DA-requires c κs =
     let m = c .before .before .before in
     let lead = leads-moved _ _ _ (m .DA-or-yU-or-yA .ensures) (not-false _ (c .before .if1 .left)) (c .moved-to .ensures) in
-    leads-open _ _ lead (m .before .before .pre .0 .opens)
+    leads-open _ _ lead (m .before .before .pre .opens)
 
 returns-2 : tie.Need-returns-2
 unfolding afterDA DAOrYUOrYA nearDA possessivesOrLAr

@@ -18,7 +18,7 @@ near-nUn-requires : tie.Need-near-nUn-requires
 near-nUn-requires c κs =
     let m = c .before .before .before in
     let lead = leads-moved _ _ _ (m .nUn-or-ylA .ensures) (not-false _ (c .before .if1 .left)) (c .moved-to .ensures) in
-    leads-open _ _ lead (m .before .before .pre .0 .opens)
+    leads-open _ _ lead (m .before .before .pre .opens)
 
 returns-2 : tie.Need-returns-2
 unfolding afterNUn nUnOrYlA nearNUn nearLAr

@@ -5,7 +5,6 @@ use borrow.Author.Tests.{not-true, not-false}
 use Rattle.theorems.specs.Simple.Nouns.{chain, ownedBySU, afterNdAn}
 use Rattle.letters.specs.Passed.{notPassed}
 use Rattle.letters.proofs.Laws.Sees.{sees-made}
-use Rattle.letters.proofs.Laws.Told.{hears-unasked}
 use Rattle.nouns.specs.Stage.{ndAnOrNU}
 use Rattle.nouns.proofs.Laws.Passing.{passes-seen, leads-moved, leads-open, both-none, both-then}
 use Rattle.nouns.proofs.stage.after_ndAn.Statement.{statement}
@@ -18,10 +17,10 @@ returns c = both-none _ _ ndAnOrNU (ownedBySU chain) (c .before .before .ndAn-or
 look-back-requires : tie.Need-look-back-requires
 look-back-requires c κs =
     let m = c .before .before .before in
-    leads-open _ _ (leads-moved _ _ _ (m .ndAn-or-nU .ensures) (not-false _ (c .before .if1 .left)) (c .moved-to .ensures)) (m .before .before .pre .0 .opens)
+    leads-open _ _ (leads-moved _ _ _ (m .ndAn-or-nU .ensures) (not-false _ (c .before .if1 .left)) (c .moved-to .ensures)) (m .before .before .pre .opens)
 
 owned-by-sU-requires : tie.Need-owned-by-sU-requires
-owned-by-sU-requires c κs = (sees-made _ _ (c .look-back .ensures) (look-back-requires (c .before) κs), hears-unasked _ (c .look-back .result .c))
+owned-by-sU-requires c κs = sees-made _ _ (c .look-back .ensures) (look-back-requires (c .before) κs)
 
 returns-2 : tie.Need-returns-2
 unfolding afterNdAn ndAnOrNU

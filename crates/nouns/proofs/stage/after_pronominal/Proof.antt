@@ -23,7 +23,7 @@ returns c =
 near-pronominal-requires : tie.Need-near-pronominal-requires
 near-pronominal-requires c κs =
     let p = c .before .before .before in
-    leads-open _ _ (leads-moved _ _ _ (p .pronominal .ensures) (not-false _ (c .before .if1 .left)) (c .moved-to .ensures)) (p .before .before .pre .0 .opens)
+    leads-open _ _ (leads-moved _ _ _ (p .pronominal .ensures) (not-false _ (c .before .if1 .left)) (c .moved-to .ensures)) (p .before .before .pre .opens)
 
 returns-2 : tie.Need-returns-2
 unfolding pronominalRest afterPronominal nearPronominal

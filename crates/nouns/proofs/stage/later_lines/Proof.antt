@@ -9,6 +9,7 @@ use Rattle.theorems.specs.Simple.Nouns.{Taking, either, chain, owned, afterNdAn
 use Rattle.letters.specs.declared.passed.Passed.{Passed}
 use Rattle.letters.specs.Passed.{passes}
 use Rattle.nouns.specs.Stage.{laterLines}
+use Rattle.marks.proofs.Laws.Marks.{place-reach}
 use Rattle.nouns.proofs.Laws.Passing.{either-moved, either-else}
 use Rattle.nouns.proofs.stage.later_lines.Statement.{statement}
 use Rattle.nouns.proofs.stage.later_lines.Tie as tie
@@ -52,15 +53,15 @@ left4 : (c : tie.Else3) → Left (c .before .before .before .before .before .bef
 left4 c x e = left3 (c .before .before) _ (either-else _ _ afterNUn from4 (c .before .after-nUn .ensures) (c .if3 .left) e)
 
 -- from the fifth on
-left5 : (c : tie.Else4) → Left (c .before .before .before .before .before .before .before .before .before) from5
-left5 c x e = left4 (c .before .before) _ (either-else _ _ (markOf lArI) from5 (c .before .mark-lArI .ensures) (c .if4 .left) e)
+left5 : (c : tie.Else4) → Left (c .before .before .before .before .before .before .before .before .before .before) from5
+left5 c x e = left4 (c .before .before .before) _ (either-else _ _ (markOf lArI) from5 (place-reach lArI _ _ (c .before .before .mark-lArI .ensures) (c .before .place .ensures)) (c .if4 .left) e)
 
 -- from the sixth on
-left6 : (c : tie.Else5) → Left (c .before .before .before .before .before .before .before .before .before .before .before) from6
+left6 : (c : tie.Else5) → Left (c .before .before .before .before .before .before .before .before .before .before .before .before) from6
 left6 c x e = left5 (c .before .before) _ (either-else _ _ chain from6 (c .before .chain-alone .ensures) (c .if5 .left) e)
 
 -- and the last alone
-left7 : (c : tie.Else6) → Left (c .before .before .before .before .before .before .before .before .before .before .before .before .before) (owned chain)
+left7 : (c : tie.Else6) → Left (c .before .before .before .before .before .before .before .before .before .before .before .before .before .before) (owned chain)
 left7 c x e = left6 (c .before .before) _ (either-else _ _ afterDA (owned chain) (c .before .after-DA .ensures) (c .if6 .left) e)
 
 -- ---- the needs ----
@@ -76,7 +77,7 @@ returns-3 : tie.Need-returns-3
 returns-3 c = left3 (c .before .before) _ (either-moved _ _ afterNUn from4 (c .before .after-nUn .ensures) (c .if3 .taken))
 
 returns-4 : tie.Need-returns-4
-returns-4 c = left4 (c .before .before) _ (either-moved _ _ (markOf lArI) from5 (c .before .mark-lArI .ensures) (c .if4 .taken))
+returns-4 c = left4 (c .before .before .before) _ (either-moved _ _ (markOf lArI) from5 (place-reach lArI _ _ (c .before .before .mark-lArI .ensures) (c .before .place .ensures)) (c .if4 .taken))
 
 returns-5 : tie.Need-returns-5
 returns-5 c = left5 (c .before .before) _ (either-moved _ _ chain from6 (c .before .chain-alone .ensures) (c .if5 .taken))
@@ -90,5 +91,5 @@ returns-7 c = left7 (c .before) _ (c .owned .ensures)
 pub later-lines-spec : {M : Type 1} → statement M
 later-lines-spec =
     tie.close
-    (tie.spec (λ c κs. search needs) returns (λ c κs. search needs) returns-2 (λ c κs. search needs) returns-3 (λ c κs. search needs) returns-4
+    (tie.spec (λ c κs. search needs) returns (λ c κs. search needs) returns-2 (λ c κs. search needs) returns-3 (λ c κs. search needs) (λ c κs. search needs) returns-4
     (λ c κs. search needs) returns-5 (λ c κs. search needs) returns-6 (λ c κs. search needs) returns-7)

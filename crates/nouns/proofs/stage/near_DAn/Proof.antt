@@ -3,7 +3,6 @@
 use borrow.Author.Needs.{needs}
 use Rattle.theorems.specs.Simple.Nouns.{either, chain, plural, possessed}
 use Rattle.letters.proofs.Laws.Sees.{sees-made}
-use Rattle.letters.proofs.Laws.Told.{hears-unasked}
 use Rattle.nouns.specs.Stage.{nearDAn}
 use Rattle.nouns.proofs.Laws.Passing.{passes-seen, place-either, place-else}
 use Rattle.nouns.proofs.stage.near_DAn.Statement.{statement}
@@ -13,7 +12,7 @@ possessed-requires : tie.Need-possessed-requires
 possessed-requires c κs = sees-made _ _ (c .look-back .ensures) (c .before .before .pre)
 
 plural-requires : tie.Need-plural-requires
-plural-requires c κs = let s = c .before .before in (possessed-requires s κs, hears-unasked _ (s .look-back .result .c))
+plural-requires c κs = possessed-requires (c .before .before) κs
 
 returns : tie.Need-returns
 unfolding nearDAn

@@ -5,7 +5,6 @@ use borrow.Author.Needs.{needs}
 use Rattle.theorems.specs.Simple.Nouns.{chain, owned}
 use Rattle.letters.specs.Passed.{passedTo, notPassed}
 use Rattle.letters.proofs.Laws.Sees.{sees-made}
-use Rattle.letters.proofs.Laws.Told.{hears-unasked}
 use Rattle.nouns.specs.Stage.{nearLAr}
 use Rattle.nouns.proofs.Laws.Passing.{passes-seen, place-either, place-else, place-perhaps, place-none, chain-none, chain-moved}
 use Rattle.nouns.proofs.stage.near_lost_lAr.Statement.{statement}
@@ -19,7 +18,7 @@ returns c =
     place-either _ _ chain (owned chain) moves refl
 
 owned-requires : tie.Need-owned-requires
-owned-requires c κs = (sees-made _ _ (c .look-back .ensures) (c .before .before .before .before .before .pre), hears-unasked _ (c .look-back .result .c))
+owned-requires c κs = sees-made _ _ (c .look-back .ensures) (c .before .before .before .before .before .pre)
 
 returns-2 : tie.Need-returns-2
 unfolding nearLAr notPassed

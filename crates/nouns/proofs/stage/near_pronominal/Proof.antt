@@ -5,9 +5,8 @@ use Rattle.theorems.specs.Simple.Grammar.{markOf}
 use Rattle.theorems.specs.Simple.NounMarks.{lArI}
 use Rattle.theorems.specs.Simple.Nouns.{chain, ownedBySU}
 use Rattle.letters.proofs.Laws.Sees.{sees-made}
-use Rattle.letters.proofs.Laws.Told.{hears-unasked}
 use Rattle.nouns.specs.Stage.{nearPronominal}
-use Rattle.nouns.proofs.Laws.Passing.{passes-seen, either-moved, either-else}
+use Rattle.nouns.proofs.Laws.Passing.{passes-seen, mark-seen, either-moved, either-else}
 use Rattle.nouns.proofs.stage.near_pronominal.Statement.{statement}
 use Rattle.nouns.proofs.stage.near_pronominal.Tie as tie
 
@@ -17,21 +16,21 @@ mark-lArI-requires c κs = sees-made _ _ (c .look-back .ensures) (c .before .bef
 returns : tie.Need-returns
 unfolding nearPronominal
 returns c =
-    let s = c .before .before in
-    either-moved _ _ (markOf lArI) (ownedBySU chain) (passes-seen _ _ (markOf lArI) (s .look-back .ensures) (c .before .mark-lArI .ensures)) (c .if1 .taken)
+    let s = c .before .before .before in
+    either-moved _ _ (markOf lArI) (ownedBySU chain) (mark-seen _ _ lArI (s .look-back .ensures) (c .before .before .mark-lArI .ensures) (c .before .place .ensures)) (c .if1 .taken)
 
 owned-by-sU-requires : tie.Need-owned-by-sU-requires
-owned-by-sU-requires c κs = let s = c .before .before in (mark-lArI-requires s κs, hears-unasked _ (s .look-back .result .c))
+owned-by-sU-requires c κs = mark-lArI-requires (c .before .before .before) κs
 
 returns-2 : tie.Need-returns-2
 unfolding nearPronominal
 returns-2 c =
     let l = c .before .before in
-    let s = l .before in
-    either-else _ _ (markOf lArI) (ownedBySU chain) (passes-seen _ _ (markOf lArI) (s .look-back .ensures) (l .mark-lArI .ensures)) (c .before .if1 .left)
+    let s = l .before .before in
+    either-else _ _ (markOf lArI) (ownedBySU chain) (mark-seen _ _ lArI (s .look-back .ensures) (l .before .mark-lArI .ensures) (l .place .ensures)) (c .before .if1 .left)
     (passes-seen _ _ (ownedBySU chain) (s .look-back .ensures) (c .owned-by-sU .ensures))
 
 pub near-pronominal-spec : {M : Type 1} → statement M
 near-pronominal-spec =
     tie.close
-    (tie.spec (λ c κs. search needs) mark-lArI-requires returns owned-by-sU-requires returns-2)
+    (tie.spec (λ c κs. search needs) mark-lArI-requires (λ c κs. search needs) returns owned-by-sU-requires returns-2)

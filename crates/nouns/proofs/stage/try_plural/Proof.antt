@@ -3,13 +3,12 @@
 use borrow.Author.Needs.{needs}
 use Rattle.theorems.specs.Simple.Nouns.{chain, plural}
 use Rattle.letters.proofs.Laws.Sees.{sees-made}
-use Rattle.letters.proofs.Laws.Told.{hears-unasked}
 use Rattle.nouns.proofs.Laws.Passing.{passes-seen, place-perhaps, place-none}
 use Rattle.nouns.proofs.stage.try_plural.Statement.{statement}
 use Rattle.nouns.proofs.stage.try_plural.Tie as tie
 
 plural-requires : tie.Need-plural-requires
-plural-requires c κs = (sees-made _ _ (c .look-back .ensures) (c .before .before .pre), hears-unasked _ (c .look-back .result .c))
+plural-requires c κs = sees-made _ _ (c .look-back .ensures) (c .before .before .pre)
 
 returns : tie.Need-returns
 returns c =
