@@ -68,7 +68,7 @@ pub fn mark_nU(w: &[u8], s: Seen) -> Marked
     let Among::Key(_, d) = find_among_b(w, s, &tables::A_2, 2) else {
         return Marked::Fails;
     };
-    Marked::kept_in_harmony(w, s.c, UNNUMBERED, Passed::to(d.cursor))
+    Marked::in_harmony(w, s.c, UNNUMBERED, d.cursor)
 }
 
 pub fn mark_nUn(w: &[u8], s: Seen) -> Marked
@@ -100,7 +100,7 @@ pub fn mark_nA(w: &[u8], s: Seen) -> Marked
     let Among::Key(_, d) = find_among_b(w, s, &tables::A_5, 2) else {
         return Marked::Fails;
     };
-    Marked::kept_in_harmony(w, s.c, UNNUMBERED, Passed::to(d.cursor))
+    Marked::in_harmony(w, s.c, UNNUMBERED, d.cursor)
 }
 
 pub fn mark_DA(w: &[u8], s: Seen) -> Marked
@@ -110,7 +110,7 @@ pub fn mark_DA(w: &[u8], s: Seen) -> Marked
     let Among::Key(_, d) = find_among_b(w, s, &tables::A_6, 2) else {
         return Marked::Fails;
     };
-    Marked::kept_in_harmony(w, s.c, UNNUMBERED, Passed::to(d.cursor))
+    Marked::in_harmony(w, s.c, UNNUMBERED, d.cursor)
 }
 
 pub fn mark_ndA(w: &[u8], s: Seen) -> Marked
@@ -120,7 +120,7 @@ pub fn mark_ndA(w: &[u8], s: Seen) -> Marked
     let Among::Key(_, d) = find_among_b(w, s, &tables::A_7, 3) else {
         return Marked::Fails;
     };
-    Marked::kept_in_harmony(w, s.c, UNNUMBERED, Passed::to(d.cursor))
+    Marked::in_harmony(w, s.c, UNNUMBERED, d.cursor)
 }
 
 pub fn mark_DAn(w: &[u8], s: Seen) -> Marked
@@ -130,7 +130,7 @@ pub fn mark_DAn(w: &[u8], s: Seen) -> Marked
     let Among::Key(_, d) = find_among_b(w, s, &tables::A_8, 3) else {
         return Marked::Fails;
     };
-    Marked::kept_in_harmony(w, s.c, UNNUMBERED, Passed::to(d.cursor))
+    Marked::in_harmony(w, s.c, UNNUMBERED, d.cursor)
 }
 
 pub fn mark_ndAn(w: &[u8], s: Seen) -> Marked
@@ -140,7 +140,7 @@ pub fn mark_ndAn(w: &[u8], s: Seen) -> Marked
     let Among::Key(_, d) = find_among_b(w, s, &tables::A_9, 4) else {
         return Marked::Fails;
     };
-    Marked::kept_in_harmony(w, s.c, UNNUMBERED, Passed::to(d.cursor))
+    Marked::in_harmony(w, s.c, UNNUMBERED, d.cursor)
 }
 
 pub fn mark_ylA(w: &[u8], s: Seen) -> Marked

@@ -22,12 +22,12 @@ returns c = mark-nothing ndAn (ndAn .keys) _ _ refl (searched (c .before .before
 returns-2 : tie.Need-returns-2
 unfolding unjoined ndAn marked
 returns-2 c =
-    let k = searched (c .before .before .before .before .before) in
-    let p = key-alone ndAn (ndAn .keys) _ _ refl k (c .before .before .before .d .given .1) refl (c .before .to .ensures) in
-    mark-in-harmony ndAn _ _ p refl (c .kept-in-harmony .ensures)
+    let k = searched (c .before .before .before .before) in
+    let p = key-alone ndAn (ndAn .keys) _ _ refl k (c .before .before .d .given .1) refl refl in
+    mark-in-harmony ndAn _ _ p refl (c .in-harmony .ensures)
 
 pub mark-ndAn-spec : {M : Type 1} → statement M
 mark-ndAn-spec =
     tie.close
     (tie.spec (λ c. search needs) (λ c κs. search needs) (λ c. search needs) (λ c. search needs) returns
-    (λ c κs. search needs) (λ c κs. search needs) returns-2)
+    (λ c κs. search needs) returns-2)
