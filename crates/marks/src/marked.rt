@@ -24,7 +24,8 @@ impl Marked {
         Marked::To(c.moved_to(p.at), kind, Accord::UNASKED)
     }
 
-    // The same of a mark that tests harmony.
+    // The same of a mark that tests harmony, which is walked for last: all must hold, so the answer is the same as in the Rust, which tests it
+    // first. The walk is called from here and below, so the compiler leaves it out of line and inlines these two into the marks.
     pub fn kept_in_harmony(w: &[u8], c: Cursor, kind: u32, p: Passed) -> Marked
         requires { ⌜ Open (now w) c ⌝ }
         ensures { λ r. ⌜ r ≡ keptInHarmony (now (w .entry)) c kind p ⌝ }
@@ -32,11 +33,14 @@ impl Marked {
         if !p.moved {
             return Marked::Fails;
         }
-        Marked::in_harmony(w, c, kind, p.at)
+        let heard = harmony::listen(w, c);
+        if !heard.holds() {
+            return Marked::Fails;
+        }
+        Marked::To(c.moved_to(p.at), kind, heard)
     }
 
-    // A mark that tests harmony and goes to a place. Harmony is walked for only here, where all else fits: all must hold, so the answer is the
-    // same as in the Rust, which tests harmony first. With many callers this stays a function of its own, and the tests before it are inlined.
+    // The same of a mark that nothing joins: it goes to the place before its key.
     pub fn in_harmony(w: &[u8], c: Cursor, kind: u32, at: usize) -> Marked
         requires { ⌜ Open (now w) c ⌝ }
         ensures { λ r. ⌜ r ≡ keptInHarmony (now (w .entry)) c kind (passedTo at) ⌝ }
