@@ -1,5 +1,4 @@
 -- A refused call gives its number and nothing else, and one that is answered number 0. Assumes nothing.
-use Prim.Native.Nat.{ℕ}
 use mathlib.Core.Path.{_≡_, refl}
 use mathlib.Core.Bool.{true, not}
 use mathlib.Core.List.{[]}

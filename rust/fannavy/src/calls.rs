@@ -250,7 +250,8 @@ pub fn noun<'a>(word: &[u8], out: &'a mut [u8]) -> Result<Noun<'a>, Refusal> {
     })
 }
 
-/// The whole run, which gives the stem that rust-stemmers 1.2.0 and Snowball give: the suffix stage of a
+/// The whole run, proved to give what turkish.sbl's commands give, and compared with the stems of
+/// rust-stemmers 1.2.0 and of Snowball: the suffix stage of a
 /// word that has two vowels or more and, unless the flag is false, the noun stage of what it keeps and the
 /// postlude of what that leaves; any other word is copied. The output has [`pass_room`] bytes or more.
 ///

@@ -7,8 +7,7 @@ use mathlib.Core.Bool.{Bool, true, false, cond, not, _&&_, _||_, false≢true}
 use mathlib.Core.List.{List, [], _∷_}
 use lib.ListN.{getD}
 use lib.Dec.{eqb}
-use borrow.Author.Tests.{eqb-true, eq-eqb, ne-eqb}
-use Rattle.utf8.specs.declared.cursor.Cursor.{Cursor}
+use borrow.Author.Tests.{eqb-true}
 use Rattle.utf8.specs.Behind.{behind}
 use Rattle.encoding.proofs.Laws.Booleans.{and-left, and-right, cond-cases}
 use Rattle.turkish.specs.Letters.{starts}

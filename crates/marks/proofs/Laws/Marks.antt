@@ -6,7 +6,7 @@ use mathlib.Core.Bool.{Bool, true, false, cond, not, _&&_, _||_, false≢true}
 use mathlib.Core.List.{List, [], _∷_}
 use native.Mathlib.Nat.{add-zero}
 use native.Mathlib.Omega.{arith}
-use lib.ListN.{length, drop, getD}
+use lib.ListN.{length, drop}
 use Rattle.utf8.specs.declared.cursor.Cursor.{Cursor}
 use Rattle.utf8.specs.Steps.{moveTo}
 use Rattle.utf8.specs.Behind.{behind, backBy, Open}
@@ -14,7 +14,7 @@ use Rattle.utf8.proofs.Laws.Behind.{behind-backBy, backBy-add, moveTo-backBy, o
 use Rattle.encoding.proofs.Laws.Booleans.{cond-cases}
 use Rattle.turkish.specs.Letters.{starts}
 use Rattle.theorems.specs.Simple.Harmony.{harmony}
-use Rattle.theorems.specs.Simple.Grammar.{Out, fail, took, more, after, asking, among, Joint, joining, Mark, markOf, mark}
+use Rattle.theorems.specs.Simple.Grammar.{Out, fail, took, more, after, asking, among, joining, Mark, markOf, mark}
 use Rattle.theorems.specs.Simple.Pieces.{Trace, none, keeps, total, firstTrace, foundBy, traceOut, traceOf, trace}
 use Rattle.theorems.proofs.Laws.Traces.{traceOf-none}
 use Rattle.letters.specs.declared.among.Among.{Among}
@@ -25,7 +25,7 @@ use Rattle.letters.specs.declared.passed.Passed.{Passed}
 use Rattle.letters.specs.declared.seen.Seen.{Seen}
 use Rattle.letters.specs.Passed.{passedTo, notPassed, passes}
 use Rattle.letters.specs.declared.harmony.Accord.{Accord}
-use Rattle.letters.specs.Accord.{holds, noAccord, accordAt, passedOn}
+use Rattle.letters.specs.Accord.{holds, accordAt, passedOn}
 use Rattle.letters.specs.Search.{foundFrom, found}
 use Rattle.letters.specs.Seen.{Sees}
 use Rattle.letters.proofs.Laws.Accord.{accord-holds, accord-passedOn}

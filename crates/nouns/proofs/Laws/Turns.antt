@@ -124,7 +124,8 @@ unfolding beforeKi both either closed
 closed-ki cs =
     closed-or cs (markOf DA cs) (either (plural chain) (possessed chain)) (λ k. beforeDA (drop k cs)) _ (mark-keeps DA cs) (λ k. closed-DA (drop k cs))
     ∙ ap (first _)
-    (closed-then cs (markOf nUn cs) (perhaps (either (markOf lArI) (either (owned chain) chain))) (λ k. beforeNUn (drop k cs)) (mark-keeps nUn cs) (λ k. closed-nUn (drop k cs)))
+    (closed-then cs (markOf nUn cs) (perhaps (either (markOf lArI) (either (owned chain) chain))) (λ k. beforeNUn (drop k cs)) (mark-keeps nUn cs)
+    (λ k. closed-nUn (drop k cs)))
 
 -- the chain by its first turn
 pub chain-closed : (cs : List ℕ) → chain cs ≡ closed (linkOf cs) cs

@@ -43,7 +43,8 @@ returns-3 c =
     let l2 = e .before .before .letter-of2 .ensures in
     let l3 = e .before .letter-of3 .ensures in
     c .to2 .ensures
-    ∙ letters-one _ _ (s .pre .0) _ _ _ (s .pre .1 .0) (s .pre .1 .1) l1 l2 l3 (sym (e .ends-in .ensures) ∙ not-false _ (c .before .before .before .if1 .left)) (c .before .before .if2 .left) (c .before .if3 .taken)
+    ∙ letters-one _ _ (s .pre .0) _ _ _ (s .pre .1 .0) (s .pre .1 .1) l1 l2 l3
+    (sym (e .ends-in .ensures) ∙ not-false _ (c .before .before .before .if1 .left)) (c .before .before .if2 .left) (c .before .if3 .taken)
 
 returns-4 : tie.Need-returns-4
 returns-4 c =
@@ -53,7 +54,8 @@ returns-4 c =
     let l2 = e .before .before .letter-of2 .ensures in
     let l3 = e .before .letter-of3 .ensures in
     c .to3 .ensures
-    ∙ letters-two _ _ (s .pre .0) _ _ _ (s .pre .1 .0) (s .pre .1 .1) l1 l2 l3 (sym (e .ends-in .ensures) ∙ not-false _ (c .before .before .before .before .if1 .left)) (c .before .before .before .if2 .left)
+    ∙ letters-two _ _ (s .pre .0) _ _ _ (s .pre .1 .0) (s .pre .1 .1) l1 l2 l3
+    (sym (e .ends-in .ensures) ∙ not-false _ (c .before .before .before .before .if1 .left)) (c .before .before .before .if2 .left)
     (c .before .before .if3 .left) (c .before .if4 .taken)
 
 returns-5 : tie.Need-returns-5
@@ -64,7 +66,8 @@ returns-5 c =
     let l2 = e .before .before .letter-of2 .ensures in
     let l3 = e .before .letter-of3 .ensures in
     c .to4 .ensures
-    ∙ letters-three _ _ (s .pre .0) _ _ _ (s .pre .1 .0) (s .pre .1 .1) l1 l2 l3 (sym (e .ends-in .ensures) ∙ not-false _ (c .before .before .before .before .before .if1 .left)) (c .before .before .before .before .if2 .left)
+    ∙ letters-three _ _ (s .pre .0) _ _ _ (s .pre .1 .0) (s .pre .1 .1) l1 l2 l3
+    (sym (e .ends-in .ensures) ∙ not-false _ (c .before .before .before .before .before .if1 .left)) (c .before .before .before .before .if2 .left)
     (c .before .before .before .if3 .left) (c .before .before .if4 .left) (c .before .if5 .taken)
 
 -- the start, from where the rest of the key is asked for
@@ -92,7 +95,8 @@ returns-6 c =
     let a = s .args in
     let rest = row (a .base + a .width - (a .base + 3)) (drop (a .base + 3) (now (a .keys))) in
     c .key-rest .ensures ∙ ap (λ (x : Cursor). over (now (a .w)) x rest) (c .before .moved-to .ensures)
-    ∙ letters-left _ _ (s .pre .0) _ _ _ (s .pre .1 .0) (s .pre .1 .1) l1 l2 l3 (sym (e .ends-in .ensures) ∙ not-false _ (c .before .before .before .before .before .before .if1 .left)) (c .before .before .before .before .before .if2 .left)
+    ∙ letters-left _ _ (s .pre .0) _ _ _ (s .pre .1 .0) (s .pre .1 .1) l1 l2 l3
+    (sym (e .ends-in .ensures) ∙ not-false _ (c .before .before .before .before .before .before .if1 .left)) (c .before .before .before .before .before .if2 .left)
     (c .before .before .before .before .if3 .left) (c .before .before .before .if4 .left)
 
 pub key-before-spec : {M : Type 1} → statement M

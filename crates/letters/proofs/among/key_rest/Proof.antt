@@ -79,7 +79,8 @@ loop-again c =
       omega (arith, read, le),
       omega arith,
       omega arith,
-      overPart-read low (partFrom w low) (l .at) keys (l .j) (s .args .upto) _ (c .before .before .read-back .ensures) (c .before .before .before .before .before .loop-test .taken) (omega arith)
+      overPart-read low (partFrom w low) (l .at) keys (l .j) (s .args .upto) _ (c .before .before .read-back .ensures)
+          (c .before .before .before .before .before .loop-test .taken) (omega arith)
           (c .before .before .before .if1 .left) (c .if2 .left) ∙ l .inv .3,
     )
 

@@ -1,5 +1,4 @@
 -- `letters::among::letter_of` meets its contract: behind the key's width there is none. Assumes nothing.
-use mathlib.Core.Path.{sym}
 use borrow.Author.Needs.{needs}
 use borrow.Author.Tests.{le-leb, lt-leb}
 use Rattle.letters.specs.Keys.{letterOf}

@@ -89,7 +89,8 @@ returns-6 c =
     let k = l .before .before in
     let s = k .before .before .before .before in
     c .to2 .ensures ∙ yken-apart (now (s .args .w)) (s .args .c) (s .pre) (k .back-over .result) (k .back-over .ensures)
-    (not-false _ (l .if1 .left)) (j .if3 .left) (ap (λ (x : Step). x .ch) (v .previous-char .ensures)) true (sym (b .is-vowel2 .ensures) ∙ not-false _ (c .before .if5 .left))
+    (not-false _ (l .if1 .left)) (j .if3 .left) (ap (λ (x : Step). x .ch) (v .previous-char .ensures)) true
+    (sym (b .is-vowel2 .ensures) ∙ not-false _ (c .before .if5 .left))
 
 pub back-over-yken-spec : {M : Type 1} → statement M
 back-over-yken-spec =

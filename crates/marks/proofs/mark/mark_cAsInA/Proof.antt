@@ -15,7 +15,8 @@ use Rattle.marks.proofs.mark.mark_cAsInA.Statement.{statement}
 use Rattle.marks.proofs.mark.mark_cAsInA.Tie as tie
 
 -- the table computes to the mark's keys
-searched : (c : tie.After-find-among-b) → let s = c .before .before .before .before .before in c .find-among-b .result ≡ found (cAsInA .keys) (now (s .args .w)) (s .args .s .c)
+searched : (c : tie.After-find-among-b)
+    → let s = c .before .before .before .before .before in c .find-among-b .result ≡ found (cAsInA .keys) (now (s .args .w)) (s .args .s .c)
 unfolding rows rowsWithin row upToZero cAsInA marked fromEnd text
 searched c = c .find-among-b .ensures
 
@@ -29,7 +30,8 @@ returns-2 c = mark-nothing cAsInA (cAsInA .keys) _ _ refl (searched (c .before .
 returns-3 : tie.Need-returns-3
 unfolding unjoined cAsInA marked
 returns-3 c =
-    let p = key-alone cAsInA (cAsInA .keys) _ _ refl (searched (c .before .before .before .before .before)) (c .before .before .before .d .given .1) refl (c .before .to .ensures) in
+    let p = key-alone cAsInA (cAsInA .keys) _ _ refl (searched (c .before .before .before .before .before))
+    (c .before .before .before .d .given .1) refl (c .before .to .ensures) in
     mark-kept cAsInA _ _ p refl (c .kept .ensures)
 
 pub mark-cAsInA-spec : {M : Type 1} → statement M

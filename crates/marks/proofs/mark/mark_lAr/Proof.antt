@@ -15,7 +15,8 @@ use Rattle.marks.proofs.mark.mark_lAr.Statement.{statement}
 use Rattle.marks.proofs.mark.mark_lAr.Tie as tie
 
 -- the table computes to the mark's keys
-searched : (c : tie.After-find-among-b) → let s = c .before .before .before .before .before .before in c .find-among-b .result ≡ found (lAr .keys) (now (s .args .w)) (s .args .s .c)
+searched : (c : tie.After-find-among-b)
+    → let s = c .before .before .before .before .before .before in c .find-among-b .result ≡ found (lAr .keys) (now (s .args .w)) (s .args .s .c)
 unfolding rows rowsWithin row upToZero lAr marked fromEnd text
 searched c = c .find-among-b .ensures
 

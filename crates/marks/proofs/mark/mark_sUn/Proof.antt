@@ -15,7 +15,8 @@ use Rattle.marks.proofs.mark.mark_sUn.Statement.{statement}
 use Rattle.marks.proofs.mark.mark_sUn.Tie as tie
 
 -- the table computes to the mark's keys
-searched : (c : tie.After-find-among-b) → let s = c .before .before .before .before .before in c .find-among-b .result ≡ found (sUn .keys) (now (s .args .w)) (s .args .s .c)
+searched : (c : tie.After-find-among-b)
+    → let s = c .before .before .before .before .before in c .find-among-b .result ≡ found (sUn .keys) (now (s .args .w)) (s .args .s .c)
 unfolding rows rowsWithin row upToZero sUn marked fromEnd text
 searched c = c .find-among-b .ensures
 

@@ -15,7 +15,8 @@ use Rattle.marks.proofs.mark.mark_sUnUz.Statement.{statement}
 use Rattle.marks.proofs.mark.mark_sUnUz.Tie as tie
 
 -- the table computes to the mark's keys
-searched : (c : tie.After-find-among-b) → let s = c .before .before .before .before .before in c .find-among-b .result ≡ found (sUnUz .keys) (now (s .args .w)) (s .args .s .c)
+searched : (c : tie.After-find-among-b)
+    → let s = c .before .before .before .before .before in c .find-among-b .result ≡ found (sUnUz .keys) (now (s .args .w)) (s .args .s .c)
 unfolding rows rowsWithin row upToZero sUnUz marked fromEnd text
 searched c = c .find-among-b .ensures
 
@@ -29,7 +30,8 @@ returns-2 c = mark-nothing sUnUz (sUnUz .keys) _ _ refl (searched (c .before .be
 returns-3 : tie.Need-returns-3
 unfolding unjoined sUnUz marked
 returns-3 c =
-    let p = key-alone sUnUz (sUnUz .keys) _ _ refl (searched (c .before .before .before .before .before)) (c .before .before .before .d .given .1) refl (c .before .to .ensures) in
+    let p = key-alone sUnUz (sUnUz .keys) _ _ refl (searched (c .before .before .before .before .before))
+    (c .before .before .before .d .given .1) refl (c .before .to .ensures) in
     mark-kept sUnUz _ _ p refl (c .kept .ensures)
 
 pub mark-sUnUz-spec : {M : Type 1} → statement M

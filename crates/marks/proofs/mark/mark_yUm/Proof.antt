@@ -16,7 +16,8 @@ use Rattle.marks.proofs.mark.mark_yUm.Statement.{statement}
 use Rattle.marks.proofs.mark.mark_yUm.Tie as tie
 
 -- the table computes to the mark's keys
-searched : (c : tie.After-find-among-b) → let s = c .before .before .before .before .before in c .find-among-b .result ≡ found (yUm .keys) (now (s .args .w)) (s .args .s .c)
+searched : (c : tie.After-find-among-b)
+    → let s = c .before .before .before .before .before in c .find-among-b .result ≡ found (yUm .keys) (now (s .args .w)) (s .args .s .c)
 unfolding rows rowsWithin row upToZero yUm marked fromEnd text
 searched c = c .find-among-b .ensures
 
@@ -35,7 +36,8 @@ mark-suffix-with-optional-consonant-requires c κs =
 returns-3 : tie.Need-returns-3
 unfolding joining byY yUm marked text
 returns-3 c =
-    let p = key-joined yUm (yUm .keys) _ _ refl (searched (c .before .before .before .before .before)) (c .before .before .before .d .given .1) (c .before .mark-suffix-with-optional-consonant .ensures) in
+    let p = key-joined yUm (yUm .keys) _ _ refl (searched (c .before .before .before .before .before)) (c .before .before .before .d .given .1)
+    (c .before .mark-suffix-with-optional-consonant .ensures) in
     mark-in-harmony yUm _ _ p refl (c .kept-in-harmony .ensures)
 
 pub mark-yUm-spec : {M : Type 1} → statement M

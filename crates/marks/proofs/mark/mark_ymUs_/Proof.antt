@@ -16,7 +16,8 @@ use Rattle.marks.proofs.mark.mark_ymUs_.Statement.{statement}
 use Rattle.marks.proofs.mark.mark_ymUs_.Tie as tie
 
 -- the table computes to the mark's keys
-searched : (c : tie.After-find-among-b) → let s = c .before .before .before .before .before in c .find-among-b .result ≡ found (ymUs .keys) (now (s .args .w)) (s .args .s .c)
+searched : (c : tie.After-find-among-b)
+    → let s = c .before .before .before .before .before in c .find-among-b .result ≡ found (ymUs .keys) (now (s .args .w)) (s .args .s .c)
 unfolding rows rowsWithin row upToZero ymUs marked fromEnd text
 searched c = c .find-among-b .ensures
 
@@ -35,7 +36,8 @@ mark-suffix-with-optional-consonant-requires c κs =
 returns-3 : tie.Need-returns-3
 unfolding joining byY ymUs marked text
 returns-3 c =
-    let p = key-joined ymUs (ymUs .keys) _ _ refl (searched (c .before .before .before .before .before)) (c .before .before .before .d .given .1) (c .before .mark-suffix-with-optional-consonant .ensures) in
+    let p = key-joined ymUs (ymUs .keys) _ _ refl (searched (c .before .before .before .before .before)) (c .before .before .before .d .given .1)
+    (c .before .mark-suffix-with-optional-consonant .ensures) in
     mark-in-harmony ymUs _ _ p refl (c .kept-in-harmony .ensures)
 
 pub mark-ymUs--spec : {M : Type 1} → statement M

@@ -17,13 +17,15 @@ use Rattle.marks.proofs.mark.mark_ysA.Statement.{statement}
 use Rattle.marks.proofs.mark.mark_ysA.Tie as tie
 
 -- the table computes to the mark's keys
-searched : (c : tie.After-find-among-b) → let s = c .before .before .before .before .before .before in c .find-among-b .result ≡ found (ysA .keys) (now (s .args .w)) (s .args .s .c)
+searched : (c : tie.After-find-among-b)
+    → let s = c .before .before .before .before .before .before in c .find-among-b .result ≡ found (ysA .keys) (now (s .args .w)) (s .args .s .c)
 unfolding rows rowsWithin row upToZero ysA marked fromEnd text
 searched c = c .find-among-b .ensures
 
 returns : tie.Need-returns
 unfolding begins every lastPasses ysA marked fromEnd text isA isKMN
-returns c = let s = c .before .before .before .before in mark-unfit ysA (λ a. isA a || isKMN a) refl _ (s .args .s) (s .pre) (rw (← c .before .before .is-A .ensures, ← c .before .is-kmn .ensures) (not-true _ (c .if1 .taken)))
+returns c = let s = c .before .before .before .before in mark-unfit ysA (λ a. isA a || isKMN a) refl _ (s .args .s) (s .pre)
+    (rw (← c .before .before .is-A .ensures, ← c .before .is-kmn .ensures) (not-true _ (c .if1 .taken)))
 
 returns-2 : tie.Need-returns-2
 returns-2 c = mark-nothing ysA (ysA .keys) _ _ refl (searched (c .before .before)) (c .enum-told .given .1)
@@ -36,7 +38,8 @@ mark-suffix-with-optional-consonant-requires c κs =
 returns-3 : tie.Need-returns-3
 unfolding joining byY ysA marked text
 returns-3 c =
-    let p = key-joined ysA (ysA .keys) _ _ refl (searched (c .before .before .before .before .before)) (c .before .before .before .d .given .1) (c .before .mark-suffix-with-optional-consonant .ensures) in
+    let p = key-joined ysA (ysA .keys) _ _ refl (searched (c .before .before .before .before .before)) (c .before .before .before .d .given .1)
+    (c .before .mark-suffix-with-optional-consonant .ensures) in
     mark-kept ysA _ _ p refl (c .kept .ensures)
 
 pub mark-ysA-spec : {M : Type 1} → statement M

@@ -28,7 +28,8 @@ before-possessive-requires : tie.Need-before-possessive-requires
 before-possessive-requires c κs =
     let p = c .before .before in
     let s = p .before .before .before .before .before in
-    leads-open _ _ (leads-moved _ _ _ (mark-seen _ _ possessives (s .look-back .ensures) (p .before .mark-possessives .ensures) (p .place2 .ensures)) (c .before .if2 .taken) (c .moved-to .ensures))
+    leads-open _ _ (leads-moved _ _ _
+    (mark-seen _ _ possessives (s .look-back .ensures) (p .before .mark-possessives .ensures) (p .place2 .ensures)) (c .before .if2 .taken) (c .moved-to .ensures))
     (s .before .before .pre)
 
 returns-2 : tie.Need-returns-2
@@ -39,7 +40,8 @@ returns-2 c =
     let l = p .before .before .before in
     let s = l .before .before in
     let is = mark-seen _ _ possessives (s .look-back .ensures) (p .before .mark-possessives .ensures) (p .place2 .ensures) in
-    or-none _ _ (markOf lAr) _ (λ k. calls 0) (mark-seen _ _ lAr (s .look-back .ensures) (l .before .mark-lAr .ensures) (l .place .ensures)) (p .before .before .if1 .left)
+    or-none _ _ (markOf lAr) _ (λ k. calls 0) (mark-seen _ _ lAr (s .look-back .ensures) (l .before .mark-lAr .ensures) (l .place .ensures))
+    (p .before .before .if1 .left)
     (or-then _ _ (markOf possessives) (ends 0) (leads-moved _ _ _ is (d .before .if2 .taken) (d .moved-to .ensures)) beforeLAr (c .before-possessive .ensures))
 
 returns-3 : tie.Need-returns-3
@@ -48,8 +50,10 @@ returns-3 c =
     let p = c .before in
     let l = p .before .before .before in
     let s = l .before .before in
-    or-none _ _ (markOf lAr) _ (λ k. calls 0) (mark-seen _ _ lAr (s .look-back .ensures) (l .before .mark-lAr .ensures) (l .place .ensures)) (p .before .before .if1 .left)
-    (or-none _ _ (markOf possessives) (ends 0) _ (mark-seen _ _ possessives (s .look-back .ensures) (p .before .mark-possessives .ensures) (p .place2 .ensures)) (c .if2 .left)
+    or-none _ _ (markOf lAr) _ (λ k. calls 0) (mark-seen _ _ lAr (s .look-back .ensures) (l .before .mark-lAr .ensures) (l .place .ensures))
+    (p .before .before .if1 .left)
+    (or-none _ _ (markOf possessives) (ends 0) _
+    (mark-seen _ _ possessives (s .look-back .ensures) (p .before .mark-possessives .ensures) (p .place2 .ensures)) (c .if2 .left)
     (ends-here _ _ (s .before .before .pre)))
 
 pub before-DA-spec : {M : Type 1} → statement M

@@ -38,7 +38,8 @@ returns-2 c =
     let l = p .before .before .before in
     let s = l .before .before in
     let is = mark-seen _ _ possessives (s .look-back .ensures) (p .before .mark-possessives .ensures) (p .place2 .ensures) in
-    or-none _ _ (markOf lArI) _ (λ k. ends 0) (mark-seen _ _ lArI (s .look-back .ensures) (l .before .mark-lArI .ensures) (l .place .ensures)) (p .before .before .if1 .left)
+    or-none _ _ (markOf lArI) _ (λ k. ends 0) (mark-seen _ _ lArI (s .look-back .ensures) (l .before .mark-lArI .ensures) (l .place .ensures))
+    (p .before .before .if1 .left)
     (or-then _ _ (markOf possessives) _ (leads-moved _ _ _ is (d .before .if2 .taken) (d .moved-to .ensures)) beforeLAr (c .before-possessive .ensures))
 
 mark-sU-requires : tie.Need-mark-sU-requires
@@ -61,8 +62,10 @@ returns-3 c =
     let l = p .before .before .before in
     let s = l .before .before in
     let is = mark-seen _ _ sU (s .look-back .ensures) (r .before .mark-sU .ensures) (r .place3 .ensures) in
-    or-none _ _ (markOf lArI) _ (λ k. ends 0) (mark-seen _ _ lArI (s .look-back .ensures) (l .before .mark-lArI .ensures) (l .place .ensures)) (p .before .before .if1 .left)
-    (or-none _ _ (markOf possessives) _ _ (mark-seen _ _ possessives (s .look-back .ensures) (p .before .mark-possessives .ensures) (p .place2 .ensures)) (r .before .before .if2 .left)
+    or-none _ _ (markOf lArI) _ (λ k. ends 0) (mark-seen _ _ lArI (s .look-back .ensures) (l .before .mark-lArI .ensures) (l .place .ensures))
+    (p .before .before .if1 .left)
+    (or-none _ _ (markOf possessives) _ _
+    (mark-seen _ _ possessives (s .look-back .ensures) (p .before .mark-possessives .ensures) (p .place2 .ensures)) (r .before .before .if2 .left)
     (or-then _ _ (markOf sU) (calls 0) (leads-moved _ _ _ is (d .before .if3 .taken) (d .moved-to2 .ensures)) beforeLAr (c .before-possessive2 .ensures)))
 
 returns-4 : tie.Need-returns-4
@@ -72,8 +75,10 @@ returns-4 c =
     let p = r .before .before .before in
     let l = p .before .before .before in
     let s = l .before .before in
-    or-none _ _ (markOf lArI) _ (λ k. ends 0) (mark-seen _ _ lArI (s .look-back .ensures) (l .before .mark-lArI .ensures) (l .place .ensures)) (p .before .before .if1 .left)
-    (or-none _ _ (markOf possessives) _ _ (mark-seen _ _ possessives (s .look-back .ensures) (p .before .mark-possessives .ensures) (p .place2 .ensures)) (r .before .before .if2 .left)
+    or-none _ _ (markOf lArI) _ (λ k. ends 0) (mark-seen _ _ lArI (s .look-back .ensures) (l .before .mark-lArI .ensures) (l .place .ensures))
+    (p .before .before .if1 .left)
+    (or-none _ _ (markOf possessives) _ _
+    (mark-seen _ _ possessives (s .look-back .ensures) (p .before .mark-possessives .ensures) (p .place2 .ensures)) (r .before .before .if2 .left)
     (or-none _ _ (markOf sU) (calls 0) _ (mark-seen _ _ sU (s .look-back .ensures) (r .before .mark-sU .ensures) (r .place3 .ensures)) (c .if3 .left)
     (calls-here _ _ (s .before .before .pre))))
 

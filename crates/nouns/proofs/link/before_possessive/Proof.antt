@@ -17,7 +17,8 @@ unfolding beforeLAr
 returns c =
     let m = c .before in
     let s = m .before .before in
-    or-calls _ _ (markOf lAr) (ends 0) (mark-seen _ _ lAr (s .look-back .ensures) (m .before .mark-lAr .ensures) (m .place .ensures)) (c .if1 .taken) (s .before .before .pre)
+    or-calls _ _ (markOf lAr) (ends 0) (mark-seen _ _ lAr (s .look-back .ensures) (m .before .mark-lAr .ensures) (m .place .ensures))
+    (c .if1 .taken) (s .before .before .pre)
 
 returns-2 : tie.Need-returns-2
 unfolding beforeLAr

@@ -19,7 +19,8 @@ returns : tie.Need-returns
 unfolding linkOf linked
 returns c =
     let k = c .before .before in
-    or-none _ _ (markOf ki) unfit _ (mark-seen _ _ ki (k .before .before .look-back .ensures) (k .before .mark-ki .ensures) (k .place .ensures)) (not-true _ (c .if1 .taken)) refl
+    or-none _ _ (markOf ki) unfit _ (mark-seen _ _ ki (k .before .before .look-back .ensures) (k .before .mark-ki .ensures) (k .place .ensures))
+    (not-true _ (c .if1 .taken)) refl
 
 look-back-requires-2 : tie.Need-look-back-requires-2
 look-back-requires-2 c κs =

@@ -54,7 +54,8 @@ left4 c x e = left3 (c .before .before) _ (either-else _ _ afterNUn from4 (c .be
 
 -- from the fifth on
 left5 : (c : tie.Else4) → Left (c .before .before .before .before .before .before .before .before .before .before) from5
-left5 c x e = left4 (c .before .before .before) _ (either-else _ _ (markOf lArI) from5 (place-reach lArI _ _ (c .before .before .mark-lArI .ensures) (c .before .place .ensures)) (c .if4 .left) e)
+left5 c x e = left4 (c .before .before .before) _
+    (either-else _ _ (markOf lArI) from5 (place-reach lArI _ _ (c .before .before .mark-lArI .ensures) (c .before .place .ensures)) (c .if4 .left) e)
 
 -- from the sixth on
 left6 : (c : tie.Else5) → Left (c .before .before .before .before .before .before .before .before .before .before .before .before) from6
@@ -77,7 +78,8 @@ returns-3 : tie.Need-returns-3
 returns-3 c = left3 (c .before .before) _ (either-moved _ _ afterNUn from4 (c .before .after-nUn .ensures) (c .if3 .taken))
 
 returns-4 : tie.Need-returns-4
-returns-4 c = left4 (c .before .before .before) _ (either-moved _ _ (markOf lArI) from5 (place-reach lArI _ _ (c .before .before .mark-lArI .ensures) (c .before .place .ensures)) (c .if4 .taken))
+returns-4 c = left4 (c .before .before .before) _
+    (either-moved _ _ (markOf lArI) from5 (place-reach lArI _ _ (c .before .before .mark-lArI .ensures) (c .before .place .ensures)) (c .if4 .taken))
 
 returns-5 : tie.Need-returns-5
 returns-5 c = left5 (c .before .before) _ (either-moved _ _ chain from6 (c .before .chain-alone .ensures) (c .if5 .taken))

@@ -63,4 +63,5 @@ returns-4 c =
 pub near-ncA-spec : {M : Type 1} → statement M
 near-ncA-spec =
     tie.close
-    (tie.spec (λ c κs. search needs) mark-lArI-requires (λ c κs. search needs) returns owned-requires returns-2 (λ c. owned-requires (c .before .before)) returns-3 returns-4)
+    (tie.spec (λ c κs. search needs) mark-lArI-requires (λ c κs. search needs) returns owned-requires returns-2
+    (λ c. owned-requires (c .before .before)) returns-3 returns-4)

@@ -17,7 +17,8 @@ returns : tie.Need-returns
 unfolding nearPronominal
 returns c =
     let s = c .before .before .before in
-    either-moved _ _ (markOf lArI) (ownedBySU chain) (mark-seen _ _ lArI (s .look-back .ensures) (c .before .before .mark-lArI .ensures) (c .before .place .ensures)) (c .if1 .taken)
+    either-moved _ _ (markOf lArI) (ownedBySU chain)
+    (mark-seen _ _ lArI (s .look-back .ensures) (c .before .before .mark-lArI .ensures) (c .before .place .ensures)) (c .if1 .taken)
 
 owned-by-sU-requires : tie.Need-owned-by-sU-requires
 owned-by-sU-requires c κs = mark-lArI-requires (c .before .before .before) κs
@@ -27,7 +28,8 @@ unfolding nearPronominal
 returns-2 c =
     let l = c .before .before in
     let s = l .before .before in
-    either-else _ _ (markOf lArI) (ownedBySU chain) (mark-seen _ _ lArI (s .look-back .ensures) (l .before .mark-lArI .ensures) (l .place .ensures)) (c .before .if1 .left)
+    either-else _ _ (markOf lArI) (ownedBySU chain) (mark-seen _ _ lArI (s .look-back .ensures) (l .before .mark-lArI .ensures) (l .place .ensures))
+    (c .before .if1 .left)
     (passes-seen _ _ (ownedBySU chain) (s .look-back .ensures) (c .owned-by-sU .ensures))
 
 pub near-pronominal-spec : {M : Type 1} → statement M

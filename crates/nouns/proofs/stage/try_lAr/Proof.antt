@@ -19,7 +19,8 @@ returns c =
 returns-2 : tie.Need-returns-2
 returns-2 c =
     let s = c .before .before .before in
-    place-none _ _ (markOf lAr) (mark-seen _ _ lAr (s .look-back .ensures) (c .before .before .mark-lAr .ensures) (c .before .place .ensures)) (c .if1 .left) (s .before .before .pre)
+    place-none _ _ (markOf lAr) (mark-seen _ _ lAr (s .look-back .ensures) (c .before .before .mark-lAr .ensures) (c .before .place .ensures))
+    (c .if1 .left) (s .before .before .pre)
 
 pub try-lAr-spec : {M : Type 1} → statement M
 try-lAr-spec = tie.close (tie.spec (λ c κs. search needs) mark-lAr-requires (λ c κs. search needs) returns returns-2)

@@ -44,24 +44,28 @@ followed-requires-4 c κs = search needs
 returns-2 : tie.Need-returns-2
 unfolding hardForm
 returns-2 c =
-    let key = hardened-key _ _ _ _ (c .before .before .before .before .before .before .before .before .pre .1) (c .before .before .before .before .before .find-among-b .ensures) in
+    let key = hardened-key _ _ _ _ (c .before .before .before .before .before .before .before .before .pre .1)
+    (c .before .before .before .before .before .find-among-b .ensures) in
     key _ _ _ _ (c .before .before .before .i .given .1) (ap hardForm (c .before .match2 .keys1)) (c .followed .ensures)
 
 returns-3 : tie.Need-returns-3
 unfolding hardForm
 returns-3 c =
-    let key = hardened-key _ _ _ _ (c .before .before .before .before .before .before .before .before .pre .1) (c .before .before .before .before .before .find-among-b .ensures) in
+    let key = hardened-key _ _ _ _ (c .before .before .before .before .before .before .before .before .pre .1)
+    (c .before .before .before .before .before .find-among-b .ensures) in
     key _ _ _ _ (c .before .before .before .i .given .1) (ap hardForm (c .before .match2 .keys2)) (c .followed2 .ensures)
 
 returns-4 : tie.Need-returns-4
 unfolding hardForm
 returns-4 c =
-    let key = hardened-key _ _ _ _ (c .before .before .before .before .before .before .before .before .pre .1) (c .before .before .before .before .before .find-among-b .ensures) in
+    let key = hardened-key _ _ _ _ (c .before .before .before .before .before .before .before .before .pre .1)
+    (c .before .before .before .before .before .find-among-b .ensures) in
     key _ _ _ _ (c .before .before .before .i .given .1) (ap hardForm (c .before .match2 .keys3)) (c .followed3 .ensures)
 
 returns-5 : tie.Need-returns-5
 returns-5 c =
-    let key = hardened-key _ _ _ _ (c .before .before .before .before .before .before .before .before .pre .1) (c .before .before .before .before .before .find-among-b .ensures) in
+    let key = hardened-key _ _ _ _ (c .before .before .before .before .before .before .before .before .pre .1)
+    (c .before .before .before .before .before .find-among-b .ensures) in
     let r = c .before .match2 .rest in
     key _ _ _ _ (c .before .before .before .i .given .1) (hardForm-last _ (r .0 .0 .1) (r .0 .1) (r .1)) (c .followed4 .ensures)
 

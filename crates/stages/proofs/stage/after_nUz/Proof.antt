@@ -1,4 +1,5 @@
--- `stages::stage::after_nUz` meets its contract: the first mark of the group that fits. Assumes nothing.
+-- `stages::stage::after_nUz` meets its contract: the first mark of the group that fits. In each answer x1, x2, .. are the places behind the marks in
+-- their order. Assumes nothing.
 use borrow.Author.Needs.{needs}
 use Rattle.theorems.specs.Simple.Pieces.{trace}
 use Rattle.marks.proofs.Laws.Marks.{reach-first, reach-next}
@@ -8,13 +9,16 @@ use Rattle.stages.proofs.stage.after_nUz.Tie as tie
 returns : tie.Need-returns
 unfolding trace
 returns c =
-    reach-first _ _ _ _ (c .before .before .before .mark-yDU .ensures) (c .before .c .given .1)
+    let x1 = c .before .before .before in
+    reach-first _ _ _ _ (x1 .mark-yDU .ensures) (c .before .c .given .1)
 
 returns-2 : tie.Need-returns-2
 unfolding trace
 returns-2 c =
-    reach-next _ _ _ _ (c .before .before .before .mark-yDU .ensures) (c .before .enum-told .given .1)
-    (c .mark-ysA .ensures)
+    let x2 = c in
+    let x1 = x2 .before .before .before in
+    reach-next _ _ _ _ (x1 .mark-yDU .ensures) (x2 .before .enum-told .given .1)
+    (x2 .mark-ysA .ensures)
 
 pub after-nUz-spec : {M : Type 1} → statement M
 after-nUz-spec =

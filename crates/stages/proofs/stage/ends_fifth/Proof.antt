@@ -1,6 +1,5 @@
 -- `stages::stage::ends_fifth` meets its contract: its code is the definition. Assumes nothing.
 use mathlib.Core.Path.{refl}
-use borrow.Author.Needs.{needs}
 use Rattle.stages.specs.Groups.{fifthEnds}
 use Rattle.stages.proofs.stage.ends_fifth.Statement.{statement}
 use Rattle.stages.proofs.stage.ends_fifth.Tie as tie

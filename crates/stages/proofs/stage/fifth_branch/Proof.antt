@@ -33,7 +33,8 @@ returns-2 : tie.Need-returns-2
 unfolding trace try branch5 onlyMarks noWay noTrail noStop noAccord
 returns-2 c =
     let l = c .before .before .before .before in
-    let step = steps-group _ _ personAlone refl (c .before .before .before .before .before .before .before .before .before .person-alone .ensures) (c .before .before .before .before .before .before .before .c .given .1) in
+    let step = steps-group _ _ personAlone refl (c .before .before .before .before .before .before .before .before .before .person-alone .ensures)
+    (c .before .before .before .before .before .before .before .c .given .1) in
     let is = along-seen _ _ (traceOf ymUs) (l .look-back .ensures) (c .before .before .before .ymUs-alone .ensures) in
     try-none _ _ step (traceOf ymUs) (l .before .deleted .ensures) (c .before .before .before .before .before .before .before .before .before .before .before .pre .opens)
     (along-unfit _ _ _ is (c .before .enum-told2 .given .1)) (c .behind .ensures)
@@ -42,7 +43,9 @@ returns-3 : tie.Need-returns-3
 unfolding trace try branch5 onlyMarks
 returns-3 c =
     let l = c .before .before .before .before .before .before in
-    let step = steps-group _ _ personAlone refl (c .before .before .before .before .before .before .before .before .before .before .before .person-alone .ensures) (c .before .before .before .before .before .before .before .before .before .c .given .1) in
+    let step = steps-group _ _ personAlone refl
+    (c .before .before .before .before .before .before .before .before .before .before .before .person-alone .ensures)
+    (c .before .before .before .before .before .before .before .before .before .c .given .1) in
     let is = along-seen _ _ (traceOf ymUs) (l .look-back .ensures) (c .before .before .before .before .before .ymUs-alone .ensures) in
     try-cut _ _ step (traceOf ymUs) (l .before .deleted .ensures) (sym (c .before .before .before .e .given .1) ∙ is) (c .before .deleted2 .ensures) (c .behind2 .ensures)
 

@@ -30,7 +30,8 @@ returns-2 : tie.Need-returns-2
 unfolding trace branch4
 returns-2 c =
     let l = c .before .before .before in
-    let step = steps-mark _ _ nUz (c .before .before .before .before .before .before .before .mark-nUz .ensures) (c .before .before .before .before .before .c .given .1) in
+    let step = steps-mark _ _ nUz (c .before .before .before .before .before .before .before .mark-nUz .ensures)
+    (c .before .before .before .before .before .c .given .1) in
     let is = reach-seen _ _ (trace afterNUz) (l .look-back .ensures) (c .before .before .after-nUz .ensures) in
     cut-none _ _ _ (then-none _ _ step (trace afterNUz) (reach-fails _ _ _ is (c .enum-told2 .given .1)))
 
@@ -38,7 +39,8 @@ returns-3 : tie.Need-returns-3
 unfolding trace branch4 onlyMarks noWay noTrail noStop noAccord
 returns-3 c =
     let l = c .before .before .before .before .before .before .before in
-    let step = steps-mark _ _ nUz (c .before .before .before .before .before .before .before .before .before .before .before .mark-nUz .ensures) (c .before .before .before .before .before .before .before .before .before .c .given .1) in
+    let step = steps-mark _ _ nUz (c .before .before .before .before .before .before .before .before .before .before .before .mark-nUz .ensures)
+    (c .before .before .before .before .before .before .before .before .before .c .given .1) in
     let is = reach-seen _ _ (trace afterNUz) (l .look-back .ensures) (c .before .before .before .before .before .before .after-nUz .ensures) in
     let next = steps-group _ _ afterNUz refl is (c .before .before .before .before .d .given .1) in
     then-cut _ _ step (trace afterNUz) (along-step _ _ next (c .before .behind .ensures)) (c .before .before .deleted .ensures) (c .behind2 .ensures)

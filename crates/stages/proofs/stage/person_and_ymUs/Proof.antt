@@ -18,7 +18,8 @@ returns c =
     ∙ sym (ap (along _ _) (person-absent _ (reach-fails _ _ _ (c .before .before .before .person .ensures) (c .before .enum-told .given .1))))
 
 look-back-requires : tie.Need-look-back-requires
-look-back-requires c κs = open-step _ _ (steps-person _ _ (c .before .before .before .person .ensures) (c .before .d .given .1)) (c .before .before .before .before .before .pre .opens)
+look-back-requires c κs = open-step _ _ (steps-person _ _ (c .before .before .before .person .ensures) (c .before .d .given .1))
+    (c .before .before .before .before .before .pre .opens)
 
 ymUs-alone-requires-2 : tie.Need-ymUs-alone-requires-2
 ymUs-alone-requires-2 c κs = sees-made _ _ (c .look-back .ensures) (look-back-requires (c .before) κs)
@@ -35,7 +36,8 @@ returns-3 : tie.Need-returns-3
 unfolding trace
 returns-3 c =
     let l = c .before .before .before .before .before in
-    let step = steps-person _ _ (c .before .before .before .before .before .before .before .before .before .person .ensures) (c .before .before .before .before .before .before .before .d .given .1) in
+    let step = steps-person _ _ (c .before .before .before .before .before .before .before .before .before .person .ensures)
+    (c .before .before .before .before .before .before .before .d .given .1) in
     let is = along-seen _ _ (traceOf ymUs) (l .look-back .ensures) (c .before .before .before .before .ymUs-alone2 .ensures) in
     then-along _ _ step (traceOf ymUs) (sym (c .before .before .e .given .1) ∙ is) (c .behind .ensures)
 

@@ -19,7 +19,8 @@ returns c = cut-none _ _ _ (after-none _ _ (reach-fails _ _ _ (c .before .before
 
 look-back-requires : tie.Need-look-back-requires
 look-back-requires c κs =
-    open-step _ _ (steps-mark _ _ cAsInA (c .before .before .before .mark-cAsInA .ensures) (c .before .c .given .1)) (c .before .before .before .before .before .pre .opens)
+    open-step _ _ (steps-mark _ _ cAsInA (c .before .before .before .mark-cAsInA .ensures) (c .before .c .given .1))
+    (c .before .before .before .before .before .pre .opens)
 
 person-and-ymUs-requires : tie.Need-person-and-ymUs-requires
 person-and-ymUs-requires c κs = sees-made _ _ (c .look-back .ensures) (look-back-requires (c .before) κs)
@@ -28,7 +29,8 @@ returns-2 : tie.Need-returns-2
 unfolding trace branch2
 returns-2 c =
     let l = c .before .before .before in
-    let step = steps-mark _ _ cAsInA (c .before .before .before .before .before .before .before .mark-cAsInA .ensures) (c .before .before .before .before .before .c .given .1) in
+    let step = steps-mark _ _ cAsInA (c .before .before .before .before .before .before .before .mark-cAsInA .ensures)
+    (c .before .before .before .before .before .c .given .1) in
     let is = along-seen _ _ (trace (person then mark ymUs)) (l .look-back .ensures) (c .before .before .person-and-ymUs .ensures) in
     cut-none _ _ _ (then-none _ _ step (trace (person then mark ymUs)) (along-unfit _ _ _ is (c .enum-told2 .given .1)))
 
@@ -36,7 +38,8 @@ returns-3 : tie.Need-returns-3
 unfolding trace branch2
 returns-3 c =
     let l = c .before .before .before .before .before .before in
-    let step = steps-mark _ _ cAsInA (c .before .before .before .before .before .before .before .before .before .before .mark-cAsInA .ensures) (c .before .before .before .before .before .before .before .before .c .given .1) in
+    let step = steps-mark _ _ cAsInA (c .before .before .before .before .before .before .before .before .before .before .mark-cAsInA .ensures)
+    (c .before .before .before .before .before .before .before .before .c .given .1) in
     let is = along-seen _ _ (trace (person then mark ymUs)) (l .look-back .ensures) (c .before .before .before .before .before .person-and-ymUs .ensures) in
     then-cut _ _ step (trace (person then mark ymUs)) (sym (c .before .before .before .d .given .1) ∙ is) (c .before .deleted .ensures) (c .behind .ensures)
 

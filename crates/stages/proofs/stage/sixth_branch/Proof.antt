@@ -21,7 +21,8 @@ returns c = cut-none _ _ _ (after-none _ _ (reach-fails _ _ _ (c .before .before
 
 look-back-requires : tie.Need-look-back-requires
 look-back-requires c κs =
-    open-cut _ _ (steps-mark _ _ DUr (c .before .before .before .before .mark-DUr .ensures) (c .before .before .c .given .1)) (c .deleted .ensures) (c .before .before .before .before .before .before .pre .opens)
+    open-cut _ _ (steps-mark _ _ DUr (c .before .before .before .before .mark-DUr .ensures) (c .before .before .c .given .1)) (c .deleted .ensures)
+    (c .before .before .before .before .before .before .pre .opens)
 
 person-and-ymUs-requires : tie.Need-person-and-ymUs-requires
 person-and-ymUs-requires c κs = sees-made _ _ (c .look-back .ensures) (look-back-requires (c .before) κs)
@@ -30,16 +31,19 @@ returns-2 : tie.Need-returns-2
 unfolding trace try branch6 noWay noTrail noStop noAccord
 returns-2 c =
     let l = c .before .before .before .before in
-    let step = steps-mark _ _ DUr (c .before .before .before .before .before .before .before .before .before .mark-DUr .ensures) (c .before .before .before .before .before .before .before .c .given .1) in
+    let step = steps-mark _ _ DUr (c .before .before .before .before .before .before .before .before .before .mark-DUr .ensures)
+    (c .before .before .before .before .before .before .before .c .given .1) in
     let is = along-seen _ _ (trace (person then mark ymUs)) (l .look-back .ensures) (c .before .before .before .person-and-ymUs .ensures) in
-    try-none _ _ step (trace (person then mark ymUs)) (l .before .deleted .ensures) (c .before .before .before .before .before .before .before .before .before .before .before .pre .opens)
+    try-none _ _ step (trace (person then mark ymUs)) (l .before .deleted .ensures)
+    (c .before .before .before .before .before .before .before .before .before .before .before .pre .opens)
     (along-unfit _ _ _ is (c .before .enum-told2 .given .1)) (c .behind .ensures)
 
 returns-3 : tie.Need-returns-3
 unfolding trace try branch6
 returns-3 c =
     let l = c .before .before .before .before .before .before in
-    let step = steps-mark _ _ DUr (c .before .before .before .before .before .before .before .before .before .before .before .mark-DUr .ensures) (c .before .before .before .before .before .before .before .before .before .c .given .1) in
+    let step = steps-mark _ _ DUr (c .before .before .before .before .before .before .before .before .before .before .before .mark-DUr .ensures)
+    (c .before .before .before .before .before .before .before .before .before .c .given .1) in
     let is = along-seen _ _ (trace (person then mark ymUs)) (l .look-back .ensures) (c .before .before .before .before .before .person-and-ymUs .ensures) in
     try-cut _ _ step (trace (person then mark ymUs)) (l .before .deleted .ensures) (sym (c .before .before .before .e .given .1) ∙ is) (c .before .deleted2 .ensures)
     (c .behind2 .ensures)

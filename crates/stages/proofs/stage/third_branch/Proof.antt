@@ -22,7 +22,8 @@ returns c = cut-none _ _ _ (after-none _ _ (reach-fails _ _ _ (c .before .before
 
 look-back-requires : tie.Need-look-back-requires
 look-back-requires c κs =
-    open-cut _ _ (steps-mark _ _ lAr (c .before .before .before .before .mark-lAr .ensures) (c .before .before .c .given .1)) (c .deleted .ensures) (c .before .before .before .before .before .before .pre .opens)
+    open-cut _ _ (steps-mark _ _ lAr (c .before .before .before .before .mark-lAr .ensures) (c .before .before .c .given .1)) (c .deleted .ensures)
+    (c .before .before .before .before .before .before .pre .opens)
 
 after-lAr-requires : tie.Need-after-lAr-requires
 after-lAr-requires c κs = sees-made _ _ (c .look-back .ensures) (look-back-requires (c .before) κs)
@@ -31,9 +32,11 @@ returns-2 : tie.Need-returns-2
 unfolding trace try branch3 noWay noTrail noStop noAccord
 returns-2 c =
     let l = c .before .before .before .before in
-    let step = steps-mark _ _ lAr (c .before .before .before .before .before .before .before .before .before .mark-lAr .ensures) (c .before .before .before .before .before .before .before .c .given .1) in
+    let step = steps-mark _ _ lAr (c .before .before .before .before .before .before .before .before .before .mark-lAr .ensures)
+    (c .before .before .before .before .before .before .before .c .given .1) in
     let is = reach-seen _ _ (trace afterLAr) (l .look-back .ensures) (c .before .before .before .after-lAr .ensures) in
-    try-none _ _ step (trace afterLAr) (l .before .deleted .ensures) (c .before .before .before .before .before .before .before .before .before .before .before .pre .opens)
+    try-none _ _ step (trace afterLAr) (l .before .deleted .ensures)
+    (c .before .before .before .before .before .before .before .before .before .before .before .pre .opens)
     (reach-fails _ _ _ is (c .before .enum-told2 .given .1)) (c .behind .ensures)
     ∙ cut-unset _ _ _ _
 
@@ -41,7 +44,9 @@ returns-3 : tie.Need-returns-3
 unfolding trace try branch3 onlyMarks noWay noTrail noStop noAccord
 returns-3 c =
     let l = c .before .before .before .before .before .before .before in
-    let step = steps-mark _ _ lAr (c .before .before .before .before .before .before .before .before .before .before .before .before .mark-lAr .ensures) (c .before .before .before .before .before .before .before .before .before .before .c .given .1) in
+    let step = steps-mark _ _ lAr
+    (c .before .before .before .before .before .before .before .before .before .before .before .before .mark-lAr .ensures)
+    (c .before .before .before .before .before .before .before .before .before .before .c .given .1) in
     let is = reach-seen _ _ (trace afterLAr) (l .look-back .ensures) (c .before .before .before .before .before .before .after-lAr .ensures) in
     let next = steps-group _ _ afterLAr refl is (c .before .before .before .before .e .given .1) in
     try-cut _ _ step (trace afterLAr) (l .before .deleted .ensures) (along-step _ _ next (c .before .behind2 .ensures)) (c .before .before .deleted2 .ensures)
