@@ -1,7 +1,10 @@
--- A refused call gives its number and nothing else, and one that is answered number 0. Assumes nothing.
+-- A refused call gives its number and nothing else, and one that is answered number 0; and each answer can be read back from where its fields are
+-- laid out. Assumes nothing.
+use Prim.Native.Nat.{ℕ}
 use mathlib.Core.Path.{_≡_, refl}
-use mathlib.Core.Bool.{true, not}
-use mathlib.Core.List.{[]}
+use mathlib.Core.Bool.{Bool, true, false, not}
+use mathlib.Core.List.{List, []}
+use lib.ListN.{getD}
 use lib.Dec.{eqb}
 use borrow.Author.Tests.{eqb-true, eq-eqb, ne-eqb}
 use Rattle.encoding.proofs.Laws.Booleans.{not-eq-false}
@@ -41,3 +44,38 @@ answered-0 (noun w room) e = rw (eq-eqb (nounRefusal w room) 0 e)
 answered-0 (whole w room) e = rw (eq-eqb (wholeRefusal w room) 0 e)
 answered-0 (pieces w room) e = rw (eq-eqb (piecesRefusal w room) 0 e)
 answered-0 (piecesText w room) e = rw (eq-eqb (piecesTextRefusal w room) 0 e)
+
+-- ---- the layout leaves out no field ----
+
+abbrev numberAt : ℕ → Reply → ℕ
+numberAt k r = getD (r .numbers) k 0
+
+abbrev answerAt : ℕ → Reply → Bool
+answerAt k r = getD (r .answers) k false
+
+-- each call's answer, read back from its reply
+pub replies-whole : (w : List ℕ) (room : ℕ)
+    → (let r = reply (syllable w) in syllableCall w ≡ record { refusal = r .number; yes = answerAt 0 r })
+    × (let r = reply (stage w) in
+    stageCall w
+    ≡ record {
+      refusal = r .number;
+      length = numberAt 0 r;
+      yes = answerAt 0 r;
+      flag = answerAt 1 r;
+      harmonic = answerAt 2 r;
+      last = numberAt 1 r;
+      partner = numberAt 2 r;
+      loan = answerAt 3 r;
+    })
+    × (stagePart w ≡ reply (stage w) .part)
+    × (let r = reply (postlude w room) in postludeCall w room ≡ record { refusal = r .number; length = numberAt 0 r; yes = answerAt 0 r })
+    × (let r = reply (fold w room) in foldCall w room ≡ record { refusal = r .number; length = numberAt 0 r })
+    × (let r = reply (pass w room) in
+    passCall w room ≡ record { refusal = r .number; length = numberAt 0 r; syllable = answerAt 0 r; yes = answerAt 1 r; flag = answerAt 2 r })
+    × (let r = reply (noun w room) in nounCall w room ≡ record { refusal = r .number; length = numberAt 0 r; yes = answerAt 0 r })
+    × (let r = reply (whole w room) in wholeCall w room ≡ record { refusal = r .number; length = numberAt 0 r })
+    × (let r = reply (pieces w room) in piecesCall w room ≡ record { refusal = r .number; length = numberAt 0 r; count = numberAt 1 r })
+    × (let r = reply (piecesText w room) in piecesTextCall w room ≡ record { refusal = r .number; length = numberAt 0 r })
+unfolding reply
+replies-whole w room = (refl, refl, refl, refl, refl, refl, refl, refl, refl, refl)
