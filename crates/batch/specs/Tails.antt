@@ -3,8 +3,8 @@ use Rattle.std.specs.Prelude.{ℕ, suc, ◌+◌, max, Bool, cond, List, [], ◌�
 use Rattle.encoding.specs.Encoding.{continuation}
 use Rattle.turkish.specs.Letters.{lf}
 use Rattle.turkish.specs.Calls.{written}
-use Rattle.theorems.specs.Fronts.{endLength}
-use Rattle.batches.specs.BatchCalls.{mostTails, some}
+use Rattle.theorems.specs.Fronts.{end_length}
+use Rattle.batches.specs.BatchCalls.{most_tails, some}
 use Rattle.batch.specs.declared.tails.Line.{Line}
 use Rattle.batch.specs.declared.tails.Survey.{Survey}
 use Rattle.batch.specs.declared.tails.Tails.{Tails}
@@ -40,21 +40,21 @@ longest (t ∷ ts) = max (length t) (longest ts)
 
 -- fewer than 16 bytes begin a character: in a text, it has fewer characters
 unfoldable pub few : List ℕ → Bool
-few t = ltb (leads t) endLength
+few t = ltb (leads t) end_length
 
 -- what the refusals ask of them
-unfoldable pub surveyOf : List (List ℕ) → Survey
-surveyOf ts = record { count = length ts; longest = longest ts; short = some few ts }
+unfoldable pub survey_of : List (List ℕ) → Survey
+survey_of ts = record { count = length ts; longest = longest ts; short = some few ts }
 
 -- the places where lines end, the first beginning at `at`
-unfoldable pub endsFrom : ℕ → List (List ℕ) → List ℕ
-endsFrom at [] = []
-endsFrom at (t ∷ ts) = (at + length t) ∷ endsFrom (at + length t + 1) ts
+unfoldable pub ends_from : ℕ → List (List ℕ) → List ℕ
+ends_from at [] = []
+ends_from at (t ∷ ts) = (at + length t) ∷ ends_from (at + length t + 1) ts
 
 -- the first 64 places, zeros where there are fewer
-unfoldable pub firstPlaces : List ℕ → List ℕ
-firstPlaces es = written (take mostTails es) (replicate mostTails 0)
+unfoldable pub first_places : List ℕ → List ℕ
+first_places es = written (take most_tails es) (replicate most_tails 0)
 
 -- all that is found out of them
-unfoldable pub tailsOf : List (List ℕ) → Tails
-tailsOf ts = record { survey = surveyOf ts; ends = firstPlaces (endsFrom 0 ts) }
+unfoldable pub tails_of : List (List ℕ) → Tails
+tails_of ts = record { survey = survey_of ts; ends = first_places (ends_from 0 ts) }

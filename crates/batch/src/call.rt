@@ -1,6 +1,6 @@
 // The call on a front and its tails.
 ghost use Rattle.std.specs.Prelude.{◌≡◌};
-ghost use Rattle.batches.specs.BatchCalls.{batch, batchCall, lengthsAfter, answersAfter, flagsAfter};
+ghost use Rattle.batches.specs.BatchCalls.{batch, batch_call, lengths_after, answers_after, flags_after};
 
 use crate::{entries, refusal, tails};
 use turkish::answer::BatchAnswer;
@@ -13,10 +13,10 @@ pub fn batch_words(
     answers: &mut [u8],
     flags: &mut [u8],
 ) -> BatchAnswer
-    ensures value { result ≡ batchCall (batch front.now slice.now lengths.old answers.old flags.old) }
-    ensures lengths_after { lengths.new ≡ lengthsAfter (batch front.now slice.now lengths.old answers.old flags.old) }
-    ensures answers_after { answers.new ≡ answersAfter (batch front.now slice.now lengths.old answers.old flags.old) }
-    ensures flags_after { flags.new ≡ flagsAfter (batch front.now slice.now lengths.old answers.old flags.old) }
+    ensures value { result ≡ batch_call (batch front.now slice.now lengths.old answers.old flags.old) }
+    ensures lengths_after { lengths.new ≡ lengths_after (batch front.now slice.now lengths.old answers.old flags.old) }
+    ensures answers_after { answers.new ≡ answers_after (batch front.now slice.now lengths.old answers.old flags.old) }
+    ensures flags_after { flags.new ≡ flags_after (batch front.now slice.now lengths.old answers.old flags.old) }
 {
     let t = tails::find_tails(slice);
     let s = t.survey;

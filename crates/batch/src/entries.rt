@@ -2,9 +2,9 @@
 ghost use Rattle.std.specs.Prelude.{◌≡◌, ◌+◌, ◌-◌, ◌≤◌, ◌<◌, ◌++◌, length, take, set};
 ghost use Rattle.writing.specs.Put.{put};
 ghost use Rattle.turkish.specs.Calls.{limit};
-ghost use Rattle.batches.specs.BatchCalls.{bit, batch, batchRefusal, tailsIn, lengthsAfter, answersAfter, flagsAfter};
-ghost use Rattle.batch.specs.Tails.{tailsOf};
-ghost use Rattle.batch.specs.Removal.{removalOf};
+ghost use Rattle.batches.specs.BatchCalls.{bit, batch, batch_refusal, tails_in, lengths_after, answers_after, flags_after};
+ghost use Rattle.batch.specs.Tails.{tails_of};
+ghost use Rattle.batch.specs.Removal.{removal_of};
 
 use crate::tails::Tails;
 use fronts::{stand_in, summary};
@@ -36,7 +36,7 @@ fn bit(b: bool) -> u8
 // The stage of a tail behind the first m bytes of `word`, where it is put.
 fn stem_behind(word: &mut [u8], m: usize, tail: &[u8]) -> Removal
     requires { m + length tail.now ≤ length word.old }
-    ensures value { result ≡ removalOf (take m word.old ++ tail.now) }
+    ensures value { result ≡ removal_of (take m word.old ++ tail.now) }
     ensures word_after { word.new ≡ put m tail.now word.old }
 {
     let end = put::put_all(word, m, tail);
@@ -61,14 +61,14 @@ fn put_entry(
 )
     requires tail_in_bounds { m + length tail.now ≤ length word.old }
     requires tail_bound { n + length tail.now ≤ limit }
-    requires tail_bound_2 { (removalOf (take m word.old ++ tail.now)).bytes ≤ n + length tail.now }
+    requires tail_bound_2 { (removal_of (take m word.old ++ tail.now)).bytes ≤ n + length tail.now }
     requires i_in_bounds { i < length lengths.old }
     requires i_in_bounds_2 { i < length answers.old }
     requires i_in_bounds_3 { i < length flags.old }
     ensures word_after { word.new ≡ put m tail.now word.old }
-    ensures lengths_after { lengths.new ≡ set lengths.old i (n + length tail.now - (removalOf (take m word.old ++ tail.now)).bytes) }
-    ensures answers_after { answers.new ≡ set answers.old i (bit (removalOf (take m word.old ++ tail.now)).yes) }
-    ensures flags_after { flags.new ≡ set flags.old i (bit (removalOf (take m word.old ++ tail.now)).flag) }
+    ensures lengths_after { lengths.new ≡ set lengths.old i (n + length tail.now - (removal_of (take m word.old ++ tail.now)).bytes) }
+    ensures answers_after { answers.new ≡ set answers.old i (bit (removal_of (take m word.old ++ tail.now)).yes) }
+    ensures flags_after { flags.new ≡ set flags.old i (bit (removal_of (take m word.old ++ tail.now)).flag) }
 {
     let r = stem_behind(word, m, tail);
     lengths[i] = (n + tail.len() - r.bytes) as u8;
@@ -85,11 +85,11 @@ pub(crate) fn put_entries(
     answers: &mut [u8],
     flags: &mut [u8],
 )
-    requires t_value { t ≡ tailsOf (tailsIn slice.now) }
-    requires flags_value { batchRefusal (batch front.now slice.now lengths.old answers.old flags.old) ≡ 0 }
-    ensures lengths_after { lengths.new ≡ lengthsAfter (batch front.now slice.now lengths.old answers.old flags.old) }
-    ensures answers_after { answers.new ≡ answersAfter (batch front.now slice.now lengths.old answers.old flags.old) }
-    ensures flags_after { flags.new ≡ flagsAfter (batch front.now slice.now lengths.old answers.old flags.old) }
+    requires t_value { t ≡ tails_of (tails_in slice.now) }
+    requires flags_value { batch_refusal (batch front.now slice.now lengths.old answers.old flags.old) ≡ 0 }
+    ensures lengths_after { lengths.new ≡ lengths_after (batch front.now slice.now lengths.old answers.old flags.old) }
+    ensures answers_after { answers.new ≡ answers_after (batch front.now slice.now lengths.old answers.old flags.old) }
+    ensures flags_after { flags.new ≡ flags_after (batch front.now slice.now lengths.old answers.old flags.old) }
 {
     let mut word = [0u8; ROOM];
     let m = stand_in::put_stand_in(summary::summary_of(front), &mut word);

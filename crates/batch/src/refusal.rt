@@ -1,7 +1,7 @@
 // Why a batch is refused, as the papers' number; 0 where it is not.
 ghost use Rattle.std.specs.Prelude.{◌≡◌};
-ghost use Rattle.batches.specs.BatchCalls.{tailsIn, wordsRefusal, roomsRefusal, number_of};
-ghost use Rattle.batch.specs.Tails.{surveyOf};
+ghost use Rattle.batches.specs.BatchCalls.{tails_in, words_refusal_of, rooms_refusal_of, number_of};
+ghost use Rattle.batch.specs.Tails.{survey_of};
 
 use crate::tails;
 use crate::tails::Survey;
@@ -11,8 +11,8 @@ use refusals::refusal;
 // 1 where the front or a joined word is over the limit, 2 where the front or a tail is not UTF-8. The slice is checked once: a line feed goes on
 // with no character.
 fn words_refusal(front: &[u8], slice: &[u8], s: Survey) -> u32
-    requires { s ≡ surveyOf (tailsIn slice.now) }
-    ensures { result ≡ wordsRefusal front.now (tailsIn slice.now) }
+    requires { s ≡ survey_of (tails_in slice.now) }
+    ensures { result ≡ words_refusal_of front.now (tails_in slice.now) }
 {
     if refusal::LIMIT < front.len() {
         return 1;
@@ -31,7 +31,7 @@ fn words_refusal(front: &[u8], slice: &[u8], s: Survey) -> u32
 
 // 3 where a buffer has under 64 entries.
 fn rooms_refusal(lengths: usize, answers: usize, flags: usize) -> u32
-    ensures { result ≡ roomsRefusal lengths answers flags }
+    ensures { result ≡ rooms_refusal_of lengths answers flags }
 {
     if lengths < tails::TAILS {
         return refusal::TOO_SHORT;
@@ -54,8 +54,8 @@ pub(crate) fn refusal_of(
     answers: usize,
     flags: usize,
 ) -> u32
-    requires { s ≡ surveyOf (tailsIn slice.now) }
-    ensures { result ≡ number_of front.now (tailsIn slice.now) lengths answers flags }
+    requires { s ≡ survey_of (tails_in slice.now) }
+    ensures { result ≡ number_of front.now (tails_in slice.now) lengths answers flags }
 {
     let n = words_refusal(front, slice, s);
     if n != 0 {

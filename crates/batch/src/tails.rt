@@ -1,8 +1,8 @@
 // The tails in a slice: where each ends, and what the refusals ask of them, in one walk over the slice.
 ghost use Rattle.std.specs.Prelude.{◌≡◌, ◌-◌, ◌≤◌, length, take, drop};
 ghost use Rattle.turkish.specs.Letters.{lf, has};
-ghost use Rattle.batches.specs.BatchCalls.{tailsIn};
-ghost use Rattle.batch.specs.Tails.{block, leads, line_at, tailsOf};
+ghost use Rattle.batches.specs.BatchCalls.{tails_in};
+ghost use Rattle.batch.specs.Tails.{block, leads, line_at, tails_of};
 
 use encoding::continuation;
 use writing::put;
@@ -93,7 +93,7 @@ fn line_at(w: &[u8], from: usize) -> Line
 
 // The tails of a slice, all of them looked at.
 pub(crate) fn find_tails(slice: &[u8]) -> Tails
-    ensures { result ≡ tailsOf (tailsIn slice.now) }
+    ensures { result ≡ tails_of (tails_in slice.now) }
 {
     let mut ends = [0usize; TAILS];
     let mut count = 0;

@@ -6,24 +6,24 @@ use Prim.Native.String.{String}
 use mathlib.Core.Path.{◌≡◌, refl}
 use mathlib.Core.List.{List, [], ◌∷◌, ◌++◌, map}
 use lib.ListN.{length, take, replicate}
-use Rattle.encoding.specs.Encoding.{encode, encodeAll, decode, continuation}
-use Rattle.encoding.specs.Validity.{lead, leadIn, table37, due, refused, next, accepts, isText}
-use Rattle.utf8.specs.Characters.{width, goesOn, lastWidth, char_at, lastChar, beforeWithin, before}
+use Rattle.encoding.specs.Encoding.{encode, encode_all, decode, continuation}
+use Rattle.encoding.specs.Validity.{lead, lead_in, table37, due, refused, next, accepts, is_text}
+use Rattle.utf8.specs.Characters.{width, goes_on_of, last_width_of, char_at, last_char, before_within, before}
 use Rattle.turkish.specs.declared.answer.BatchAnswer.{BatchAnswer}
-use Rattle.turkish.specs.Letters.{text, fromEnd, lf, any, has, starts}
+use Rattle.turkish.specs.Letters.{text, from_end, lf, any, has, starts}
 use Rattle.turkish.specs.Lines.{unclosed, lines_from}
-use Rattle.turkish.specs.Vowels.{vowels, vowel, lastVowel, beforeLastVowel}
-use Rattle.turkish.specs.Snowball.{ahead, place, moveTo, withSlice, withFlag, withText, and_then, or_else}
-use Rattle.turkish.specs.Snowball.{tested, negated, readIf, isLeft, isIn, letters, longer, longest, keyAhead, fits, goPast, placeAfter, sliceFrom, enough, run}
-use Rattle.turkish.specs.Source.{check-vowel-harmony, mark-suffix-with-optional-y-consonant, mark-yUm, mark-sUn, mark-yUz, mark-sUnUz, mark-lAr}
-use Rattle.turkish.specs.Source.{mark-nUz, mark-DUr, mark-cAsInA, mark-yDU, mark-ysA, mark-ymUs-, mark-yken, stem-nominal-verb-suffixes}
-use Rattle.turkish.specs.Answers.{entered, called, succeeded, left, stemmed, suffixStage}
-use Rattle.theorems.specs.Simple.Harmony.{toFirst}
-use Rattle.turkish.specs.Calls.{chars, bytes, limit, refusal, accepted, written, stageText, stageCall}
-use Rattle.theorems.specs.Fronts.{endLength, long}
-use Rattle.batches.specs.Summary.{vowelNumber, times, summaryOf, summary}
-use Rattle.batches.specs.BatchCalls.{Batch, batch, mostTails, tailsIn, joinedWords, some, refusedUnder, wordsRefusal, tailsRefusal, roomsRefusal, firstRefusal, number_of}
-use Rattle.batches.specs.BatchCalls.{batchRefusal, batchCall, entriesAfter, bit, lengthsAfter, answersAfter, flagsAfter}
+use Rattle.turkish.specs.Vowels.{vowels, vowel, last_vowel_of, before_last_vowel}
+use Rattle.turkish.specs.Snowball.{ahead, place, move_to, with_slice, with_flag, with_text, and_then, or_else}
+use Rattle.turkish.specs.Snowball.{tested, negated, read_if, is_left, is_in, letters, longer, longest, key_ahead, fits, go_past, place_after, slice_from, enough, run}
+use Rattle.turkish.specs.Source.{check_vowel_harmony, mark_suffix_with_optional_y_consonant, mark_yUm, mark_sUn, mark_yUz, mark_sUnUz, mark_lAr}
+use Rattle.turkish.specs.Source.{mark_nUz, mark_DUr, mark_cAsInA, mark_yDU, mark_ysA, mark_ymUs_, mark_yken, stem_nominal_verb_suffixes}
+use Rattle.turkish.specs.Answers.{entered, called, succeeded, left, stemmed, suffix_stage}
+use Rattle.theorems.specs.Simple.Harmony.{to_first}
+use Rattle.turkish.specs.Calls.{chars, bytes, limit, refusal, accepted, written, stage_text, stage_call}
+use Rattle.theorems.specs.Fronts.{end_length, long}
+use Rattle.batches.specs.Summary.{vowel_number, times, summary_from, summary}
+use Rattle.batches.specs.BatchCalls.{Batch, batch, most_tails, tails_in, joined_words, some, refused_under, words_refusal_of, tails_refusal, rooms_refusal_of, first_refusal, number_of}
+use Rattle.batches.specs.BatchCalls.{batch_refusal, batch_call, entries_after, bit, lengths_after, answers_after, flags_after}
 use Rattle.turkish.proofs.Starred.{word}
 
 -- ---- answers ----
@@ -65,10 +65,10 @@ found r =
     record {
       front = r.front;
       tails = r.tails;
-      answer = batchCall b;
-      lengths = take (length r.lengths) (lengthsAfter b);
-      answers = take (length r.answers) (answersAfter b);
-      flags = take (length r.flags) (flagsAfter b);
+      answer = batch_call b;
+      lengths = take (length r.lengths) (lengths_after b);
+      answers = take (length r.answers) (answers_after b);
+      flags = take (length r.flags) (flags_after b);
     }
 
 -- each row is what the call gives
@@ -76,15 +76,15 @@ abbrev pub Met : List Row → Type 0
 Met rows = map found rows ≡ rows
 
 pub answers-met : Met table
-unfolding table found lent word batchCall lengthsAfter answersAfter flagsAfter entriesAfter batchRefusal number_of firstRefusal roomsRefusal tailsRefusal wordsRefusal
-    refusedUnder some joinedWords tailsIn mostTails bit lines_from unclosed lf long endLength
-    stageCall stageText written accepted refusal limit chars bytes
-    encodeAll encode decode isText accepts next lead leadIn table37 due refused before beforeWithin lastChar char_at lastWidth width goesOn continuation
-    suffixStage stemmed entered called succeeded left
-    run enough ahead place moveTo withSlice withFlag withText and_then or_else tested negated
-    readIf isLeft isIn letters longer longest keyAhead fits goPast placeAfter sliceFrom
-    check-vowel-harmony mark-suffix-with-optional-y-consonant mark-yUm mark-sUn mark-yUz mark-sUnUz mark-lAr mark-nUz mark-DUr mark-cAsInA mark-yDU mark-ysA mark-ymUs- mark-yken
-    stem-nominal-verb-suffixes vowel vowels starts has any fromEnd text
+unfolding table found lent word batch_call lengths_after answers_after flags_after entries_after batch_refusal number_of first_refusal rooms_refusal_of tails_refusal words_refusal_of
+    refused_under some joined_words tails_in most_tails bit lines_from unclosed lf long end_length
+    stage_call stage_text written accepted refusal limit chars bytes
+    encode_all encode decode is_text accepts next lead lead_in table37 due refused before before_within last_char char_at last_width_of width goes_on_of continuation
+    suffix_stage stemmed entered called succeeded left
+    run enough ahead place move_to with_slice with_flag with_text and_then or_else tested negated
+    read_if is_left is_in letters longer longest key_ahead fits go_past place_after slice_from
+    check_vowel_harmony mark_suffix_with_optional_y_consonant mark_yUm mark_sUn mark_yUz mark_sUnUz mark_lAr mark_nUz mark_DUr mark_cAsInA mark_yDU mark_ysA mark_ymUs_ mark_yken
+    stem_nominal_verb_suffixes vowel vowels starts has any from_end text
 answers-met = refl
 
 -- ---- refusals ----
@@ -103,7 +103,7 @@ fifteen = word "aaaaaaaaaaaaaaa\n"
 
 -- the number of a batch with these rooms
 unfoldable pub number : List ℕ → List ℕ → ℕ → ℕ → ℕ → ℕ
-number front tails l a f = batchRefusal (lent front tails l a f)
+number front tails l a f = batch_refusal (lent front tails l a f)
 
 -- 80 letters and 16 are 96 bytes and pass, 81 and 16 do not, nor 97 alone, nor a 65th tail that is too long; a byte that is not UTF-8, in the
 -- front, in the 65th tail, and a character that the tail would complete; 15 characters, of one byte and of two, and 16 of two, which pass; an empty
@@ -134,12 +134,12 @@ RefusalsMet =
 
 -- a room of 63 again, with the whole answer
 abbrev pub RefusedMet : Type 0
-RefusedMet = batchCall (lent (word "a") sixteen 63 64 64) ≡ record { refusal = 3; count = 0 }
+RefusedMet = batch_call (lent (word "a") sixteen 63 64 64) ≡ record { refusal = 3; count = 0 }
 
 pub refusals-met : RefusalsMet × RefusedMet
-unfolding batchCall number lent sixteen fifteen repeated word batchRefusal number_of firstRefusal roomsRefusal tailsRefusal wordsRefusal
-    refusedUnder some joinedWords tailsIn mostTails lines_from unclosed lf long endLength refusal limit chars
-    encodeAll encode decode isText accepts next lead leadIn table37 due refused before beforeWithin lastChar char_at lastWidth width goesOn continuation text
+unfolding batch_call number lent sixteen fifteen repeated word batch_refusal number_of first_refusal rooms_refusal_of tails_refusal words_refusal_of
+    refused_under some joined_words tails_in most_tails lines_from unclosed lf long end_length refusal limit chars
+    encode_all encode decode is_text accepts next lead lead_in table37 due refused before before_within last_char char_at last_width_of width goes_on_of continuation text
 refusals-met = (refl, refl)
 
 -- ---- summaries ----
@@ -154,6 +154,6 @@ SummariesMet =
     ∷ []
 
 pub summaries-met : SummariesMet
-unfolding word summary summaryOf times vowelNumber toFirst lastVowel beforeLastVowel chars
-    encodeAll encode decode before beforeWithin lastChar char_at lastWidth width goesOn continuation vowel vowels has any text
+unfolding word summary summary_from times vowel_number to_first last_vowel_of before_last_vowel chars
+    encode_all encode decode before before_within last_char char_at last_width_of width goes_on_of continuation vowel vowels has any text
 summaries-met = refl

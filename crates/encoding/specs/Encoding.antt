@@ -15,9 +15,9 @@ unfoldable pub continuation : ℕ → Bool
 continuation b = leb 0x80 b && leb b 0xBF
 
 -- a text: its characters' bytes in order
-unfoldable pub encodeAll : List ℕ → List ℕ
-encodeAll [] = []
-encodeAll (c ∷ cs) = encode c ++ encodeAll cs
+unfoldable pub encode_all : List ℕ → List ℕ
+encode_all [] = []
+encode_all (c ∷ cs) = encode c ++ encode_all cs
 
 -- The character that one to four bytes stand for. Total: bytes that encode nothing stand for something too, but several
 -- bytes never for anything below 0x80, so that an ASCII character is only ever its own byte.

@@ -14,19 +14,19 @@ unfoldable pub follows : ℕ → ℕ → ℕ → ℕ → Bool
 follows a b c x = cond (owed a b c) (leb (lead a).low x && leb x (lead a).high) (lead x).ok
 
 -- all from here on may follow, and none is due at the end
-unfoldable pub textAfter : ℕ → ℕ → ℕ → List ℕ → Bool
-textAfter a b c [] = not (owed a b c)
-textAfter a b c (x ∷ xs) = follows a b c x && textAfter x a b xs
+unfoldable pub text_after : ℕ → ℕ → ℕ → List ℕ → Bool
+text_after a b c [] = not (owed a b c)
+text_after a b c (x ∷ xs) = follows a b c x && text_after x a b xs
 
 -- the same where no character has more than two bytes
-unfoldable pub shortBegins : ℕ → Bool
-shortBegins x = ltb x 0x80 || leb 0xC2 x && ltb x 0xE0
+unfoldable pub short_begins : ℕ → Bool
+short_begins x = ltb x 0x80 || leb 0xC2 x && ltb x 0xE0
 
 -- x may follow a
-unfoldable pub shortFollows : ℕ → ℕ → Bool
-shortFollows a x = cond (leb 0xC0 a) (continuation x) (shortBegins x)
+unfoldable pub short_follows : ℕ → ℕ → Bool
+short_follows a x = cond (leb 0xC0 a) (continuation x) (short_begins x)
 
 -- all from here on may follow, and none is due at the end
-unfoldable pub shortAfter : ℕ → List ℕ → Bool
-shortAfter a [] = ltb a 0xC0
-shortAfter a (x ∷ xs) = shortFollows a x && shortAfter x xs
+unfoldable pub short_after : ℕ → List ℕ → Bool
+short_after a [] = ltb a 0xC0
+short_after a (x ∷ xs) = short_follows a x && short_after x xs

@@ -1,39 +1,39 @@
--- Plain runs (document 02, request 3): ASCII passed over eight bytes at a time. The check, `isText`, knows nothing of them; that it gives the
+-- Plain runs (document 02, request 3): ASCII passed over eight bytes at a time. The check, `is_text`, knows nothing of them; that it gives the
 -- same answer from a run's end on is proved in proofs/Laws/Parts. Assumes nothing.
 use Rattle.std.specs.Prelude.{ℕ, zero, suc, ◌+◌, ◌*◌, ◌/◌, ◌≤◌, ◌<◌, ◌≡◌, Bool, true, false, cond, ◌&&◌, ◌⊎◌, List, [], ◌∷◌, length, drop, get_or, ltb}
 
 -- how many values a byte has
-abbrev pub byteValues : ℕ
-byteValues = 0x100
+abbrev pub byte_values : ℕ
+byte_values = 0x100
 
 -- the bytes of a 64-bit word
 abbrev pub word_bytes : ℕ
 word_bytes = 8
 
 -- the bytes of four such words, which a turn of the code's first loop takes
-abbrev pub fourWords : ℕ
-fourWords = 4 * word_bytes
+abbrev pub four_words : ℕ
+four_words = 4 * word_bytes
 
 -- the next n bytes are there and none has its top bit set
-unfoldable pub plainNext : ℕ → List ℕ → Bool
-plainNext zero w = true
-plainNext (suc n) [] = false
-plainNext (suc n) (b ∷ bs) = ltb b 0x80 && plainNext n bs
+unfoldable pub plain_next : ℕ → List ℕ → Bool
+plain_next zero w = true
+plain_next (suc n) [] = false
+plain_next (suc n) (b ∷ bs) = ltb b 0x80 && plain_next n bs
 
 -- how many bytes a run at the front has, in whole eights; the first number bounds the eights
-unfoldable pub runIn : ℕ → List ℕ → ℕ
-runIn zero w = 0
-runIn (suc eights) w = cond (plainNext word_bytes w) (word_bytes + runIn eights (drop word_bytes w)) 0
+unfoldable pub run_in : ℕ → List ℕ → ℕ
+run_in zero w = 0
+run_in (suc eights) w = cond (plain_next word_bytes w) (word_bytes + run_in eights (drop word_bytes w)) 0
 
 -- where the run from a place on ends; it has no more eights than fit into the rest
-unfoldable pub runEnd : List ℕ → ℕ → ℕ
-runEnd w i = i + runIn (length (drop i w) / word_bytes) (drop i w)
+unfoldable pub run_end_of : List ℕ → ℕ → ℕ
+run_end_of w i = i + run_in (length (drop i w) / word_bytes) (drop i w)
 
 -- the next n bytes as one number, the first lowest
 unfoldable pub joined : ℕ → List ℕ → ℕ
 joined zero w = 0
 joined (suc n) [] = 0
-joined (suc n) (b ∷ bs) = joined n bs * byteValues + b
+joined (suc n) (b ∷ bs) = joined n bs * byte_values + b
 
 -- ---- what the ticket says of the run's end, for the theorems ----
 

@@ -2,9 +2,9 @@
 -- Assumes nothing.
 use Rattle.std.specs.Prelude.{ℕ, ◌≡◌, true, List}
 use Rattle.encoding.specs.Scalar.{scalars}
-use Rattle.encoding.specs.Encoding.{encodeAll}
+use Rattle.encoding.specs.Encoding.{encode_all}
 
 pub record TextOf (w : List ℕ) : Type 0 where
   pub chars : List ℕ
   pub valid : scalars chars ≡ true
-  pub encoded : encodeAll chars ≡ w
+  pub encoded : encode_all chars ≡ w

@@ -44,15 +44,15 @@ unfoldable pub refused : Due
 refused = record { ok = false; need = 0; low = 0x80; high = 0xBF }
 
 -- what a first byte asks for, by the row that has it
-unfoldable pub leadIn : List Row → ℕ → Due
+unfoldable pub lead_in : List Row → ℕ → Due
 unfolding due refused
-leadIn [] b = refused
-leadIn (r ∷ rs) b = cond (leb r.from b && leb b r.upto) (due r.more r.low r.high) (leadIn rs b)
+lead_in [] b = refused
+lead_in (r ∷ rs) b = cond (leb r.from b && leb b r.upto) (due r.more r.low r.high) (lead_in rs b)
 
 -- by the whole table
 unfoldable pub lead : ℕ → Due
-unfolding table37 leadIn
-lead b = leadIn table37 b
+unfolding table37 lead_in
+lead b = lead_in table37 b
 
 -- one byte more
 unfoldable pub next : Due → ℕ → Due
@@ -64,5 +64,5 @@ accepts d [] = eqb d.need 0
 accepts d (b ∷ bs) = (next d b).ok && accepts (next d b) bs
 
 -- the check: nothing is due at the start
-unfoldable pub isText : List ℕ → Bool
-isText w = accepts (due 0 0x80 0xBF) w
+unfoldable pub is_text : List ℕ → Bool
+is_text w = accepts (due 0 0x80 0xBF) w

@@ -1,6 +1,6 @@
 // Plain runs: bytes without their top bit, passed over eight at a time by one test of a 64-bit word.
 ghost use Rattle.std.specs.Prelude.{◌≡◌, ◌+◌, ◌≤◌, ◌<◌, length, drop};
-ghost use Rattle.encoding.specs.PlainRuns.{byteValues, word_bytes, fourWords, plainNext, joined, runEnd};
+ghost use Rattle.encoding.specs.PlainRuns.{byte_values, word_bytes, four_words, plain_next, joined, run_end_of};
 
 // The top bit of each byte of a word.
 const TOP_BITS: u64 = 0x8080808080808080;
@@ -8,7 +8,7 @@ const TOP_BITS: u64 = 0x8080808080808080;
 // A byte as a 64-bit number.
 fn wide(x: u8) -> u64
     ensures value { result ≡ x }
-    ensures upper_bound { result < byteValues }
+    ensures upper_bound { result < byte_values }
 {
     x as u64
 }
@@ -31,15 +31,15 @@ fn join(w: &[u8], i: usize) -> u64
 // Whether none of the eight bytes from a place on has its top bit set.
 fn is_plain(w: &[u8], i: usize) -> bool
     requires { i + word_bytes ≤ length w.now }
-    ensures { result ≡ plainNext word_bytes (drop i w.now) }
+    ensures { result ≡ plain_next word_bytes (drop i w.now) }
 {
     join(w, i) & TOP_BITS == 0
 }
 
 // Whether none of the 32 from a place on has.
 fn are_plain(w: &[u8], i: usize) -> bool
-    requires { i + fourWords ≤ length w.now }
-    ensures { result ≡ plainNext fourWords (drop i w.now) }
+    requires { i + four_words ≤ length w.now }
+    ensures { result ≡ plain_next four_words (drop i w.now) }
 {
     is_plain(w, i) && is_plain(w, i + 8) && is_plain(w, i + 16) && is_plain(w, i + 24)
 }
@@ -48,7 +48,7 @@ fn are_plain(w: &[u8], i: usize) -> bool
 // turn that fails are looked at again one by one.
 pub fn run_end(w: &[u8], from: usize) -> usize
     requires { from ≤ length w.now }
-    ensures { result ≡ runEnd w.now from }
+    ensures { result ≡ run_end_of w.now from }
 {
     let mut i = from;
     while 32 <= w.len() - i && are_plain(w, i) {

@@ -1,19 +1,19 @@
 // The UTF-8 check for characters of one and two bytes: each byte is held to the one before it.
 ghost use Rattle.std.specs.Prelude.{◌≡◌};
-ghost use Rattle.encoding.specs.Neighbours.{shortBegins, shortFollows, shortAfter};
+ghost use Rattle.encoding.specs.Neighbours.{short_begins, short_follows, short_after};
 
 use crate::continuation;
 
 // Whether a character of one or two bytes begins with the byte.
 pub(crate) fn begins(x: u8) -> bool
-    ensures { result ≡ shortBegins x }
+    ensures { result ≡ short_begins x }
 {
     (x < 0x80) | ((0xC2 <= x) & (x < 0xE0))
 }
 
 // Whether x may follow a where no character has more than two bytes.
 pub(crate) fn may_follow(a: u8, x: u8) -> bool
-    ensures { result ≡ shortFollows a x }
+    ensures { result ≡ short_follows a x }
 {
     let due = 0xC0 <= a;
     (due & continuation::is_continuation(x)) | (!due & begins(x))
@@ -21,7 +21,7 @@ pub(crate) fn may_follow(a: u8, x: u8) -> bool
 
 // Whether each byte may follow the one before it, and none is due at the end.
 pub(crate) fn each_follows(w: &[u8]) -> bool
-    ensures { result ≡ shortAfter 0 w.now }
+    ensures { result ≡ short_after 0 w.now }
 {
     let mut i = 0;
     let mut a = 0u8;

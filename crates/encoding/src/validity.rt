@@ -1,8 +1,8 @@
 // The UTF-8 check, by neighbours: each byte is held to the three before it, or, where no character has more than two, to the one before it
 // (`walk`, `short`). Every byte of a part gets the same tests, whatever the others gave, so that many can be looked at in one step.
 ghost use Rattle.std.specs.Prelude.{◌≡◌, true, ◌≤◌, ◌<◌, length, drop};
-ghost use Rattle.encoding.specs.Validity.{lead, isText};
-ghost use Rattle.encoding.specs.Neighbours.{owed, follows, textAfter};
+ghost use Rattle.encoding.specs.Validity.{lead, is_text};
+ghost use Rattle.encoding.specs.Neighbours.{owed, follows, text_after};
 ghost use Rattle.encoding.specs.Parts.{boundary};
 
 use crate::{continuation, plain, short, walk};
@@ -57,7 +57,7 @@ fn may_follow(a: u8, b: u8, c: u8, x: u8) -> bool
 
 // Whether each byte may follow the ones before it, and none is due at the end.
 fn each_follows(w: &[u8]) -> bool
-    ensures { result ≡ textAfter 0 0 0 w.now }
+    ensures { result ≡ text_after 0 0 0 w.now }
 {
     let mut i = 0;
     let mut a = 0u8;
@@ -94,7 +94,7 @@ fn part_end(w: &[u8], i: usize) -> usize
 
 // Whether a few bytes are UTF-8. Most words have characters of one and two bytes only, for which fewer tests do.
 fn few_are_utf8(w: &[u8]) -> bool
-    ensures { result ≡ isText w.now }
+    ensures { result ≡ is_text w.now }
 {
     if short::each_follows(w) {
         return true;
@@ -106,7 +106,7 @@ fn few_are_utf8(w: &[u8]) -> bool
 // more, characters of one and two bytes are gone over first, and from where that fails on parts are tested, with a plain run skipped after
 // each.
 pub fn is_utf8(w: &[u8]) -> bool
-    ensures { result ≡ isText w.now }
+    ensures { result ≡ is_text w.now }
 {
     if w.len() <= 8 {
         return few_are_utf8(w);

@@ -1,9 +1,9 @@
 // How far a word has characters of one and two bytes only, by many bytes in one step and with plain runs skipped. At which place it stops
 // short of the word's end is for speed alone: the contracts say what holds at any place that it may answer.
 ghost use Rattle.std.specs.Prelude.{◌≡◌, true, ◌-◌, ◌≤◌, ◌<◌, length, drop};
-ghost use Rattle.encoding.specs.Validity.{isText};
+ghost use Rattle.encoding.specs.Validity.{is_text};
 ghost use Rattle.encoding.specs.PlainRuns.{word_bytes};
-ghost use Rattle.encoding.specs.Walked.{byteBefore, owedAt, shortNext, walked};
+ghost use Rattle.encoding.specs.Walked.{byte_before, owed_at, short_next, walked};
 
 use crate::{plain, short};
 
@@ -12,7 +12,7 @@ fn all_follow(w: &[u8], from: usize, to: usize) -> bool
     requires from_nonzero { 0 < from }
     requires from_le_to { from ≤ to }
     requires to_in_bounds { to ≤ length w.now }
-    ensures { result ≡ shortNext (to - from) (byteBefore w.now from) (drop from w.now) }
+    ensures { result ≡ short_next (to - from) (byte_before w.now from) (drop from w.now) }
 {
     let mut i = from;
     let mut ok = true;
@@ -27,7 +27,7 @@ fn all_follow(w: &[u8], from: usize, to: usize) -> bool
 fn is_owed_at(w: &[u8], i: usize) -> bool
     requires i_nonzero { 0 < i }
     requires i_in_bounds { i ≤ length w.now }
-    ensures { result ≡ owedAt w.now i }
+    ensures { result ≡ owed_at w.now i }
 {
     0xC0 <= w[i - 1]
 }
@@ -121,7 +121,7 @@ fn character_start(w: &[u8], i: usize) -> usize
     requires i_in_bounds { i ≤ length w.now }
     requires i_value { walked w.now i ≡ true }
     ensures upper_bound { result ≤ length w.now }
-    ensures w_value { isText (drop result w.now) ≡ isText w.now }
+    ensures w_value { is_text (drop result w.now) ≡ is_text w.now }
 {
     if is_owed_at(w, i) {
         return i - 1;
@@ -133,7 +133,7 @@ fn character_start(w: &[u8], i: usize) -> usize
 pub(crate) fn reach(w: &[u8]) -> usize
     requires { word_bytes < length w.now }
     ensures upper_bound { result ≤ length w.now }
-    ensures w_value { isText (drop result w.now) ≡ isText w.now }
+    ensures w_value { is_text (drop result w.now) ≡ is_text w.now }
 {
     let i = first(w);
     if i == 0 {

@@ -1,10 +1,10 @@
 // What a host program links: thin calls under C's convention, each with its contract by the library's own definitions. None asks
 // anything of its caller beyond what the signature says.
 ghost use Rattle.std.specs.Prelude.{◌≡◌, length};
-ghost use Rattle.encoding.specs.Validity.{isText};
-ghost use Rattle.turkish.specs.Calls.{syllableCall, stageCall, postludeCall, postludeOut, foldCall, foldOut, passCall, passOut, nounCall, nounOut, wholeCall, wholeOut};
-ghost use Rattle.batches.specs.BatchCalls.{batch, batchCall, lengthsAfter, answersAfter, flagsAfter};
-ghost use Rattle.turkish.specs.PieceCalls.{piecesCall, PiecesOut, piecesTextCall, PiecesTextOut};
+ghost use Rattle.encoding.specs.Validity.{is_text};
+ghost use Rattle.turkish.specs.Calls.{syllable_call, stage_call, postlude_call, postlude_out, fold_call, fold_out, pass_call, pass_out, noun_call, noun_out, whole_call, whole_out};
+ghost use Rattle.batches.specs.BatchCalls.{batch, batch_call, lengths_after, answers_after, flags_after};
+ghost use Rattle.turkish.specs.PieceCalls.{pieces_call, PiecesOut, pieces_text_call, PiecesTextOut};
 
 use batch::call;
 use folding::fold;
@@ -19,7 +19,7 @@ use words::{check, stage, syllable};
 // Whether the bytes are UTF-8. Takes any slice.
 #[unsafe(no_mangle)]
 pub extern "C" fn fannavy_is_utf8(w: &[u8]) -> bool
-    ensures { result ≡ isText w.now }
+    ensures { result ≡ is_text w.now }
 {
     check::is_utf8(w)
 }
@@ -27,7 +27,7 @@ pub extern "C" fn fannavy_is_utf8(w: &[u8]) -> bool
 // Whether the word has two or more vowels.
 #[unsafe(no_mangle)]
 pub extern "C" fn fannavy_syllable(w: &[u8]) -> SyllableAnswer
-    ensures { result ≡ syllableCall w.now }
+    ensures { result ≡ syllable_call w.now }
 {
     syllable::check_syllables(w)
 }
@@ -35,7 +35,7 @@ pub extern "C" fn fannavy_syllable(w: &[u8]) -> SyllableAnswer
 // The suffix stage's numbers: the kept text is the word's first `length` bytes.
 #[unsafe(no_mangle)]
 pub extern "C" fn fannavy_stage(w: &[u8]) -> StageAnswer
-    ensures { result ≡ stageCall w.now }
+    ensures { result ≡ stage_call w.now }
 {
     stage::stage_numbers(w)
 }
@@ -43,8 +43,8 @@ pub extern "C" fn fannavy_stage(w: &[u8]) -> StageAnswer
 // The postlude of the word, to an output of n + 2 bytes or more.
 #[unsafe(no_mangle)]
 pub extern "C" fn fannavy_postlude(w: &[u8], out: &mut [u8]) -> PostludeAnswer
-    ensures value { result ≡ postludeCall w.now (length out.old) }
-    ensures out_after { out.new ≡ postludeOut w.now out.old }
+    ensures value { result ≡ postlude_call w.now (length out.old) }
+    ensures out_after { out.new ≡ postlude_out w.now out.old }
 {
     postlude::postlude_word(w, out)
 }
@@ -52,8 +52,8 @@ pub extern "C" fn fannavy_postlude(w: &[u8], out: &mut [u8]) -> PostludeAnswer
 // The word folded, to an output as long as the folded text or longer; 2n bytes always are.
 #[unsafe(no_mangle)]
 pub extern "C" fn fannavy_fold(w: &[u8], out: &mut [u8]) -> FoldAnswer
-    ensures value { result ≡ foldCall w.now (length out.old) }
-    ensures out_after { out.new ≡ foldOut w.now out.old }
+    ensures value { result ≡ fold_call w.now (length out.old) }
+    ensures out_after { out.new ≡ fold_out w.now out.old }
 {
     fold::fold_word(w, out)
 }
@@ -61,8 +61,8 @@ pub extern "C" fn fannavy_fold(w: &[u8], out: &mut [u8]) -> FoldAnswer
 // The word pass, to an output of n + 2 bytes or more.
 #[unsafe(no_mangle)]
 pub extern "C" fn fannavy_pass(w: &[u8], out: &mut [u8]) -> PassAnswer
-    ensures value { result ≡ passCall w.now (length out.old) }
-    ensures out_after { out.new ≡ passOut w.now out.old }
+    ensures value { result ≡ pass_call w.now (length out.old) }
+    ensures out_after { out.new ≡ pass_out w.now out.old }
 {
     pass::pass_word(w, out)
 }
@@ -70,8 +70,8 @@ pub extern "C" fn fannavy_pass(w: &[u8], out: &mut [u8]) -> PassAnswer
 // The noun stage of the word, to an output of n bytes or more.
 #[unsafe(no_mangle)]
 pub extern "C" fn fannavy_noun(w: &[u8], out: &mut [u8]) -> NounAnswer
-    ensures value { result ≡ nounCall w.now (length out.old) }
-    ensures out_after { out.new ≡ nounOut w.now out.old }
+    ensures value { result ≡ noun_call w.now (length out.old) }
+    ensures out_after { out.new ≡ noun_out w.now out.old }
 {
     noun::noun_word(w, out)
 }
@@ -79,8 +79,8 @@ pub extern "C" fn fannavy_noun(w: &[u8], out: &mut [u8]) -> NounAnswer
 // The crate's whole Turkish run on the word, to an output of n + 2 bytes or more.
 #[unsafe(no_mangle)]
 pub extern "C" fn fannavy_whole(w: &[u8], out: &mut [u8]) -> WholeAnswer
-    ensures value { result ≡ wholeCall w.now (length out.old) }
-    ensures out_after { out.new ≡ wholeOut w.now out.old }
+    ensures value { result ≡ whole_call w.now (length out.old) }
+    ensures out_after { out.new ≡ whole_out w.now out.old }
 {
     whole::whole_word(w, out)
 }
@@ -88,7 +88,7 @@ pub extern "C" fn fannavy_whole(w: &[u8], out: &mut [u8]) -> WholeAnswer
 // The pieces of the ending that the suffix stage removes, to a buffer of 9 bytes or more, in any order.
 #[unsafe(no_mangle)]
 pub extern "C" fn fannavy_pieces(w: &[u8], out: &mut [u8]) -> PiecesAnswer
-    ensures value { result ≡ piecesCall w.now (length out.old) }
+    ensures value { result ≡ pieces_call w.now (length out.old) }
     ensures pieces_out { PiecesOut w.now out.old out.new }
 {
     buffer::pieces_word(w, out)
@@ -97,7 +97,7 @@ pub extern "C" fn fannavy_pieces(w: &[u8], out: &mut [u8]) -> PiecesAnswer
 // The same as lines, to a buffer of 96 bytes or more, in any order.
 #[unsafe(no_mangle)]
 pub extern "C" fn fannavy_pieces_text(w: &[u8], out: &mut [u8]) -> PiecesTextAnswer
-    ensures value { result ≡ piecesTextCall w.now (length out.old) }
+    ensures value { result ≡ pieces_text_call w.now (length out.old) }
     ensures pieces_text_out { PiecesTextOut w.now out.old out.new }
 {
     text::pieces_text(w, out)
@@ -112,10 +112,10 @@ pub extern "C" fn fannavy_batch(
     answers: &mut [u8],
     flags: &mut [u8],
 ) -> BatchAnswer
-    ensures value { result ≡ batchCall (batch front.now tails.now lengths.old answers.old flags.old) }
-    ensures lengths_after { lengths.new ≡ lengthsAfter (batch front.now tails.now lengths.old answers.old flags.old) }
-    ensures answers_after { answers.new ≡ answersAfter (batch front.now tails.now lengths.old answers.old flags.old) }
-    ensures flags_after { flags.new ≡ flagsAfter (batch front.now tails.now lengths.old answers.old flags.old) }
+    ensures value { result ≡ batch_call (batch front.now tails.now lengths.old answers.old flags.old) }
+    ensures lengths_after { lengths.new ≡ lengths_after (batch front.now tails.now lengths.old answers.old flags.old) }
+    ensures answers_after { answers.new ≡ answers_after (batch front.now tails.now lengths.old answers.old flags.old) }
+    ensures flags_after { flags.new ≡ flags_after (batch front.now tails.now lengths.old answers.old flags.old) }
 {
     call::batch_words(front, tails, lengths, answers, flags)
 }

@@ -10,12 +10,12 @@ unfoldable pub two : ℕ → ℕ → ℕ → FoldStep
 two taken a b = record { taken = taken; given = 2; first = a; last = b }
 
 -- A to Z in small letters
-unfoldable pub smallByte : ℕ → ℕ
-smallByte b = cond (leb 0x41 b && leb b 0x5A) (b + 0x20) b
+unfoldable pub small_byte : ℕ → ℕ
+small_byte b = cond (leb 0x41 b && leb b 0x5A) (b + 0x20) b
 
 -- one byte: I becomes ı
 unfoldable pub alone : ℕ → FoldStep
-alone b = cond (eqb b 0x49) (two 1 0xC4 0xB1) (one 1 (smallByte b))
+alone b = cond (eqb b 0x49) (two 1 0xC4 0xB1) (one 1 (small_byte b))
 
 -- the second byte after the first byte a: that of Ç Ö Ü, of Ğ or of Ş
 unfoldable pub second : ℕ → ℕ → ℕ
@@ -32,20 +32,20 @@ unfoldable pub paired : ℕ → Bool
 paired b = leb 0xC3 b && leb b 0xC5
 
 -- the step at the front of some bytes
-unfoldable pub foldStep : List ℕ → FoldStep
-foldStep [] = alone 0
-foldStep (b ∷ []) = alone b
-foldStep (b ∷ c ∷ cs) = cond (paired b) (pair b c) (alone b)
+unfoldable pub fold_step : List ℕ → FoldStep
+fold_step [] = alone 0
+fold_step (b ∷ []) = alone b
+fold_step (b ∷ c ∷ cs) = cond (paired b) (pair b c) (alone b)
 
 -- the bytes that a step gives
-unfoldable pub stepBytes : FoldStep → List ℕ
-stepBytes s = cond (eqb s.given 1) (s.first ∷ []) (s.first ∷ s.last ∷ [])
+unfoldable pub step_bytes : FoldStep → List ℕ
+step_bytes s = cond (eqb s.given 1) (s.first ∷ []) (s.first ∷ s.last ∷ [])
 
 -- one step after another
-unfoldable pub foldBytes : List ℕ → List ℕ
-foldBytes [] = []
-foldBytes (b ∷ []) = stepBytes (alone b)
-foldBytes (b ∷ c ∷ cs) = cond (paired b) (stepBytes (pair b c) ++ foldBytes cs) (stepBytes (alone b) ++ foldBytes (c ∷ cs))
+unfoldable pub fold_bytes : List ℕ → List ℕ
+fold_bytes [] = []
+fold_bytes (b ∷ []) = step_bytes (alone b)
+fold_bytes (b ∷ c ∷ cs) = cond (paired b) (step_bytes (pair b c) ++ fold_bytes cs) (step_bytes (alone b) ++ fold_bytes (c ∷ cs))
 
 -- ASCII without I, of which each byte is folded where it stands
 unfoldable pub plain : List ℕ → Bool
@@ -53,5 +53,5 @@ plain [] = true
 plain (b ∷ bs) = ltb b 0x80 && not (eqb b 0x49) && plain bs
 
 -- and long enough that the code tries it
-unfoldable pub longPlain : List ℕ → Bool
-longPlain w = not (ltb (length w) 16) && plain w
+unfoldable pub long_plain : List ℕ → Bool
+long_plain w = not (ltb (length w) 16) && plain w

@@ -1,7 +1,7 @@
 // Words of ASCII without I: each byte is folded where it stands, by the same test for every byte, so that many can be folded in one step.
 ghost use Rattle.std.specs.Prelude.{◌≡◌, map, ◌≤◌, length};
 ghost use Rattle.turkish.specs.Calls.{written};
-ghost use Rattle.folding.specs.FoldBytes.{smallByte, plain};
+ghost use Rattle.folding.specs.FoldBytes.{small_byte, plain};
 
 use crate::step;
 
@@ -22,7 +22,7 @@ pub(crate) fn is_plain(w: &[u8]) -> bool
 // Writes each byte folded.
 pub(crate) fn write_plain(w: &[u8], out: &mut [u8])
     requires { length w.now ≤ length out.old }
-    ensures { out.new ≡ written (map smallByte w.now) out.old }
+    ensures { out.new ≡ written (map small_byte w.now) out.old }
 {
     let mut i = 0;
     while i < w.len() {

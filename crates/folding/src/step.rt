@@ -1,7 +1,7 @@
 // A step of the fold over a word: one or two of its bytes are taken, and one or two given for them. Two are taken where a letter that
 // folds may stand, of which the first byte is that of Ç Ö Ü, of Ğ İ, or of Ş; everywhere else one.
 ghost use Rattle.std.specs.Prelude.{◌≡◌, ◌<◌, length, drop};
-ghost use Rattle.folding.specs.FoldBytes.{one, two, smallByte, alone, second, paired, pair, foldStep};
+ghost use Rattle.folding.specs.FoldBytes.{one, two, small_byte, alone, second, paired, pair, fold_step};
 
 // How many bytes are taken and how many given, and the first and the last of those; they are one where one is given.
 #[derive(Drop)]
@@ -40,7 +40,7 @@ impl FoldStep {
 
 // A to Z become a to z; every other byte stays.
 pub(crate) fn small(b: u8) -> u8
-    ensures { result ≡ smallByte b }
+    ensures { result ≡ small_byte b }
 {
     if (0x41 <= b) & (b <= 0x5A) {
         return b + 0x20;
@@ -91,7 +91,7 @@ fn fold_pair(a: u8, b: u8) -> FoldStep
 // The step from place i of the word.
 pub(crate) fn fold_at(w: &[u8], i: usize) -> FoldStep
     requires { i < length w.now }
-    ensures { result ≡ foldStep (drop i w.now) }
+    ensures { result ≡ fold_step (drop i w.now) }
 {
     let b = w[i];
     if !is_paired(b) {

@@ -2,7 +2,7 @@
 ghost use Rattle.std.specs.Prelude.{◌≡◌, ◌+◌, ◌≤◌, ◌<◌, length};
 ghost use Rattle.turkish.specs.Calls.{limit, written};
 ghost use Rattle.writing.specs.Put.{put};
-ghost use Rattle.folding.specs.FoldBytes.{stepBytes, foldBytes};
+ghost use Rattle.folding.specs.FoldBytes.{step_bytes, fold_bytes};
 
 use crate::step;
 use crate::step::FoldStep;
@@ -11,7 +11,7 @@ use writing::put;
 // How many bytes the folded word has.
 pub(crate) fn folded_length(w: &[u8]) -> usize
     requires { length w.now ≤ limit }
-    ensures { result ≡ length (foldBytes w.now) }
+    ensures { result ≡ length (fold_bytes w.now) }
 {
     let mut total = 0;
     let mut i = 0;
@@ -25,9 +25,9 @@ pub(crate) fn folded_length(w: &[u8]) -> usize
 
 // Writes what a step gives at place `at`, and gives the place after it.
 fn put_step(out: &mut [u8], at: usize, s: FoldStep) -> usize
-    requires { at + length (stepBytes s) ≤ length out.old }
-    ensures value { result ≡ at + length (stepBytes s) }
-    ensures out_after { out.new ≡ put at (stepBytes s) out.old }
+    requires { at + length (step_bytes s) ≤ length out.old }
+    ensures value { result ≡ at + length (step_bytes s) }
+    ensures out_after { out.new ≡ put at (step_bytes s) out.old }
 {
     let next = put::put_byte(out, at, s.first);
     if s.given == 1 {
@@ -38,9 +38,9 @@ fn put_step(out: &mut [u8], at: usize, s: FoldStep) -> usize
 
 // Writes the folded word, and gives its length. A byte of ASCII is a step by itself, and is not tested for beginning a pair.
 pub(crate) fn write_steps(w: &[u8], out: &mut [u8]) -> usize
-    requires { length (foldBytes w.now) ≤ length out.old }
-    ensures value { result ≡ length (foldBytes w.now) }
-    ensures out_after { out.new ≡ written (foldBytes w.now) out.old }
+    requires { length (fold_bytes w.now) ≤ length out.old }
+    ensures value { result ≡ length (fold_bytes w.now) }
+    ensures out_after { out.new ≡ written (fold_bytes w.now) out.old }
 {
     let mut at = 0;
     let mut i = 0;

@@ -1,10 +1,10 @@
 // A front that stands in for another: the vowels of the other's summary and no more. Words with one tail behind either fare alike, and this one
 // has at most nine characters.
 ghost use Rattle.std.specs.Prelude.{◌≡◌, ◌+◌, ◌≤◌, length};
-ghost use Rattle.encoding.specs.Encoding.{encodeAll};
+ghost use Rattle.encoding.specs.Encoding.{encode_all};
 ghost use Rattle.writing.specs.Put.{put};
-ghost use Rattle.vowels.specs.Sounds.{vowelNumbered, mostVowelBytes};
-ghost use Rattle.fronts.specs.StandIn.{standIn, standInRoom};
+ghost use Rattle.vowels.specs.Sounds.{vowel_numbered, most_vowel_bytes};
+ghost use Rattle.fronts.specs.StandIn.{stand_in_of, stand_in_room};
 
 use turkish::summary::Summary;
 use vowels::vowel::{Sound, Vowel};
@@ -12,9 +12,9 @@ use writing::put;
 
 // Writes the vowel of a number at place `at`, nothing where it has none, and gives the place after it.
 fn put_vowel(out: &mut [u8], at: usize, number: usize) -> usize
-    requires { at + mostVowelBytes ≤ length out.old }
-    ensures value { result ≡ at + length (encodeAll (vowelNumbered number)) }
-    ensures out_after { out.new ≡ put at (encodeAll (vowelNumbered number)) out.old }
+    requires { at + most_vowel_bytes ≤ length out.old }
+    ensures value { result ≡ at + length (encode_all (vowel_numbered number)) }
+    ensures out_after { out.new ≡ put at (encode_all (vowel_numbered number)) out.old }
 {
     let Sound::AVowel(v) = Vowel::numbered(number) else {
         return at;
@@ -26,9 +26,9 @@ fn put_vowel(out: &mut [u8], at: usize, number: usize) -> usize
 
 // Writes the stand-in for the fronts of a summary, and gives its length: each vowel that is counted, once, and the last one.
 pub fn put_stand_in(s: Summary, out: &mut [u8]) -> usize
-    requires { standInRoom ≤ length out.old }
-    ensures value { result ≡ length (standIn s) }
-    ensures out_after { out.new ≡ put 0 (standIn s) out.old }
+    requires { stand_in_room ≤ length out.old }
+    ensures value { result ≡ length (stand_in_of s) }
+    ensures out_after { out.new ≡ put 0 (stand_in_of s) out.old }
 {
     let mut at = 0;
     let mut k = 0;

@@ -7,11 +7,11 @@ use Rattle.keys.specs.declared.among.Among.{Among}
 use Rattle.keys.specs.declared.among.Among.TheVariants.{Key, Nothing}
 use Rattle.keys.specs.declared.passed.Passed.{Passed}
 use Rattle.keys.specs.declared.seen.Seen.{Seen}
-use Rattle.keys.specs.Passed.{passedTo, notPassed}
+use Rattle.keys.specs.Passed.{passed_to, not_passed_of}
 
 -- back over one key, where it ends the text before the record
 unfoldable pub over : List ℕ → Cursor → List ℕ → Passed
-over w c k = cond (starts k (behind w c)) (passedTo (back_by w c (length k)).cursor) notPassed
+over w c k = cond (starts k (behind w c)) (passed_to (back_by w c (length k)).cursor) not_passed_of
 
 -- back over the first of the keys that does, with its place from i on
 unfoldable pub found_from : ℕ → List (List ℕ) → List ℕ → Cursor → Among
@@ -22,5 +22,5 @@ unfoldable pub found : List (List ℕ) → List ℕ → Cursor → Among
 found ks w c = found_from 0 ks w c
 
 -- the last three letters of a key, 0 behind a shorter one, are those seen
-unfoldable pub endsIn : Seen → ℕ → ℕ → ℕ → Bool
-endsIn s a b d = eqb a 0 || (eqb a s.last && (eqb b 0 || (eqb b s.second && (eqb d 0 || eqb d s.third))))
+unfoldable pub ends_in_of : Seen → ℕ → ℕ → ℕ → Bool
+ends_in_of s a b d = eqb a 0 || (eqb a s.last && (eqb b 0 || (eqb b s.second && (eqb d 0 || eqb d s.third))))

@@ -6,8 +6,8 @@ use Rattle.keys.specs.declared.seen.Seen.{Seen}
 use Rattle.keys.specs.declared.seen.Three.{Three}
 
 -- the three characters behind the record, 0 where there are fewer, and the places before them
-abbrev pub threeAt : List ℕ → Cursor → Three
-threeAt w c =
+abbrev pub three_at : List ℕ → Cursor → Three
+three_at w c =
     record {
       one = (back_by w c 1).cursor;
       two = (back_by w c 2).cursor;
@@ -18,12 +18,12 @@ threeAt w c =
     }
 
 -- these with a record
-abbrev pub seenFrom : Three → Cursor → Seen
-seenFrom t c = record { c = c; one = t.one; last = t.last; two = t.two; second = t.second; three = t.three; third = t.third }
+abbrev pub seen_from : Three → Cursor → Seen
+seen_from t c = record { c = c; one = t.one; last = t.last; two = t.two; second = t.second; three = t.three; third = t.third }
 
 -- and with the one that they stand behind
 unfoldable pub seen_at : List ℕ → Cursor → Seen
-seen_at w c = seenFrom (threeAt w c) c
+seen_at w c = seen_from (three_at w c) c
 
 -- an open record with what is seen from it
 pub record Sees (w : List ℕ) (s : Seen) : Type 0 where

@@ -2,9 +2,9 @@
 // to the table's width.
 ghost use Rattle.std.specs.Prelude.{◌≡◌, ◌+◌, ◌-◌, ◌≤◌, ◌<◌, length, drop};
 ghost use Rattle.utf8.specs.Behind.{Open};
-ghost use Rattle.keys.specs.Keys.{row, rows, letterOf};
+ghost use Rattle.keys.specs.Keys.{row, rows, letter_from};
 ghost use Rattle.keys.specs.Seen.{Sees};
-ghost use Rattle.keys.specs.Search.{over, found, endsIn};
+ghost use Rattle.keys.specs.Search.{over, found, ends_in_of};
 
 use crate::passed::Passed;
 use crate::seen::Seen;
@@ -47,7 +47,7 @@ fn key_rest(w: &[u8], c: Cursor, keys: &[u32], from: usize, upto: usize) -> Pass
 // The letter at place j of the key at `base`, 0 behind a key as long as the table is wide.
 fn letter_of(keys: &[u32], base: usize, width: usize, j: usize) -> u32
     requires { base + width ≤ length keys.now }
-    ensures { result ≡ letterOf keys.now base width j }
+    ensures { result ≡ letter_from keys.now base width j }
 {
     if width <= j {
         return 0;
@@ -58,7 +58,7 @@ fn letter_of(keys: &[u32], base: usize, width: usize, j: usize) -> u32
 // Whether the last three letters of a key, 0 behind a shorter one, are those seen. No early exit: for a constant table the compiler folds the
 // search into tests of these letters.
 fn ends_in(s: Seen, a: u32, b: u32, d: u32) -> bool
-    ensures { result ≡ endsIn s a b d }
+    ensures { result ≡ ends_in_of s a b d }
 {
     (a == 0) | ((a == s.last) & ((b == 0) | ((b == s.second) & ((d == 0) | (d == s.third)))))
 }

@@ -1,6 +1,6 @@
 // A step back over a key or a mark within one record: whether it moved, and the place that it came to, 0 where it did not.
 ghost use Rattle.std.specs.Prelude.{◌≡◌};
-ghost use Rattle.keys.specs.Passed.{passedTo};
+ghost use Rattle.keys.specs.Passed.{passed_to};
 
 #[derive(Drop)]
 pub struct Passed {
@@ -15,7 +15,7 @@ impl Passed {
     };
 
     pub fn to(at: usize) -> Passed
-        ensures { result ≡ passedTo at }
+        ensures { result ≡ passed_to at }
     {
         Passed { moved: true, at }
     }

@@ -1,7 +1,7 @@
 // A cursor with the three characters before it, read once: most marks fail by these alone.
 ghost use Rattle.std.specs.Prelude.{◌≡◌};
 ghost use Rattle.utf8.specs.Behind.{Open};
-ghost use Rattle.keys.specs.Seen.{threeAt, seenFrom, seen_at};
+ghost use Rattle.keys.specs.Seen.{three_at, seen_from, seen_at};
 
 use utf8::characters;
 use utf8::cursor::Cursor;
@@ -33,7 +33,7 @@ pub struct Three {
 impl Three {
     // These, seen from a record.
     fn from(self, c: Cursor) -> Seen
-        ensures { result ≡ seenFrom self c }
+        ensures { result ≡ seen_from self c }
     {
         Seen {
             c,
@@ -50,7 +50,7 @@ impl Three {
 // The three read one after the other. It is called from two places, so that the compiler leaves it where it is.
 fn read_three(w: &[u8], c: Cursor) -> Three
     requires { Open w.now c }
-    ensures { result ≡ threeAt w.now c }
+    ensures { result ≡ three_at w.now c }
 {
     let low = c.limit_backward;
     let part = &w[low..];

@@ -1,34 +1,34 @@
 -- A piece's kind from a mark's number and a y, and a kind's name, as the code makes them. Assumes nothing.
 use Rattle.std.specs.Prelude.{ℕ, Bool, cond, length, eqb}
 use Rattle.turkish.specs.Letters.{text}
-use Rattle.turkish.specs.Pieces.{kindName}
+use Rattle.turkish.specs.Pieces.{kind_name}
 use Rattle.turkish.specs.Calls.{written}
-use Rattle.turkish.specs.PieceCalls.{kindNumber}
+use Rattle.turkish.specs.PieceCalls.{kind_number}
 use Rattle.turkish.specs.declared.endings.Joining.{Joining}
 use Rattle.turkish.specs.declared.endings.Joining.TheVariants.{WithY, AfterVowel}
 use Rattle.turkish.specs.declared.endings.Kind.{Kind}
 use Rattle.turkish.specs.declared.endings.Kind.TheVariants.{YUm, SUn, YUz, SUnUz, LAr, NUz, DUr, CAsInA, YDU, YsA, YmUs, Yken}
 use Rattle.kinds.specs.declared.kind.Name.{Name}
 
-unfoldable pub joiningBy : Bool → Joining
-joiningBy y = cond y WithY AfterVowel
+unfoldable pub joining_by : Bool → Joining
+joining_by y = cond y WithY AfterVowel
 
 unfoldable pub kind_at : ℕ → Bool → Kind
 kind_at n y =
-    cond (eqb n 1) (YUm (joiningBy y))
+    cond (eqb n 1) (YUm (joining_by y))
     (cond (eqb n 2) SUn
-    (cond (eqb n 3) (YUz (joiningBy y))
+    (cond (eqb n 3) (YUz (joining_by y))
     (cond (eqb n 4) SUnUz
     (cond (eqb n 5) LAr
     (cond (eqb n 6) NUz
     (cond (eqb n 7) DUr
     (cond (eqb n 8) CAsInA
-    (cond (eqb n 9) (YDU (joiningBy y))
-    (cond (eqb n 10) (YsA (joiningBy y))
-    (cond (eqb n 11) (YmUs (joiningBy y)) (Yken (joiningBy y))))))))))))
+    (cond (eqb n 9) (YDU (joining_by y))
+    (cond (eqb n 10) (YsA (joining_by y))
+    (cond (eqb n 11) (YmUs (joining_by y)) (Yken (joining_by y))))))))))))
 
 -- a kind's name and how many letters it has, with dots behind it up to six
 unfoldable pub name_of : Kind → Name
 name_of kind =
-    let name = kindName (kindNumber kind) in
+    let name = kind_name (kind_number kind) in
     record { letters = written name (text "......"); n = length name }

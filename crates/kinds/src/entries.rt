@@ -1,7 +1,7 @@
 // The pieces as numbers: three bytes each at the front of a lent buffer.
 ghost use Rattle.std.specs.Prelude.{◌≡◌, map, ◌≤◌, length, take};
 ghost use Rattle.turkish.specs.Calls.{written};
-ghost use Rattle.turkish.specs.PieceCalls.{told, piecesRoom, buffer};
+ghost use Rattle.turkish.specs.PieceCalls.{told, pieces_room, buffer};
 ghost use Rattle.kinds.specs.Entries.{Near};
 
 use crate::kind;
@@ -10,7 +10,7 @@ use turkish::endings::Removed;
 // Writes each piece's kind and the distances of its first and last byte from the kept text's end.
 pub fn put_pieces(r: Removed, out: &mut [u8])
     requires near { Near r }
-    requires pieces_room_in_bounds { piecesRoom ≤ length out.old }
+    requires pieces_room_in_bounds { pieces_room ≤ length out.old }
     ensures { out.new ≡ written (buffer r.length (map told (take r.count r.pieces))) out.old }
 {
     let kept = r.length;

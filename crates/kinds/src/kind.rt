@@ -1,13 +1,13 @@
 // A piece's kind: from a mark's number, and to its number and name.
 ghost use Rattle.std.specs.Prelude.{◌≡◌};
-ghost use Rattle.turkish.specs.PieceCalls.{kindNumber};
-ghost use Rattle.kinds.specs.Kinds.{joiningBy, kind_at, name_of};
+ghost use Rattle.turkish.specs.PieceCalls.{kind_number};
+ghost use Rattle.kinds.specs.Kinds.{joining_by, kind_at, name_of};
 
 use turkish::endings::{Joining, Kind};
 
 // How a piece joined, by whether a y did.
 fn joining(y: bool) -> Joining
-    ensures { result ≡ joiningBy y }
+    ensures { result ≡ joining_by y }
 {
     if y {
         return Joining::WithY;
@@ -38,7 +38,7 @@ pub fn kind_of(number: u32, y: bool) -> Kind
 
 // A kind's number.
 pub fn number_of(kind: Kind) -> u8
-    ensures { result ≡ kindNumber kind }
+    ensures { result ≡ kind_number kind }
 {
     match kind {
         Kind::YUm(_) => 1,

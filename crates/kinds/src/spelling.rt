@@ -1,7 +1,7 @@
 // The pieces as text: a line each at the front of a lent buffer.
 ghost use Rattle.std.specs.Prelude.{◌≡◌, map, ◌+◌, ◌≤◌, ◌<◌, length, take};
 ghost use Rattle.turkish.specs.Calls.{written};
-ghost use Rattle.turkish.specs.PieceCalls.{told, pieceLine, text_of};
+ghost use Rattle.turkish.specs.PieceCalls.{told, piece_line, text_of};
 ghost use Rattle.writing.specs.Put.{put};
 ghost use Rattle.kinds.specs.Entries.{Inside};
 
@@ -13,9 +13,9 @@ use writing::put;
 fn put_line(out: &mut [u8], at: usize, w: &[u8], p: Piece) -> usize
     requires first_le_last { p.first ≤ p.last }
     requires last_in_bounds { p.last < length w.now }
-    requires p_in_bounds { at + length (pieceLine w.now (told p)) ≤ length out.old }
-    ensures value { result ≡ at + length (pieceLine w.now (told p)) }
-    ensures out_after { out.new ≡ put at (pieceLine w.now (told p)) out.old }
+    requires p_in_bounds { at + length (piece_line w.now (told p)) ≤ length out.old }
+    ensures value { result ≡ at + length (piece_line w.now (told p)) }
+    ensures out_after { out.new ≡ put at (piece_line w.now (told p)) out.old }
 {
     let k = p.kind;
     let name = kind::name_of(k);

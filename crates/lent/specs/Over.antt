@@ -2,20 +2,20 @@
 -- A literal that does not stand leaves the record as it is, so the next step goes from there. Assumes nothing.
 use Rattle.std.specs.Prelude.{ℕ, List}
 use Rattle.utf8.specs.declared.cursor.Cursor.{Cursor}
-use Rattle.utf8.specs.Steps.{previousChar, eqSB}
+use Rattle.utf8.specs.Steps.{previous_char_of, eq_s_b_of}
 use Rattle.lent.specs.declared.Over.{Over}
 
 -- the record before the last step: before both literals where they stand
-abbrev pub beforeBoth : List ℕ → List ℕ → List ℕ → Cursor → Cursor
-beforeBoth w s y r = (eqSB w y (eqSB w s r).next).next
+abbrev pub before_both : List ℕ → List ℕ → List ℕ → Cursor → Cursor
+before_both w s y r = (eq_s_b_of w y (eq_s_b_of w s r).next).next
 
 -- the three steps' answers, the record before the last, and the record after it
 unfoldable pub over : List ℕ → List ℕ → List ℕ → Cursor → Over
 over w s y r =
     record {
-      literal = (eqSB w s r).moved;
-      joined = (eqSB w y (eqSB w s r).next).moved;
-      character = (previousChar w (beforeBoth w s y r)).moved;
-      here = beforeBoth w s y r;
-      next = (previousChar w (beforeBoth w s y r)).next;
+      literal = (eq_s_b_of w s r).moved;
+      joined = (eq_s_b_of w y (eq_s_b_of w s r).next).moved;
+      character = (previous_char_of w (before_both w s y r)).moved;
+      here = before_both w s y r;
+      next = (previous_char_of w (before_both w s y r)).next;
     }

@@ -1,7 +1,7 @@
 // The two backward steps over one lent cursor record, and one function with plain parameters that serves the library with them.
 // Nothing here is offered to the host.
 ghost use Rattle.std.specs.Prelude.{◌≡◌};
-ghost use Rattle.utf8.specs.Steps.{previousChar, eqSB};
+ghost use Rattle.utf8.specs.Steps.{previous_char_of, eq_s_b_of};
 ghost use Rattle.lent.specs.Over.{over};
 
 use utf8::cursor::Cursor;
@@ -9,8 +9,8 @@ use utf8::{literal, step};
 
 // One character back: whether the cursor moved. At limit_backward, or outside the word, the record stays.
 pub fn step_back(w: &[u8], c: &mut Cursor) -> bool
-    ensures value { result ≡ (previousChar w.now c.old).moved }
-    ensures c_after { c.new ≡ (previousChar w.now c.old).next }
+    ensures value { result ≡ (previous_char_of w.now c.old).moved }
+    ensures c_after { c.new ≡ (previous_char_of w.now c.old).next }
 {
     let s = step::previous_char(w, *c);
     *c = s.next;
@@ -19,8 +19,8 @@ pub fn step_back(w: &[u8], c: &mut Cursor) -> bool
 
 // Back past the literal s: whether the cursor moved. Where s does not stand before the cursor, the record stays.
 pub fn literal_back(w: &[u8], s: &[u8], c: &mut Cursor) -> bool
-    ensures value { result ≡ (eqSB w.now s.now c.old).moved }
-    ensures c_after { c.new ≡ (eqSB w.now s.now c.old).next }
+    ensures value { result ≡ (eq_s_b_of w.now s.now c.old).moved }
+    ensures c_after { c.new ≡ (eq_s_b_of w.now s.now c.old).next }
 {
     let l = literal::eq_s_b(w, s, *c);
     *c = l.next;

@@ -3,5 +3,5 @@ use Rattle.std.specs.Prelude.{ℕ, ◌+◌, ◌*◌}
 use Rattle.turkish.specs.Calls.{limit}
 
 -- room for any line, in bytes: four times the limit and fifteen; the longest has one fewer
-unfoldable pub lineRoom : ℕ
-lineRoom = 4 * limit + 15
+unfoldable pub line_room : ℕ
+line_room = 4 * limit + 15

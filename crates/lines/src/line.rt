@@ -1,14 +1,14 @@
 // The output line of one word (document 01, "stemlist"). Each stage runs once, but for the postlude, which pass and whole run have of two texts.
 ghost use Rattle.std.specs.Prelude.{◌≡◌, true, cond, ◌+◌, ◌-◌, ◌≤◌, ◌<◌, length};
 ghost use Rattle.turkish.specs.Letters.{tab, has};
-ghost use Rattle.theorems.specs.Simple.Harmony.{moreThanOneSyllable};
-ghost use Rattle.turkish.specs.Calls.{chars, accepted, passText, wholeText};
-ghost use Rattle.stages.specs.Outcome.{outcomeOf};
-ghost use Rattle.repairs.specs.Repairs.{repairText};
-ghost use Rattle.outputs.specs.Runs.{runText};
+ghost use Rattle.theorems.specs.Simple.Harmony.{more_than_one_syllable};
+ghost use Rattle.turkish.specs.Calls.{chars, accepted, pass_text, whole_text};
+ghost use Rattle.stages.specs.Outcome.{outcome_of};
+ghost use Rattle.repairs.specs.Repairs.{repair_text};
+ghost use Rattle.outputs.specs.Runs.{run_text};
 ghost use Rattle.writing.specs.Put.{put};
-ghost use Rattle.lines.specs.Line.{lineRefusal, answers, fields, refusedLine, listLine};
-ghost use Rattle.lines.specs.Room.{lineRoom};
+ghost use Rattle.lines.specs.Line.{line_refusal_of, answers, fields, refused_line, list_line};
+ghost use Rattle.lines.specs.Room.{line_room};
 
 use outputs::run;
 use outputs::run::Run;
@@ -43,7 +43,7 @@ fn has_tab(w: &[u8]) -> bool
 
 // Why a line is refused: 1, 2, or 4 for a tab; 0 where it is not.
 fn line_refusal(w: &[u8]) -> u32
-    ensures { result ≡ lineRefusal w.now }
+    ensures { result ≡ line_refusal_of w.now }
 {
     let n = refusal::refusal_of(w);
     if n != 0 {
@@ -85,8 +85,8 @@ fn put_repair(out: &mut [u8], at: usize, w: &[u8], r: Repair) -> usize
     requires keep_in_bounds { r.keep ≤ length w.now }
     requires more_bound { r.more ≤ 2 }
     requires more_in_bounds { at + (r.keep + r.more) ≤ length out.old }
-    ensures value { result ≡ at + length (repairText w.now r) }
-    ensures out_after { out.new ≡ put at (repairText w.now r) out.old }
+    ensures value { result ≡ at + length (repair_text w.now r) }
+    ensures out_after { out.new ≡ put at (repair_text w.now r) out.old }
 {
     let a = put::put_bytes(out, at, w, r.keep);
     let more = r.more;
@@ -103,11 +103,11 @@ fn put_repair(out: &mut [u8], at: usize, w: &[u8], r: Repair) -> usize
 // Writes the pass's text of an accepted word, whose syllable answer and stage are known.
 fn put_pass(out: &mut [u8], at: usize, w: &[u8], syllable: bool, s: Outcome) -> usize
     requires w_value { accepted w.now ≡ true }
-    requires syllable_value { syllable ≡ moreThanOneSyllable (chars w.now) }
-    requires s_value { s ≡ outcomeOf w.now }
+    requires syllable_value { syllable ≡ more_than_one_syllable (chars w.now) }
+    requires s_value { s ≡ outcome_of w.now }
     requires w_in_bounds { at + (length w.now + 2) ≤ length out.old }
-    ensures value { result ≡ at + length (passText w.now) }
-    ensures out_after { out.new ≡ put at (passText w.now) out.old }
+    ensures value { result ≡ at + length (pass_text w.now) }
+    ensures out_after { out.new ≡ put at (pass_text w.now) out.old }
 {
     if !syllable {
         return put::put_bytes(out, at, w, w.len());
@@ -126,8 +126,8 @@ fn put_run(out: &mut [u8], at: usize, w: &[u8], r: Run) -> usize
     requires from_le_upto { r.from ≤ r.upto }
     requires upto_in_bounds { r.upto ≤ length w.now }
     requires from_in_bounds { at + (r.repair.keep + r.repair.more + (r.upto - r.from)) ≤ length out.old }
-    ensures value { result ≡ at + length (runText w.now r) }
-    ensures out_after { out.new ≡ put at (runText w.now r) out.old }
+    ensures value { result ≡ at + length (run_text w.now r) }
+    ensures out_after { out.new ≡ put at (run_text w.now r) out.old }
 {
     let from = r.from;
     let upto = r.upto;
@@ -138,11 +138,11 @@ fn put_run(out: &mut [u8], at: usize, w: &[u8], r: Run) -> usize
 // Writes the whole run's text of an accepted word, whose syllable answer and stage are known.
 fn put_whole(out: &mut [u8], at: usize, w: &[u8], syllable: bool, s: Outcome) -> usize
     requires w_value { accepted w.now ≡ true }
-    requires syllable_value { syllable ≡ moreThanOneSyllable (chars w.now) }
-    requires s_value { s ≡ outcomeOf w.now }
+    requires syllable_value { syllable ≡ more_than_one_syllable (chars w.now) }
+    requires s_value { s ≡ outcome_of w.now }
     requires w_in_bounds { at + (length w.now + 2) ≤ length out.old }
-    ensures value { result ≡ at + length (wholeText w.now) }
-    ensures out_after { out.new ≡ put at (wholeText w.now) out.old }
+    ensures value { result ≡ at + length (whole_text w.now) }
+    ensures out_after { out.new ≡ put at (whole_text w.now) out.old }
 {
     if !syllable {
         return put::put_bytes(out, at, w, w.len());
@@ -153,7 +153,7 @@ fn put_whole(out: &mut [u8], at: usize, w: &[u8], syllable: bool, s: Outcome) ->
 // Writes the line of an accepted word.
 fn put_fields(out: &mut [u8], at: usize, w: &[u8]) -> usize
     requires w_value { accepted w.now ≡ true }
-    requires line_room_in_bounds { at + lineRoom ≤ length out.old }
+    requires line_room_in_bounds { at + line_room ≤ length out.old }
     ensures value { result ≡ at + length (fields w.now) }
     ensures out_after { out.new ≡ put at (fields w.now) out.old }
 {
@@ -174,7 +174,7 @@ fn put_refused(out: &mut [u8], at: usize, n: u32) -> usize
     requires n_bound { n < 10 }
     requires at_in_bounds { at + 4 ≤ length out.old }
     ensures value { result ≡ at + 4 }
-    ensures out_after { out.new ≡ put at (refusedLine n) out.old }
+    ensures out_after { out.new ≡ put at (refused_line n) out.old }
 {
     let a = put::put_byte(out, at, 0x21);
     let b = put::put_byte(out, a, put::TAB);
@@ -184,9 +184,9 @@ fn put_refused(out: &mut [u8], at: usize, n: u32) -> usize
 
 // Writes the output line of one word at place `at`, refused or not, and gives the place after it.
 pub fn put_line(out: &mut [u8], at: usize, w: &[u8]) -> usize
-    requires { at + lineRoom ≤ length out.old }
-    ensures value { result ≡ at + length (listLine w.now) }
-    ensures out_after { out.new ≡ put at (listLine w.now) out.old }
+    requires { at + line_room ≤ length out.old }
+    ensures value { result ≡ at + length (list_line w.now) }
+    ensures out_after { out.new ≡ put at (list_line w.now) out.old }
 {
     let n = line_refusal(w);
     if n != 0 {

@@ -5,29 +5,29 @@ use mathlib.Core.Bool.{Bool}
 use mathlib.Core.List.{List, [], ◌∷◌, ◌++◌, append_assoc, append-nil, flatten, map}
 use Rattle.turkish.specs.Letters.{lf}
 use Rattle.turkish.specs.Lines.{unclosed}
-use Rattle.listing.specs.Listing.{listAll, listing}
-use Rattle.listing.specs.Feed.{fedOut, fedLine, lastOut}
-use Rattle.listing.proofs.Blocks.{fedLine-append, fedOut-append, listing-fed}
+use Rattle.listing.specs.Listing.{list_all, listing}
+use Rattle.listing.specs.Feed.{fed_out, fed_line, last_out}
+use Rattle.listing.proofs.Blocks.{fed_line-append, fed_out-append, listing-fed}
 
 -- a list with a line feed behind it
 abbrev pub closed : List ℕ → List ℕ
 closed a = a ++ (lf ∷ [])
 
 -- after it no line is held
-fedLine-closed : (a : List ℕ) → fedLine [] (closed a) ≡ []
-unfolding fedLine lf
-fedLine-closed a = fedLine-append [] a (lf ∷ [])
+fed_line-closed : (a : List ℕ) → fed_line [] (closed a) ≡ []
+unfolding fed_line lf
+fed_line-closed a = fed_line-append [] a (lf ∷ [])
 
 -- so its listing is what it writes
-fedOut-closed : (folded : Bool) (a : List ℕ) → fedOut folded [] (closed a) ≡ listing folded (closed a)
-unfolding lastOut unclosed listAll
-fedOut-closed folded a = rw (← listing-fed folded (closed a), fedLine-closed a, append-nil)
+fed_out-closed : (folded : Bool) (a : List ℕ) → fed_out folded [] (closed a) ≡ listing folded (closed a)
+unfolding last_out unclosed list_all
+fed_out-closed folded a = rw (← listing-fed folded (closed a), fed_line-closed a, append-nil)
 
 -- and before what follows it stands that
 listing-closed : (folded : Bool) (a b : List ℕ) → listing folded (closed a ++ b) ≡ listing folded (closed a) ++ listing folded b
 listing-closed folded a b =
-    rw (← listing-fed folded (closed a ++ b), fedOut-append folded [] (closed a) b, fedLine-append [] (closed a) b, fedLine-closed a, append_assoc)
-    (rw (fedOut-closed folded a, listing-fed folded b))
+    rw (← listing-fed folded (closed a ++ b), fed_out-append folded [] (closed a) b, fed_line-append [] (closed a) b, fed_line-closed a, append_assoc)
+    (rw (fed_out-closed folded a, listing-fed folded b))
 
 -- a list cut behind a line feed
 pub listing-parts : (folded : Bool) (a b : List ℕ) → listing folded (a ++ (lf ∷ b)) ≡ listing folded (a ++ (lf ∷ [])) ++ listing folded b

@@ -3,9 +3,9 @@
 use Rattle.std.specs.Prelude.{ℕ, ◌+◌, Bool, cond, List, [], ◌∷◌, ◌++◌, map, take, eqb}
 use Rattle.turkish.specs.Letters.{lf}
 use Rattle.turkish.specs.Lines.{unclosed}
-use Rattle.lines.specs.Line.{listLine}
+use Rattle.lines.specs.Line.{list_line}
 use Rattle.lines.specs.Listed.{listed}
-use Rattle.listing.specs.Listing.{listAll}
+use Rattle.listing.specs.Listing.{list_all}
 -- the longest word, in bytes
 unfoldable pub use Rattle.turkish.specs.Calls.{limit}
 
@@ -18,15 +18,15 @@ unfoldable pub hold : List ℕ → ℕ → List ℕ
 hold line b = take most (line ++ (b ∷ []))
 
 -- the output for a block, with `line` held before it
-unfoldable pub fedOut : Bool → List ℕ → List ℕ → List ℕ
-fedOut folded line [] = []
-fedOut folded line (b ∷ bs) = cond (eqb b lf) (listLine (listed folded line) ++ fedOut folded [] bs) (fedOut folded (hold line b) bs)
+unfoldable pub fed_out : Bool → List ℕ → List ℕ → List ℕ
+fed_out folded line [] = []
+fed_out folded line (b ∷ bs) = cond (eqb b lf) (list_line (listed folded line) ++ fed_out folded [] bs) (fed_out folded (hold line b) bs)
 
 -- the line held after the block
-unfoldable pub fedLine : List ℕ → List ℕ → List ℕ
-fedLine line [] = line
-fedLine line (b ∷ bs) = cond (eqb b lf) (fedLine [] bs) (fedLine (hold line b) bs)
+unfoldable pub fed_line : List ℕ → List ℕ → List ℕ
+fed_line line [] = line
+fed_line line (b ∷ bs) = cond (eqb b lf) (fed_line [] bs) (fed_line (hold line b) bs)
 
 -- the output at the end of the input, with `line` held
-unfoldable pub lastOut : Bool → List ℕ → List ℕ
-lastOut folded line = listAll (map (listed folded) (unclosed line))
+unfoldable pub last_out : Bool → List ℕ → List ℕ
+last_out folded line = list_all (map (listed folded) (unclosed line))

@@ -2,9 +2,9 @@
 // stops where the output has no room for one more line.
 ghost use Rattle.std.specs.Prelude.{◌≡◌, ◌+◌, ◌≤◌, length, take, set};
 ghost use Rattle.writing.specs.Put.{put};
-ghost use Rattle.listing.specs.Feed.{most, lastOut};
-ghost use Rattle.lines.specs.Room.{lineRoom};
-ghost use Rattle.listing.specs.Fed.{standing, heldNext, feedByte, feeding};
+ghost use Rattle.listing.specs.Feed.{most, last_out};
+ghost use Rattle.lines.specs.Room.{line_room};
+ghost use Rattle.listing.specs.Fed.{standing, held_next, feed_byte_of, feeding};
 
 use lines::listed;
 use refusals::refusal;
@@ -27,7 +27,7 @@ pub struct Progress {
 fn hold_byte(line: &mut [u8], held: usize, b: u8) -> usize
     requires line_len { length line.old ≡ most }
     requires held_le_most { held ≤ most }
-    ensures value { result ≡ heldNext held }
+    ensures value { result ≡ held_next held }
     ensures line_after { line.new ≡ set line.old held b }
 {
     if held < HELD {
@@ -48,12 +48,12 @@ fn feed_byte(
 ) -> Progress
     requires line_len { length line.old ≡ most }
     requires held_le_most { held ≤ most }
-    requires line_room_in_bounds { at + lineRoom ≤ length out.old }
+    requires line_room_in_bounds { at + line_room ≤ length out.old }
     ensures used_value { result.used ≡ 1 }
-    ensures held_value { result.held ≡ (feedByte folded b (standing 0 line.old held out.old at)).held }
-    ensures written_value { result.written ≡ (feedByte folded b (standing 0 line.old held out.old at)).written }
-    ensures line_after { line.new ≡ (feedByte folded b (standing 0 line.old held out.old at)).line }
-    ensures out_after { out.new ≡ (feedByte folded b (standing 0 line.old held out.old at)).out }
+    ensures held_value { result.held ≡ (feed_byte_of folded b (standing 0 line.old held out.old at)).held }
+    ensures written_value { result.written ≡ (feed_byte_of folded b (standing 0 line.old held out.old at)).written }
+    ensures line_after { line.new ≡ (feed_byte_of folded b (standing 0 line.old held out.old at)).line }
+    ensures out_after { out.new ≡ (feed_byte_of folded b (standing 0 line.old held out.old at)).out }
 {
     if b == 0x0A {
         let end = listed::put_listed(out, at, &line[..held], folded);
@@ -115,9 +115,9 @@ pub fn feed(
 // The line that the input's end closes, if it is not empty, to the front of the output.
 pub fn finish(folded: bool, line: &[u8], held: usize, out: &mut [u8]) -> usize
     requires held_in_bounds { held ≤ length line.now }
-    requires line_room_in_bounds { lineRoom ≤ length out.old }
-    ensures value { result ≡ length (lastOut folded (take held line.now)) }
-    ensures out_after { out.new ≡ put 0 (lastOut folded (take held line.now)) out.old }
+    requires line_room_in_bounds { line_room ≤ length out.old }
+    ensures value { result ≡ length (last_out folded (take held line.now)) }
+    ensures out_after { out.new ≡ put 0 (last_out folded (take held line.now)) out.old }
 {
     if held == 0 {
         return 0;

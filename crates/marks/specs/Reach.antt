@@ -3,13 +3,13 @@
 -- Assumes nothing.
 use Rattle.std.specs.Prelude.{ℕ, cond, ◌&&◌, List, [], ◌∷◌}
 use Rattle.utf8.specs.declared.cursor.Cursor.{Cursor}
-use Rattle.utf8.specs.Steps.{moveTo}
+use Rattle.utf8.specs.Steps.{move_to}
 use Rattle.utf8.specs.Behind.{back_by}
 use Rattle.theorems.specs.Simple.Pieces.{Taken, Trace, none, keeps, total}
 use Rattle.vowels.specs.declared.harmony.Accord.{Accord}
 use Rattle.keys.specs.declared.passed.Passed.{Passed}
-use Rattle.vowels.specs.Accord.{holds, noAccord, accordAt, passedOn}
-use Rattle.keys.specs.Passed.{passedTo, notPassed}
+use Rattle.vowels.specs.Accord.{holds, no_accord, accord_at, passed_on}
+use Rattle.keys.specs.Passed.{passed_to, not_passed_of}
 use Rattle.marks.specs.declared.marked.Marked.{Marked}
 use Rattle.marks.specs.declared.marked.Marked.TheVariants.{To, Fails}
 
@@ -19,24 +19,24 @@ leading [] = 0
 leading (t ∷ ts) = t.kind
 
 -- and what it passes on
-unfoldable pub leadingAccord : List ℕ → Cursor → List Taken → Accord
-leadingAccord w c [] = noAccord
-leadingAccord w c (t ∷ ts) = passedOn w c t.found
+unfoldable pub leading_accord : List ℕ → Cursor → List Taken → Accord
+leading_accord w c [] = no_accord
+leading_accord w c (t ∷ ts) = passed_on w c t.found
 
 unfoldable pub reach : List ℕ → Cursor → Trace → Marked
 reach w c none = Fails
-reach w c (keeps ts f) = To (back_by w c (total ts)) (leading ts) (leadingAccord w c ts)
+reach w c (keeps ts f) = To (back_by w c (total ts)) (leading ts) (leading_accord w c ts)
 
 -- ---- a mark by its parts ----
 
 -- how far its key and what joins it go is p: it is kept where they fit, and, if it tests harmony, where that holds too
 unfoldable pub kept : Cursor → ℕ → Passed → Marked
-kept c kind p = cond p.moved (To (moveTo c p.at) kind noAccord) Fails
+kept c kind p = cond p.moved (To (move_to c p.at) kind no_accord) Fails
 
-unfoldable pub keptInHarmony : List ℕ → Cursor → ℕ → Passed → Marked
-keptInHarmony w c kind p = cond (p.moved && holds (accordAt w c)) (To (moveTo c p.at) kind (accordAt w c)) Fails
+unfoldable pub kept_in_harmony_of : List ℕ → Cursor → ℕ → Passed → Marked
+kept_in_harmony_of w c kind p = cond (p.moved && holds (accord_at w c)) (To (move_to c p.at) kind (accord_at w c)) Fails
 
 -- how far an answer goes alone
 unfoldable pub place_of : Marked → Passed
-place_of Fails = notPassed
-place_of (To c kind heard) = passedTo c.cursor
+place_of Fails = not_passed_of
+place_of (To c kind heard) = passed_to c.cursor

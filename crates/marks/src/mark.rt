@@ -6,11 +6,11 @@ ghost use Rattle.std.specs.Prelude.{◌≡◌};
 ghost use Rattle.utf8.specs.Behind.{behind, Open};
 ghost use Rattle.theorems.specs.Simple.Grammar.{mark_of};
 ghost use Rattle.theorems.specs.Simple.Marks.{yUm, sUn, yUz, sUnUz, lAr, nUz, DUr, cAsInA, yDU, ysA, ymUs, yken};
-ghost use Rattle.theorems.specs.Simple.Pieces.{traceOf};
+ghost use Rattle.theorems.specs.Simple.Pieces.{trace_of};
 ghost use Rattle.keys.specs.Search.{found};
 ghost use Rattle.keys.specs.Seen.{Sees};
 ghost use Rattle.keys.specs.Passed.{passes};
-ghost use Rattle.keys.specs.Ends.{endingIn};
+ghost use Rattle.keys.specs.Ends.{ending_in};
 ghost use Rattle.marks.specs.Reach.{reach};
 
 use crate::marked::Marked;
@@ -56,7 +56,7 @@ const Y: [u8; 1] = *b"y";
 
 pub fn mark_yUm(w: &[u8], s: Seen) -> Marked
     requires { Sees w.now s }
-    ensures { result ≡ reach w.now s.c (traceOf yUm (behind w.now s.c)) }
+    ensures { result ≡ reach w.now s.c (trace_of yUm (behind w.now s.c)) }
 {
     if s.last != 0x6D {
         return Marked::Fails;
@@ -70,7 +70,7 @@ pub fn mark_yUm(w: &[u8], s: Seen) -> Marked
 
 pub fn mark_sUn(w: &[u8], s: Seen) -> Marked
     requires { Sees w.now s }
-    ensures { result ≡ reach w.now s.c (traceOf sUn (behind w.now s.c)) }
+    ensures { result ≡ reach w.now s.c (trace_of sUn (behind w.now s.c)) }
 {
     if s.last != 0x6E {
         return Marked::Fails;
@@ -83,7 +83,7 @@ pub fn mark_sUn(w: &[u8], s: Seen) -> Marked
 
 pub fn mark_yUz(w: &[u8], s: Seen) -> Marked
     requires { Sees w.now s }
-    ensures { result ≡ reach w.now s.c (traceOf yUz (behind w.now s.c)) }
+    ensures { result ≡ reach w.now s.c (trace_of yUz (behind w.now s.c)) }
 {
     if s.last != 0x7A {
         return Marked::Fails;
@@ -97,7 +97,7 @@ pub fn mark_yUz(w: &[u8], s: Seen) -> Marked
 
 pub fn mark_sUnUz(w: &[u8], s: Seen) -> Marked
     requires { Sees w.now s }
-    ensures { result ≡ reach w.now s.c (traceOf sUnUz (behind w.now s.c)) }
+    ensures { result ≡ reach w.now s.c (trace_of sUnUz (behind w.now s.c)) }
 {
     if s.last != 0x7A {
         return Marked::Fails;
@@ -110,7 +110,7 @@ pub fn mark_sUnUz(w: &[u8], s: Seen) -> Marked
 
 pub fn mark_lAr(w: &[u8], s: Seen) -> Marked
     requires { Sees w.now s }
-    ensures { result ≡ reach w.now s.c (traceOf lAr (behind w.now s.c)) }
+    ensures { result ≡ reach w.now s.c (trace_of lAr (behind w.now s.c)) }
 {
     let c = s.c;
     if s.last != 0x72 {
@@ -124,7 +124,7 @@ pub fn mark_lAr(w: &[u8], s: Seen) -> Marked
 
 pub fn mark_nUz(w: &[u8], s: Seen) -> Marked
     requires { Sees w.now s }
-    ensures { result ≡ reach w.now s.c (traceOf nUz (behind w.now s.c)) }
+    ensures { result ≡ reach w.now s.c (trace_of nUz (behind w.now s.c)) }
 {
     if s.last != 0x7A {
         return Marked::Fails;
@@ -137,7 +137,7 @@ pub fn mark_nUz(w: &[u8], s: Seen) -> Marked
 
 pub fn mark_DUr(w: &[u8], s: Seen) -> Marked
     requires { Sees w.now s }
-    ensures { result ≡ reach w.now s.c (traceOf DUr (behind w.now s.c)) }
+    ensures { result ≡ reach w.now s.c (trace_of DUr (behind w.now s.c)) }
 {
     if s.last != 0x72 {
         return Marked::Fails;
@@ -150,7 +150,7 @@ pub fn mark_DUr(w: &[u8], s: Seen) -> Marked
 
 pub fn mark_cAsInA(w: &[u8], s: Seen) -> Marked
     requires { Sees w.now s }
-    ensures { result ≡ reach w.now s.c (traceOf cAsInA (behind w.now s.c)) }
+    ensures { result ≡ reach w.now s.c (trace_of cAsInA (behind w.now s.c)) }
 {
     if !ends::is_A(s.last) {
         return Marked::Fails;
@@ -164,7 +164,7 @@ pub fn mark_cAsInA(w: &[u8], s: Seen) -> Marked
 // A_20's 32 keys by the last letter: only those that end in it are searched.
 fn find_yDU(w: &[u8], s: Seen) -> Among
     requires { Sees w.now s }
-    ensures { result ≡ found (endingIn s.last yDU.keys) w.now s.c }
+    ensures { result ≡ found (ending_in s.last yDU.keys) w.now s.c }
 {
     let last = s.last;
     match last {
@@ -181,7 +181,7 @@ fn find_yDU(w: &[u8], s: Seen) -> Among
 
 pub fn mark_yDU(w: &[u8], s: Seen) -> Marked
     requires { Sees w.now s }
-    ensures { result ≡ reach w.now s.c (traceOf yDU (behind w.now s.c)) }
+    ensures { result ≡ reach w.now s.c (trace_of yDU (behind w.now s.c)) }
 {
     let Among::Key(_, d) = find_yDU(w, s) else {
         return Marked::Fails;
@@ -192,7 +192,7 @@ pub fn mark_yDU(w: &[u8], s: Seen) -> Marked
 
 pub fn mark_ysA(w: &[u8], s: Seen) -> Marked
     requires { Sees w.now s }
-    ensures { result ≡ reach w.now s.c (traceOf ysA (behind w.now s.c)) }
+    ensures { result ≡ reach w.now s.c (trace_of ysA (behind w.now s.c)) }
 {
     if !(ends::is_A(s.last) | ends::is_kmn(s.last)) {
         return Marked::Fails;
@@ -206,7 +206,7 @@ pub fn mark_ysA(w: &[u8], s: Seen) -> Marked
 
 pub fn mark_ymUs_(w: &[u8], s: Seen) -> Marked
     requires { Sees w.now s }
-    ensures { result ≡ reach w.now s.c (traceOf ymUs (behind w.now s.c)) }
+    ensures { result ≡ reach w.now s.c (trace_of ymUs (behind w.now s.c)) }
 {
     if s.last != 0x15F {
         return Marked::Fails;
@@ -249,7 +249,7 @@ fn back_over_yken(w: &[u8], c: Cursor) -> Passed
 
 pub fn mark_yken(w: &[u8], s: Seen) -> Marked
     requires { Sees w.now s }
-    ensures { result ≡ reach w.now s.c (traceOf yken (behind w.now s.c)) }
+    ensures { result ≡ reach w.now s.c (trace_of yken (behind w.now s.c)) }
 {
     if s.last != 0x6E {
         return Marked::Fails;

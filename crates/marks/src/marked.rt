@@ -1,8 +1,8 @@
 // A mark's answer: the record moved back, the mark's number and what its harmony test found, or that it fails.
 ghost use Rattle.std.specs.Prelude.{◌≡◌};
 ghost use Rattle.utf8.specs.Behind.{Open};
-ghost use Rattle.keys.specs.Passed.{passedTo};
-ghost use Rattle.marks.specs.Reach.{kept, keptInHarmony, place_of};
+ghost use Rattle.keys.specs.Passed.{passed_to};
+ghost use Rattle.marks.specs.Reach.{kept, kept_in_harmony_of, place_of};
 
 use keys::passed::Passed;
 use utf8::cursor::Cursor;
@@ -30,7 +30,7 @@ impl Marked {
     // first. The walk is called from here and below, so the compiler leaves it out of line and inlines these two into the marks.
     pub fn kept_in_harmony(w: &[u8], c: Cursor, kind: u32, p: Passed) -> Marked
         requires { Open w.now c }
-        ensures { result ≡ keptInHarmony w.now c kind p }
+        ensures { result ≡ kept_in_harmony_of w.now c kind p }
     {
         if !p.moved {
             return Marked::Fails;
@@ -45,7 +45,7 @@ impl Marked {
     // The same of a mark that nothing joins: it goes to the place before its key.
     pub fn in_harmony(w: &[u8], c: Cursor, kind: u32, at: usize) -> Marked
         requires { Open w.now c }
-        ensures { result ≡ keptInHarmony w.now c kind (passedTo at) }
+        ensures { result ≡ kept_in_harmony_of w.now c kind (passed_to at) }
     {
         let heard = harmony::listen(w, c);
         if !heard.holds() {

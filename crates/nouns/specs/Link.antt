@@ -23,31 +23,31 @@ later k (ends j) = ends (k + j)
 later k (calls j) = calls (k + j)
 
 -- a turn behind what a mark takes, and another one where the mark fails
-unfoldable pub orTurn : Out → (ℕ → Turn) → Turn → Turn
-orTurn fail q r = r
-orTurn (took k f) q r = later k (q k)
+unfoldable pub or_turn : Out → (ℕ → Turn) → Turn → Turn
+or_turn fail q r = r
+or_turn (took k f) q r = later k (q k)
 
 -- lines 339 and 346, before a possessive or sU in the word
-unfoldable pub beforeLAr : List ℕ → Turn
-beforeLAr cs = orTurn (mark_of lAr cs) (λ k. calls 0) (ends 0)
+unfoldable pub before_lAr : List ℕ → Turn
+before_lAr cs = or_turn (mark_of lAr cs) (λ k. calls 0) (ends 0)
 
 -- lines 337 to 339, before DA
-unfoldable pub beforeDA : List ℕ → Turn
-beforeDA cs = orTurn (mark_of lAr cs) (λ k. calls 0) (orTurn (mark_of possessives cs) (λ k. beforeLAr (drop k cs)) (ends 0))
+unfoldable pub before_DA_of : List ℕ → Turn
+before_DA_of cs = or_turn (mark_of lAr cs) (λ k. calls 0) (or_turn (mark_of possessives cs) (λ k. before_lAr (drop k cs)) (ends 0))
 
 -- lines 344 to 348, before nUn
-unfoldable pub beforeNUn : List ℕ → Turn
-beforeNUn cs =
-    orTurn (mark_of lArI cs) (λ k. ends 0)
-    (orTurn (mark_of possessives cs) (λ k. beforeLAr (drop k cs))
-    (orTurn (mark_of sU cs) (λ k. beforeLAr (drop k cs)) (calls 0)))
+unfoldable pub before_nUn_of : List ℕ → Turn
+before_nUn_of cs =
+    or_turn (mark_of lArI cs) (λ k. ends 0)
+    (or_turn (mark_of possessives cs) (λ k. before_lAr (drop k cs))
+    (or_turn (mark_of sU cs) (λ k. before_lAr (drop k cs)) (calls 0)))
 
 -- lines 336 and 343, before `ki`
-unfoldable pub beforeKi : List ℕ → Turn
-beforeKi cs = orTurn (mark_of DA cs) (λ k. beforeDA (drop k cs)) (orTurn (mark_of nUn cs) (λ k. beforeNUn (drop k cs)) unfit)
+unfoldable pub before_ki : List ℕ → Turn
+before_ki cs = or_turn (mark_of DA cs) (λ k. before_DA_of (drop k cs)) (or_turn (mark_of nUn cs) (λ k. before_nUn_of (drop k cs)) unfit)
 
 unfoldable pub link_of : List ℕ → Turn
-link_of cs = orTurn (mark_of ki cs) (λ k. beforeKi (drop k cs)) unfit
+link_of cs = or_turn (mark_of ki cs) (λ k. before_ki (drop k cs)) unfit
 
 -- what the chain takes, by its first turn
 unfoldable pub closed : Turn → List ℕ → Out

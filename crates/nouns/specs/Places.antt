@@ -4,6 +4,6 @@ use Rattle.utf8.specs.declared.cursor.Cursor.{Cursor}
 use Rattle.utf8.specs.Behind.{back_by}
 use Rattle.theorems.specs.Simple.Grammar.{Out, fail, took}
 
-unfoldable pub placeAfter : List ℕ → Cursor → Out → ℕ
-placeAfter w c fail = c.cursor
-placeAfter w c (took k f) = (back_by w c k).cursor
+unfoldable pub place_after : List ℕ → Cursor → Out → ℕ
+place_after w c fail = c.cursor
+place_after w c (took k f) = (back_by w c k).cursor

@@ -2,7 +2,7 @@
 // it fails wherever DA does.
 ghost use Rattle.std.specs.Prelude.{◌≡◌};
 ghost use Rattle.utf8.specs.Behind.{behind, Open};
-ghost use Rattle.nouns.specs.Link.{linked, beforeLAr, beforeDA, beforeNUn, link_of};
+ghost use Rattle.nouns.specs.Link.{linked, before_lAr, before_DA_of, before_nUn_of, link_of};
 
 use crate::mark;
 use keys::seen;
@@ -20,7 +20,7 @@ pub enum Link {
 // What stands before a possessive or sU in the word (lines 339 and 346): lAr, where the chain is called then, or nothing.
 fn before_possessive(w: &[u8], c: Cursor) -> Link
     requires { Open w.now c }
-    ensures { result ≡ linked w.now c (beforeLAr (behind w.now c)) }
+    ensures { result ≡ linked w.now c (before_lAr (behind w.now c)) }
 {
     let p = mark_lAr(w, seen::look_back(w, c)).place();
     if p.moved {
@@ -32,7 +32,7 @@ fn before_possessive(w: &[u8], c: Cursor) -> Link
 // What stands before DA in the word (lines 337 to 339).
 fn before_DA(w: &[u8], c: Cursor) -> Link
     requires { Open w.now c }
-    ensures { result ≡ linked w.now c (beforeDA (behind w.now c)) }
+    ensures { result ≡ linked w.now c (before_DA_of (behind w.now c)) }
 {
     let s = seen::look_back(w, c);
     let p = mark_lAr(w, s).place();
@@ -49,7 +49,7 @@ fn before_DA(w: &[u8], c: Cursor) -> Link
 // What stands before nUn in the word (lines 344 to 348).
 fn before_nUn(w: &[u8], c: Cursor) -> Link
     requires { Open w.now c }
-    ensures { result ≡ linked w.now c (beforeNUn (behind w.now c)) }
+    ensures { result ≡ linked w.now c (before_nUn_of (behind w.now c)) }
 {
     let s = seen::look_back(w, c);
     let p = mark::mark_lArI(w, s).place();

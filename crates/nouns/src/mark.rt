@@ -3,7 +3,7 @@
 ghost use Rattle.std.specs.Prelude.{◌≡◌};
 ghost use Rattle.utf8.specs.Behind.{behind};
 ghost use Rattle.theorems.specs.Simple.NounMarks.{possessives, sU, lArI, yU, nU, nUn, yA, nA, DA, ndA, DAn, ndAn, ylA, ki, ncA};
-ghost use Rattle.theorems.specs.Simple.Pieces.{traceOf};
+ghost use Rattle.theorems.specs.Simple.Pieces.{trace_of};
 ghost use Rattle.keys.specs.Seen.{Sees};
 ghost use Rattle.marks.specs.Reach.{reach};
 
@@ -19,7 +19,7 @@ const UNNUMBERED: u32 = 0;
 
 pub fn mark_possessives(w: &[u8], s: Seen) -> Marked
     requires { Sees w.now s }
-    ensures { result ≡ reach w.now s.c (traceOf possessives (behind w.now s.c)) }
+    ensures { result ≡ reach w.now s.c (trace_of possessives (behind w.now s.c)) }
 {
     let Among::Key(_, d) = find_among_b(w, s, &tables::A_0, 3) else {
         return Marked::Fails;
@@ -30,7 +30,7 @@ pub fn mark_possessives(w: &[u8], s: Seen) -> Marked
 
 pub fn mark_sU(w: &[u8], s: Seen) -> Marked
     requires { Sees w.now s }
-    ensures { result ≡ reach w.now s.c (traceOf sU (behind w.now s.c)) }
+    ensures { result ≡ reach w.now s.c (trace_of sU (behind w.now s.c)) }
 {
     let Among::Key(_, d) = find_among_b(w, s, &tables::U, 1) else {
         return Marked::Fails;
@@ -41,7 +41,7 @@ pub fn mark_sU(w: &[u8], s: Seen) -> Marked
 
 pub fn mark_lArI(w: &[u8], s: Seen) -> Marked
     requires { Sees w.now s }
-    ensures { result ≡ reach w.now s.c (traceOf lArI (behind w.now s.c)) }
+    ensures { result ≡ reach w.now s.c (trace_of lArI (behind w.now s.c)) }
 {
     let Among::Key(_, d) = find_among_b(w, s, &tables::A_1, 4) else {
         return Marked::Fails;
@@ -51,7 +51,7 @@ pub fn mark_lArI(w: &[u8], s: Seen) -> Marked
 
 pub fn mark_yU(w: &[u8], s: Seen) -> Marked
     requires { Sees w.now s }
-    ensures { result ≡ reach w.now s.c (traceOf yU (behind w.now s.c)) }
+    ensures { result ≡ reach w.now s.c (trace_of yU (behind w.now s.c)) }
 {
     let Among::Key(_, d) = find_among_b(w, s, &tables::U, 1) else {
         return Marked::Fails;
@@ -62,7 +62,7 @@ pub fn mark_yU(w: &[u8], s: Seen) -> Marked
 
 pub fn mark_nU(w: &[u8], s: Seen) -> Marked
     requires { Sees w.now s }
-    ensures { result ≡ reach w.now s.c (traceOf nU (behind w.now s.c)) }
+    ensures { result ≡ reach w.now s.c (trace_of nU (behind w.now s.c)) }
 {
     let Among::Key(_, d) = find_among_b(w, s, &tables::A_2, 2) else {
         return Marked::Fails;
@@ -72,7 +72,7 @@ pub fn mark_nU(w: &[u8], s: Seen) -> Marked
 
 pub fn mark_nUn(w: &[u8], s: Seen) -> Marked
     requires { Sees w.now s }
-    ensures { result ≡ reach w.now s.c (traceOf nUn (behind w.now s.c)) }
+    ensures { result ≡ reach w.now s.c (trace_of nUn (behind w.now s.c)) }
 {
     let Among::Key(_, d) = find_among_b(w, s, &tables::A_3, 2) else {
         return Marked::Fails;
@@ -83,7 +83,7 @@ pub fn mark_nUn(w: &[u8], s: Seen) -> Marked
 
 pub fn mark_yA(w: &[u8], s: Seen) -> Marked
     requires { Sees w.now s }
-    ensures { result ≡ reach w.now s.c (traceOf yA (behind w.now s.c)) }
+    ensures { result ≡ reach w.now s.c (trace_of yA (behind w.now s.c)) }
 {
     let Among::Key(_, d) = find_among_b(w, s, &tables::A_4, 1) else {
         return Marked::Fails;
@@ -94,7 +94,7 @@ pub fn mark_yA(w: &[u8], s: Seen) -> Marked
 
 pub fn mark_nA(w: &[u8], s: Seen) -> Marked
     requires { Sees w.now s }
-    ensures { result ≡ reach w.now s.c (traceOf nA (behind w.now s.c)) }
+    ensures { result ≡ reach w.now s.c (trace_of nA (behind w.now s.c)) }
 {
     let Among::Key(_, d) = find_among_b(w, s, &tables::A_5, 2) else {
         return Marked::Fails;
@@ -104,7 +104,7 @@ pub fn mark_nA(w: &[u8], s: Seen) -> Marked
 
 pub fn mark_DA(w: &[u8], s: Seen) -> Marked
     requires { Sees w.now s }
-    ensures { result ≡ reach w.now s.c (traceOf DA (behind w.now s.c)) }
+    ensures { result ≡ reach w.now s.c (trace_of DA (behind w.now s.c)) }
 {
     let Among::Key(_, d) = find_among_b(w, s, &tables::A_6, 2) else {
         return Marked::Fails;
@@ -114,7 +114,7 @@ pub fn mark_DA(w: &[u8], s: Seen) -> Marked
 
 pub fn mark_ndA(w: &[u8], s: Seen) -> Marked
     requires { Sees w.now s }
-    ensures { result ≡ reach w.now s.c (traceOf ndA (behind w.now s.c)) }
+    ensures { result ≡ reach w.now s.c (trace_of ndA (behind w.now s.c)) }
 {
     let Among::Key(_, d) = find_among_b(w, s, &tables::A_7, 3) else {
         return Marked::Fails;
@@ -124,7 +124,7 @@ pub fn mark_ndA(w: &[u8], s: Seen) -> Marked
 
 pub fn mark_DAn(w: &[u8], s: Seen) -> Marked
     requires { Sees w.now s }
-    ensures { result ≡ reach w.now s.c (traceOf DAn (behind w.now s.c)) }
+    ensures { result ≡ reach w.now s.c (trace_of DAn (behind w.now s.c)) }
 {
     let Among::Key(_, d) = find_among_b(w, s, &tables::A_8, 3) else {
         return Marked::Fails;
@@ -134,7 +134,7 @@ pub fn mark_DAn(w: &[u8], s: Seen) -> Marked
 
 pub fn mark_ndAn(w: &[u8], s: Seen) -> Marked
     requires { Sees w.now s }
-    ensures { result ≡ reach w.now s.c (traceOf ndAn (behind w.now s.c)) }
+    ensures { result ≡ reach w.now s.c (trace_of ndAn (behind w.now s.c)) }
 {
     let Among::Key(_, d) = find_among_b(w, s, &tables::A_9, 4) else {
         return Marked::Fails;
@@ -144,7 +144,7 @@ pub fn mark_ndAn(w: &[u8], s: Seen) -> Marked
 
 pub fn mark_ylA(w: &[u8], s: Seen) -> Marked
     requires { Sees w.now s }
-    ensures { result ≡ reach w.now s.c (traceOf ylA (behind w.now s.c)) }
+    ensures { result ≡ reach w.now s.c (trace_of ylA (behind w.now s.c)) }
 {
     let Among::Key(_, d) = find_among_b(w, s, &tables::A_10, 2) else {
         return Marked::Fails;
@@ -155,7 +155,7 @@ pub fn mark_ylA(w: &[u8], s: Seen) -> Marked
 
 pub fn mark_ki(w: &[u8], s: Seen) -> Marked
     requires { Sees w.now s }
-    ensures { result ≡ reach w.now s.c (traceOf ki (behind w.now s.c)) }
+    ensures { result ≡ reach w.now s.c (trace_of ki (behind w.now s.c)) }
 {
     let Among::Key(_, d) = find_among_b(w, s, &tables::KI, 2) else {
         return Marked::Fails;
@@ -165,7 +165,7 @@ pub fn mark_ki(w: &[u8], s: Seen) -> Marked
 
 pub fn mark_ncA(w: &[u8], s: Seen) -> Marked
     requires { Sees w.now s }
-    ensures { result ≡ reach w.now s.c (traceOf ncA (behind w.now s.c)) }
+    ensures { result ≡ reach w.now s.c (trace_of ncA (behind w.now s.c)) }
 {
     let Among::Key(_, d) = find_among_b(w, s, &tables::A_11, 2) else {
         return Marked::Fails;

@@ -5,12 +5,12 @@ ghost use Rattle.std.specs.Prelude.{◌≡◌, ◌≤◌, length};
 ghost use Rattle.utf8.specs.Behind.{behind, Open};
 ghost use Rattle.theorems.specs.Simple.Grammar.{mark_of};
 ghost use Rattle.theorems.specs.Simple.Marks.{lAr};
-ghost use Rattle.theorems.specs.Simple.Nouns.{chain, perhaps, plural, possessed, owned, ownedBySU, afterNcA, pronominal, afterNdAn, afterDAn, afterNUn, afterDA};
+ghost use Rattle.theorems.specs.Simple.Nouns.{chain, perhaps, plural, possessed, owned, owned_by_sU_of, after_ncA_of, pronominal, after_ndAn_of, after_DAn_of, after_nUn_of, after_DA_of};
 ghost use Rattle.keys.specs.Seen.{Sees};
 ghost use Rattle.keys.specs.Passed.{passes};
-ghost use Rattle.nouns.specs.Places.{placeAfter};
-ghost use Rattle.nouns.specs.Stage.{wholeLeft, cutLeft, nearNcA, nearPronominal, pronominalRest, ndAnOrNU, nearDAn, nUnOrYlA, nearLAr, nearNUn, DAOrYUOrYA};
-ghost use Rattle.nouns.specs.Stage.{possessivesOrLAr, nearDA, laterLines, left_at, uninflectedOf};
+ghost use Rattle.nouns.specs.Places.{place_after};
+ghost use Rattle.nouns.specs.Stage.{whole_left, cut_left, near_ncA_of, near_pronominal_of, pronominal_rest, ndAn_or_nU_of, near_DAn_of, nUn_or_ylA_of, near_lAr, near_nUn_of, DA_or_yU_or_yA_of};
+ghost use Rattle.nouns.specs.Stage.{possessives_or_lAr_of, near_DA_of, later_lines_of, left_at, uninflected_of};
 
 use crate::chain::stem_suffix_chain_before_ki;
 use crate::mark;
@@ -31,7 +31,7 @@ pub struct Uninflected {
 impl Uninflected {
     // All n bytes, where nothing fits.
     fn whole(n: usize) -> Uninflected
-        ensures { result ≡ wholeLeft n }
+        ensures { result ≡ whole_left n }
     {
         Uninflected {
             front: n,
@@ -42,7 +42,7 @@ impl Uninflected {
 
     // The first `front` of n bytes.
     fn cut(front: usize, n: usize) -> Uninflected
-        ensures { result ≡ cutLeft front n }
+        ensures { result ≡ cut_left front n }
     {
         Uninflected {
             front,
@@ -67,7 +67,7 @@ fn plural(w: &[u8], s: Seen) -> Passed
 // The same, where it need not fit.
 fn try_plural(w: &[u8], c: Cursor) -> usize
     requires { Open w.now c }
-    ensures { result ≡ placeAfter w.now c (perhaps (plural chain) (behind w.now c)) }
+    ensures { result ≡ place_after w.now c (perhaps (plural chain) (behind w.now c)) }
 {
     let p = plural(w, seen::look_back(w, c));
     if p.moved {
@@ -91,7 +91,7 @@ fn possessed(w: &[u8], s: Seen) -> Passed
 // sU, and a plural before it in the word (lines 378, 384, and within 368, 400, 412).
 fn owned_by_sU(w: &[u8], s: Seen) -> Passed
     requires { Sees w.now s }
-    ensures { result ≡ passes w.now s.c (ownedBySU chain (behind w.now s.c)) }
+    ensures { result ≡ passes w.now s.c (owned_by_sU_of chain (behind w.now s.c)) }
 {
     let p = mark::mark_sU(w, s).place();
     if !p.moved {
@@ -115,7 +115,7 @@ fn owned(w: &[u8], s: Seen) -> Passed
 // What may stand before ncA in the word (lines 366 to 370).
 fn near_ncA(w: &[u8], c: Cursor) -> usize
     requires { Open w.now c }
-    ensures { result ≡ placeAfter w.now c (perhaps nearNcA (behind w.now c)) }
+    ensures { result ≡ place_after w.now c (perhaps near_ncA_of (behind w.now c)) }
 {
     let s = seen::look_back(w, c);
     let p = mark::mark_lArI(w, s).place();
@@ -136,7 +136,7 @@ fn near_ncA(w: &[u8], c: Cursor) -> usize
 // Lines 364 to 370.
 fn after_ncA(w: &[u8], s: Seen) -> Passed
     requires { Sees w.now s }
-    ensures { result ≡ passes w.now s.c (afterNcA (behind w.now s.c)) }
+    ensures { result ≡ passes w.now s.c (after_ncA_of (behind w.now s.c)) }
 {
     let p = mark::mark_ncA(w, s).place();
     if !p.moved {
@@ -160,7 +160,7 @@ fn pronominal(w: &[u8], s: Seen) -> Passed
 // What may stand before ndA or nA in the word (lines 376 and 378).
 fn near_pronominal(w: &[u8], c: Cursor) -> Passed
     requires { Open w.now c }
-    ensures { result ≡ passes w.now c (nearPronominal (behind w.now c)) }
+    ensures { result ≡ passes w.now c (near_pronominal_of (behind w.now c)) }
 {
     let s = seen::look_back(w, c);
     let p = mark::mark_lArI(w, s).place();
@@ -173,7 +173,7 @@ fn near_pronominal(w: &[u8], c: Cursor) -> Passed
 // Lines 374 to 380. On line 380 the chain cuts before ndA or nA, which stays.
 fn after_pronominal(w: &[u8], s: Seen) -> Uninflected
     requires { Sees w.now s }
-    ensures { result ≡ left_at w.now s.c (pronominalRest (behind w.now s.c)) }
+    ensures { result ≡ left_at w.now s.c (pronominal_rest (behind w.now s.c)) }
 {
     let n = s.c.cursor;
     let p = pronominal(w, s);
@@ -199,7 +199,7 @@ fn after_pronominal(w: &[u8], s: Seen) -> Uninflected
 // ndAn or nU (line 384).
 fn ndAn_or_nU(w: &[u8], s: Seen) -> Passed
     requires { Sees w.now s }
-    ensures { result ≡ passes w.now s.c (ndAnOrNU (behind w.now s.c)) }
+    ensures { result ≡ passes w.now s.c (ndAn_or_nU_of (behind w.now s.c)) }
 {
     let p = mark::mark_ndAn(w, s).place();
     if p.moved {
@@ -211,7 +211,7 @@ fn ndAn_or_nU(w: &[u8], s: Seen) -> Passed
 // Line 384.
 fn after_ndAn(w: &[u8], s: Seen) -> Passed
     requires { Sees w.now s }
-    ensures { result ≡ passes w.now s.c (afterNdAn (behind w.now s.c)) }
+    ensures { result ≡ passes w.now s.c (after_ndAn_of (behind w.now s.c)) }
 {
     let p = ndAn_or_nU(w, s);
     if !p.moved {
@@ -223,7 +223,7 @@ fn after_ndAn(w: &[u8], s: Seen) -> Passed
 // What may stand before DAn in the word (lines 388 to 392).
 fn near_DAn(w: &[u8], c: Cursor) -> usize
     requires { Open w.now c }
-    ensures { result ≡ placeAfter w.now c (perhaps nearDAn (behind w.now c)) }
+    ensures { result ≡ place_after w.now c (perhaps near_DAn_of (behind w.now c)) }
 {
     let s = seen::look_back(w, c);
     let p = possessed(w, s);
@@ -240,7 +240,7 @@ fn near_DAn(w: &[u8], c: Cursor) -> usize
 // Lines 386 to 392.
 fn after_DAn(w: &[u8], s: Seen) -> Passed
     requires { Sees w.now s }
-    ensures { result ≡ passes w.now s.c (afterDAn (behind w.now s.c)) }
+    ensures { result ≡ passes w.now s.c (after_DAn_of (behind w.now s.c)) }
 {
     let p = mark::mark_DAn(w, s).place();
     if !p.moved {
@@ -252,7 +252,7 @@ fn after_DAn(w: &[u8], s: Seen) -> Passed
 // nUn or ylA (line 396).
 fn nUn_or_ylA(w: &[u8], s: Seen) -> Passed
     requires { Sees w.now s }
-    ensures { result ≡ passes w.now s.c (nUnOrYlA (behind w.now s.c)) }
+    ensures { result ≡ passes w.now s.c (nUn_or_ylA_of (behind w.now s.c)) }
 {
     let p = mark::mark_nUn(w, s).place();
     if p.moved {
@@ -264,7 +264,7 @@ fn nUn_or_ylA(w: &[u8], s: Seen) -> Passed
 // Before lAr of line 398: the chain or, lAr being cut all the same, line 400.
 fn near_lost_lAr(w: &[u8], c: Cursor) -> usize
     requires { Open w.now c }
-    ensures { result ≡ placeAfter w.now c (perhaps nearLAr (behind w.now c)) }
+    ensures { result ≡ place_after w.now c (perhaps near_lAr (behind w.now c)) }
 {
     let at = stem_suffix_chain_before_ki(w, c);
     if at != c.cursor {
@@ -280,7 +280,7 @@ fn near_lost_lAr(w: &[u8], c: Cursor) -> usize
 // What may stand before nUn or ylA in the word (lines 398 to 402).
 fn near_nUn(w: &[u8], c: Cursor) -> usize
     requires { Open w.now c }
-    ensures { result ≡ placeAfter w.now c (perhaps nearNUn (behind w.now c)) }
+    ensures { result ≡ place_after w.now c (perhaps near_nUn_of (behind w.now c)) }
 {
     let s = seen::look_back(w, c);
     let p = mark_lAr(w, s).place();
@@ -297,7 +297,7 @@ fn near_nUn(w: &[u8], c: Cursor) -> usize
 // Lines 396 to 402.
 fn after_nUn(w: &[u8], s: Seen) -> Passed
     requires { Sees w.now s }
-    ensures { result ≡ passes w.now s.c (afterNUn (behind w.now s.c)) }
+    ensures { result ≡ passes w.now s.c (after_nUn_of (behind w.now s.c)) }
 {
     let p = nUn_or_ylA(w, s);
     if !p.moved {
@@ -309,7 +309,7 @@ fn after_nUn(w: &[u8], s: Seen) -> Passed
 // DA, yU or yA (line 410).
 fn DA_or_yU_or_yA(w: &[u8], s: Seen) -> Passed
     requires { Sees w.now s }
-    ensures { result ≡ passes w.now s.c (DAOrYUOrYA (behind w.now s.c)) }
+    ensures { result ≡ passes w.now s.c (DA_or_yU_or_yA_of (behind w.now s.c)) }
 {
     let p = mark::mark_DA(w, s).place();
     if p.moved {
@@ -325,7 +325,7 @@ fn DA_or_yU_or_yA(w: &[u8], s: Seen) -> Passed
 // lAr where it need not fit (line 410).
 fn try_lAr(w: &[u8], c: Cursor) -> usize
     requires { Open w.now c }
-    ensures { result ≡ placeAfter w.now c (perhaps (mark_of lAr) (behind w.now c)) }
+    ensures { result ≡ place_after w.now c (perhaps (mark_of lAr) (behind w.now c)) }
 {
     let p = mark_lAr(w, seen::look_back(w, c)).place();
     if p.moved {
@@ -337,7 +337,7 @@ fn try_lAr(w: &[u8], c: Cursor) -> usize
 // Possessives with lAr before it or not, or lAr (line 410).
 fn possessives_or_lAr(w: &[u8], c: Cursor) -> Passed
     requires { Open w.now c }
-    ensures { result ≡ passes w.now c (possessivesOrLAr (behind w.now c)) }
+    ensures { result ≡ passes w.now c (possessives_or_lAr_of (behind w.now c)) }
 {
     let s = seen::look_back(w, c);
     let p = mark::mark_possessives(w, s).place();
@@ -350,7 +350,7 @@ fn possessives_or_lAr(w: &[u8], c: Cursor) -> Passed
 // What may stand before DA, yU or yA in the word (line 410).
 fn near_DA(w: &[u8], c: Cursor) -> usize
     requires { Open w.now c }
-    ensures { result ≡ placeAfter w.now c (perhaps nearDA (behind w.now c)) }
+    ensures { result ≡ place_after w.now c (perhaps near_DA_of (behind w.now c)) }
 {
     let p = possessives_or_lAr(w, c);
     if !p.moved {
@@ -362,7 +362,7 @@ fn near_DA(w: &[u8], c: Cursor) -> usize
 // Line 410.
 fn after_DA(w: &[u8], s: Seen) -> Passed
     requires { Sees w.now s }
-    ensures { result ≡ passes w.now s.c (afterDA (behind w.now s.c)) }
+    ensures { result ≡ passes w.now s.c (after_DA_of (behind w.now s.c)) }
 {
     let p = DA_or_yU_or_yA(w, s);
     if !p.moved {
@@ -390,7 +390,7 @@ fn chain_alone(w: &[u8], s: Seen) -> Passed
 // Lines 384 to 412.
 fn later_lines(w: &[u8], s: Seen) -> Passed
     requires { Sees w.now s }
-    ensures { result ≡ passes w.now s.c (laterLines (behind w.now s.c)) }
+    ensures { result ≡ passes w.now s.c (later_lines_of (behind w.now s.c)) }
 {
     let a = after_ndAn(w, s);
     if a.moved {
@@ -422,7 +422,7 @@ fn later_lines(w: &[u8], s: Seen) -> Passed
 // The noun stage of the first n bytes of a word, entered at their end with limit_backward 0: the first alternative that fits.
 pub fn stem_noun_suffixes(w: &[u8], n: usize) -> Uninflected
     requires { n ≤ length w.now }
-    ensures { result ≡ uninflectedOf w.now n }
+    ensures { result ≡ uninflected_of w.now n }
 {
     let s = seen::look_back(
         w,

@@ -1,34 +1,34 @@
 -- A text made of a word's own bytes as the code holds it: a repair of a front part, and the bytes from one place to another behind it; those
 -- of the noun stage and of the whole run. Assumes nothing.
 use Rattle.std.specs.Prelude.{ℕ, ◌-◌, true, cond, List, ◌++◌, take, drop, ltb}
-use Rattle.theorems.specs.Simple.Stage.{stage, keptLength}
+use Rattle.theorems.specs.Simple.Stage.{stage, kept_length}
 use Rattle.turkish.specs.Calls.{chars}
-use Rattle.repairs.specs.Repairs.{repairText, unchanged, repairOf}
+use Rattle.repairs.specs.Repairs.{repair_text, unchanged, repair_of}
 use Rattle.nouns.specs.declared.stage.Uninflected.{Uninflected}
-use Rattle.nouns.specs.Stage.{uninflectedOf}
+use Rattle.nouns.specs.Stage.{uninflected_of}
 use Rattle.outputs.specs.declared.run.Run.{Run}
 
 -- the text of a run over w
-unfoldable pub runText : List ℕ → Run → List ℕ
-runText w r = repairText w r.repair ++ take (r.upto - r.from) (drop r.from w)
+unfoldable pub run_text : List ℕ → Run → List ℕ
+run_text w r = repair_text w r.repair ++ take (r.upto - r.from) (drop r.from w)
 
 -- the first n bytes alone
-unfoldable pub frontRun : ℕ → Run
-frontRun n = record { repair = unchanged n true; from = n; upto = n }
+unfoldable pub front_run : ℕ → Run
+front_run n = record { repair = unchanged n true; from = n; upto = n }
 
 -- what the noun stage leaves of the first n bytes
-unfoldable pub leftRun : Uninflected → ℕ → Run
-leftRun u n = record { repair = unchanged u.front true; from = u.from; upto = n }
+unfoldable pub left_run : Uninflected → ℕ → Run
+left_run u n = record { repair = unchanged u.front true; from = u.from; upto = n }
 
-unfoldable pub nounRun : List ℕ → ℕ → Run
-nounRun w n = leftRun (uninflectedOf w n) n
+unfoldable pub noun_run : List ℕ → ℕ → Run
+noun_run w n = left_run (uninflected_of w n) n
 
 -- the same after the postlude, which leaves a text whose own last letters stay behind a cut
-unfoldable pub repairedRun : List ℕ → Uninflected → ℕ → Run
-repairedRun w u n = cond (ltb u.from n) (leftRun u n) (record { repair = repairOf w u.front; from = n; upto = n })
+unfoldable pub repaired_run : List ℕ → Uninflected → ℕ → Run
+repaired_run w u n = cond (ltb u.from n) (left_run u n) (record { repair = repair_of w u.front; from = n; upto = n })
 
 -- the whole run of a word of more than one syllable: where the suffix stage's flag is false the text that it keeps, else the noun stage and the
 -- postlude of that
-unfoldable pub wholeRunOf : List ℕ → Run
-wholeRunOf w =
-    cond (stage (chars w)).flag (repairedRun w (uninflectedOf w (keptLength w)) (keptLength w)) (frontRun (keptLength w))
+unfoldable pub whole_run_of : List ℕ → Run
+whole_run_of w =
+    cond (stage (chars w)).flag (repaired_run w (uninflected_of w (kept_length w)) (kept_length w)) (front_run (kept_length w))

@@ -1,6 +1,6 @@
 // The word pass (document 01, "Word pass"), written to a lent output of n + 2 bytes or more.
 ghost use Rattle.std.specs.Prelude.{◌≡◌, length};
-ghost use Rattle.turkish.specs.Calls.{passCall, passOut};
+ghost use Rattle.turkish.specs.Calls.{pass_call, pass_out};
 
 use crate::repair;
 use refusals::refusal;
@@ -9,8 +9,8 @@ use stages::{stage, syllable};
 use turkish::answer::PassAnswer;
 
 pub fn pass_word(w: &[u8], out: &mut [u8]) -> PassAnswer
-    ensures value { result ≡ passCall w.now (length out.old) }
-    ensures out_after { out.new ≡ passOut w.now out.old }
+    ensures value { result ≡ pass_call w.now (length out.old) }
+    ensures out_after { out.new ≡ pass_out w.now out.old }
 {
     let n = refusal::refusal_into(w, w.len() + 2, out.len());
     if n != 0 {

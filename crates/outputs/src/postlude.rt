@@ -1,6 +1,6 @@
 // The postlude of a word of bytes, written to a lent output of n + 2 bytes or more.
 ghost use Rattle.std.specs.Prelude.{◌≡◌, length};
-ghost use Rattle.turkish.specs.Calls.{postludeCall, postludeOut};
+ghost use Rattle.turkish.specs.Calls.{postlude_call, postlude_out};
 
 use crate::repair;
 use refusals::refusal;
@@ -8,8 +8,8 @@ use repairs::postlude;
 use turkish::answer::PostludeAnswer;
 
 pub fn postlude_word(w: &[u8], out: &mut [u8]) -> PostludeAnswer
-    ensures value { result ≡ postludeCall w.now (length out.old) }
-    ensures out_after { out.new ≡ postludeOut w.now out.old }
+    ensures value { result ≡ postlude_call w.now (length out.old) }
+    ensures out_after { out.new ≡ postlude_out w.now out.old }
 {
     let n = refusal::refusal_into(w, w.len() + 2, out.len());
     if n != 0 {

@@ -1,7 +1,7 @@
 // A repaired text written to a lent output: the first bytes of the word, and up to two more.
 ghost use Rattle.std.specs.Prelude.{◌≡◌, [], ◌∷◌, ◌++◌, ◌+◌, ◌≤◌, length, take, drop};
 ghost use Rattle.turkish.specs.Calls.{written};
-ghost use Rattle.repairs.specs.Repairs.{repairText};
+ghost use Rattle.repairs.specs.Repairs.{repair_text};
 
 use repairs::postlude::Repair;
 
@@ -26,8 +26,8 @@ pub(crate) fn write_repair(w: &[u8], r: Repair, out: &mut [u8]) -> usize
     requires keep_in_bounds { r.keep ≤ length w.now }
     requires more_bound { r.more ≤ 2 }
     requires more_in_bounds { r.keep + r.more ≤ length out.old }
-    ensures value { result ≡ length (repairText w.now r) }
-    ensures out_after { out.new ≡ written (repairText w.now r) out.old }
+    ensures value { result ≡ length (repair_text w.now r) }
+    ensures out_after { out.new ≡ written (repair_text w.now r) out.old }
 {
     let keep = r.keep;
     let more = r.more;

@@ -2,8 +2,8 @@
 // written.
 ghost use Rattle.std.specs.Prelude.{◌≡◌, ◌+◌, ◌-◌, ◌≤◌, length};
 ghost use Rattle.turkish.specs.Calls.{written};
-ghost use Rattle.stages.specs.Outcome.{outcomeOf};
-ghost use Rattle.outputs.specs.Runs.{runText, frontRun, leftRun, wholeRunOf};
+ghost use Rattle.stages.specs.Outcome.{outcome_of};
+ghost use Rattle.outputs.specs.Runs.{run_text, front_run, left_run, whole_run_of};
 
 use crate::repair;
 use nouns::stage as noun;
@@ -24,7 +24,7 @@ pub struct Run {
 impl Run {
     // The first n bytes alone.
     fn front(n: usize) -> Run
-        ensures { result ≡ frontRun n }
+        ensures { result ≡ front_run n }
     {
         Run {
             repair: Repair::unchanged(n, true),
@@ -35,7 +35,7 @@ impl Run {
 
     // What the noun stage leaves of the first n bytes.
     pub fn left(u: Uninflected, n: usize) -> Run
-        ensures { result ≡ leftRun u n }
+        ensures { result ≡ left_run u n }
     {
         Run {
             repair: Repair::unchanged(u.front, true),
@@ -48,8 +48,8 @@ impl Run {
 // The whole run of a word of more than one syllable, whose suffix stage is known (turkish.rs, `stem`, from line 468 on). Where the noun stage
 // leaves letters behind a cut, the text ends in a or e and the postlude would leave it.
 pub fn whole_of(w: &[u8], s: Outcome) -> Run
-    requires { s ≡ outcomeOf w.now }
-    ensures { result ≡ wholeRunOf w.now }
+    requires { s ≡ outcome_of w.now }
+    ensures { result ≡ whole_run_of w.now }
 {
     let kept = s.kept;
     if !s.flag {
@@ -73,8 +73,8 @@ pub(crate) fn write_run(w: &[u8], r: Run, out: &mut [u8]) -> usize
     requires from_le_upto { r.from ≤ r.upto }
     requires upto_in_bounds { r.upto ≤ length w.now }
     requires from_in_bounds { r.repair.keep + r.repair.more + (r.upto - r.from) ≤ length out.old }
-    ensures value { result ≡ length (runText w.now r) }
-    ensures out_after { out.new ≡ written (runText w.now r) out.old }
+    ensures value { result ≡ length (run_text w.now r) }
+    ensures out_after { out.new ≡ written (run_text w.now r) out.old }
 {
     let from = r.from;
     let upto = r.upto;

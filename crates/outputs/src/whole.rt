@@ -1,6 +1,6 @@
 // The crate's whole Turkish run on a word of bytes (turkish.rs, `stem`; document 02, request 4), written to a lent output of n + 2 bytes or more.
 ghost use Rattle.std.specs.Prelude.{◌≡◌, length};
-ghost use Rattle.turkish.specs.Calls.{wholeCall, wholeOut};
+ghost use Rattle.turkish.specs.Calls.{whole_call, whole_out};
 
 use crate::run;
 use refusals::refusal;
@@ -8,8 +8,8 @@ use stages::{stage, syllable};
 use turkish::answer::WholeAnswer;
 
 pub fn whole_word(w: &[u8], out: &mut [u8]) -> WholeAnswer
-    ensures value { result ≡ wholeCall w.now (length out.old) }
-    ensures out_after { out.new ≡ wholeOut w.now out.old }
+    ensures value { result ≡ whole_call w.now (length out.old) }
+    ensures out_after { out.new ≡ whole_out w.now out.old }
 {
     let n = refusal::refusal_into(w, w.len() + 2, out.len());
     if n != 0 {

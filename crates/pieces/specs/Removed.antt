@@ -6,7 +6,7 @@ use Rattle.turkish.specs.PieceCalls.{unused}
 use Rattle.kinds.specs.Kinds.{kind_at}
 use Rattle.stages.specs.declared.trail.Stop.{Stop}
 use Rattle.stages.specs.declared.trail.Trail.{Trail}
-use Rattle.stages.specs.Outcome.{outcomeOf}
+use Rattle.stages.specs.Outcome.{outcome_of}
 
 -- a mark kept stands in the word, before place `end`
 pub record Stands (w : List ℕ) (s : Stop) (end : ℕ) : Type 0 where
@@ -21,10 +21,10 @@ unfoldable pub count_of : Trail → ℕ
 count_of t = cond (eqb t.first.kind 0) 0 (cond (eqb t.second.kind 0) 1 (cond (eqb t.third.kind 0) 2 3))
 
 -- from the word's end inward
-unfoldable pub entriesOf : List ℕ → Trail → List Piece
-entriesOf w t = piece_of w t.first (length w) ∷ piece_of w t.second t.first.at ∷ piece_of w t.third t.second.at ∷ []
+unfoldable pub entries_of : List ℕ → Trail → List Piece
+entries_of w t = piece_of w t.first (length w) ∷ piece_of w t.second t.first.at ∷ piece_of w t.third t.second.at ∷ []
 
-unfoldable pub removedOf : List ℕ → Removed
-removedOf w =
-    let o = outcomeOf w in
-    record { refusal = 0; length = o.kept; count = count_of o.trail; pieces = entriesOf w o.trail }
+unfoldable pub removed_of : List ℕ → Removed
+removed_of w =
+    let o = outcome_of w in
+    record { refusal = 0; length = o.kept; count = count_of o.trail; pieces = entries_of w o.trail }

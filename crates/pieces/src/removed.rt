@@ -1,8 +1,8 @@
 // The pieces of the ending that the suffix stage removes, for Rattle callers.
 ghost use Rattle.std.specs.Prelude.{◌≡◌, true, length};
-ghost use Rattle.turkish.specs.Calls.{refusal, accepted, stageCall};
+ghost use Rattle.turkish.specs.Calls.{refusal, accepted, stage_call};
 ghost use Rattle.turkish.specs.PieceCalls.{given, Lists};
-ghost use Rattle.pieces.specs.Removed.{Stands, piece_of, count_of, removedOf};
+ghost use Rattle.pieces.specs.Removed.{Stands, piece_of, count_of, removed_of};
 
 use kinds::kind;
 use refusals::refusal;
@@ -45,7 +45,7 @@ fn count_of(t: Trail) -> usize
 // What the suffix stage removes of an accepted word.
 pub(crate) fn pieces_of(w: &[u8]) -> Removed
     requires { accepted w.now ≡ true }
-    ensures { result ≡ removedOf w.now }
+    ensures { result ≡ removed_of w.now }
 {
     let o = stage::stem_nominal_verb_suffixes(w);
     let t = o.trail;
@@ -66,7 +66,7 @@ pub(crate) fn pieces_of(w: &[u8]) -> Removed
 // The kept text's length, and the pieces of what was removed. In which order they stand is free.
 pub fn removed_word(w: &[u8]) -> Removed
     ensures refusal_value { result.refusal ≡ refusal w.now }
-    ensures length_value { result.length ≡ (stageCall w.now).length }
+    ensures length_value { result.length ≡ (stage_call w.now).length }
     ensures lists { Lists (given w.now (refusal w.now)) result.count result.pieces }
 {
     let n = refusal::refusal_of(w);

@@ -1,6 +1,6 @@
 // The pieces of a removed ending as lines, in a lent buffer of 96 bytes or more.
 ghost use Rattle.std.specs.Prelude.{◌≡◌, length};
-ghost use Rattle.turkish.specs.PieceCalls.{piecesTextCall, PiecesTextOut};
+ghost use Rattle.turkish.specs.PieceCalls.{pieces_text_call, PiecesTextOut};
 
 use crate::{buffer, removed};
 use kinds::spelling;
@@ -12,7 +12,7 @@ const ROOM: usize = 96;
 
 // The length of the lines. In which order they stand in the buffer is free.
 pub fn pieces_text(w: &[u8], out: &mut [u8]) -> PiecesTextAnswer
-    ensures value { result ≡ piecesTextCall w.now (length out.old) }
+    ensures value { result ≡ pieces_text_call w.now (length out.old) }
     ensures pieces_text_out { PiecesTextOut w.now out.old out.new }
 {
     let n = refusal::refusal_short(w, buffer::SHORT, ROOM, out.len());

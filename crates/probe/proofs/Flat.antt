@@ -6,9 +6,9 @@ use native.Mathlib.Omega.{arith}
 use lib.ListN.{length, get_or}
 use Rattle.turkish.specs.declared.endings.Piece.{Piece}
 use Rattle.turkish.specs.declared.endings.Removed.{Removed}
-use Rattle.turkish.specs.PieceCalls.{Span, kindNumber, kindJoined, told, unused}
+use Rattle.turkish.specs.PieceCalls.{Span, kind_number, kind_joined, told, unused}
 use Rattle.probe.specs.declared.ProbeRemoved.{ProbeRemoved}
-use Rattle.probe.specs.Flat.{joinedNumber, column, flatRemoved}
+use Rattle.probe.specs.Flat.{joined_number, column, flat_removed_of}
 
 -- a column of three entries is the number of each
 column-three : (f : Span → ℕ) (ps : List Piece) → length ps ≡ 3
@@ -26,9 +26,9 @@ module _ (r : Removed) where
   at n = get_or r.pieces n unused
 
   -- a list of three entries is laid out flat by the numbers of each
-  pub flatRemoved-three : {i j k l m n : ℕ} → length r.pieces ≡ 3
-      → i ≡ kindNumber (at 0).kind → j ≡ kindNumber (at 1).kind → k ≡ kindNumber (at 2).kind
-      → l ≡ joinedNumber (kindJoined (at 0).kind) → m ≡ joinedNumber (kindJoined (at 1).kind) → n ≡ joinedNumber (kindJoined (at 2).kind)
+  pub flat_removed_of-three : {i j k l m n : ℕ} → length r.pieces ≡ 3
+      → i ≡ kind_number (at 0).kind → j ≡ kind_number (at 1).kind → k ≡ kind_number (at 2).kind
+      → l ≡ joined_number (kind_joined (at 0).kind) → m ≡ joined_number (kind_joined (at 1).kind) → n ≡ joined_number (kind_joined (at 2).kind)
       → ◌≡◌ {A = ProbeRemoved}
       (record {
         refusal = r.refusal;
@@ -39,6 +39,6 @@ module _ (r : Removed) where
         first = (at 0).first ∷ (at 1).first ∷ (at 2).first ∷ [];
         last = (at 0).last ∷ (at 1).last ∷ (at 2).last ∷ [];
       })
-      (flatRemoved r)
-  unfolding flatRemoved told
-  flatRemoved-three e f g h x y z = simp (f, g, h, x, y, z, column-three)
+      (flat_removed_of r)
+  unfolding flat_removed_of told
+  flat_removed_of-three e f g h x y z = simp (f, g, h, x, y, z, column-three)

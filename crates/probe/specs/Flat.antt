@@ -5,44 +5,44 @@ use Rattle.utf8.specs.declared.step.Step.{Step}
 use Rattle.utf8.specs.declared.literal.Literal.{Literal}
 use Rattle.turkish.specs.declared.endings.Piece.{Piece}
 use Rattle.turkish.specs.declared.endings.Removed.{Removed}
-use Rattle.turkish.specs.Pieces.{Joined, alone, withY, afterVowel}
-use Rattle.turkish.specs.Calls.{refusal, stageCall}
+use Rattle.turkish.specs.Pieces.{Joined, alone, with_y, after_vowel}
+use Rattle.turkish.specs.Calls.{refusal, stage_call}
 use Rattle.turkish.specs.PieceCalls.{Span, given, told, Lists}
 use Rattle.probe.specs.declared.ProbeStep.{ProbeStep}
 use Rattle.probe.specs.declared.ProbeRemoved.{ProbeRemoved}
 
 -- ---- the cursor's steps ----
 
-abbrev pub cursorOf : ℕ → ℕ → ℕ → Cursor
-cursorOf c l b = record { cursor = c; limit = l; limit_backward = b }
+abbrev pub cursor_from : ℕ → ℕ → ℕ → Cursor
+cursor_from c l b = record { cursor = c; limit = l; limit_backward = b }
 
-abbrev pub flatStep : Step → ProbeStep
-flatStep s = record { moved = s.moved; ch = s.ch; cursor = s.next.cursor; limit = s.next.limit; limit_backward = s.next.limit_backward }
+abbrev pub flat_step_of : Step → ProbeStep
+flat_step_of s = record { moved = s.moved; ch = s.ch; cursor = s.next.cursor; limit = s.next.limit; limit_backward = s.next.limit_backward }
 
-abbrev pub flatLiteral : Literal → ProbeStep
-flatLiteral s = record { moved = s.moved; ch = 0; cursor = s.next.cursor; limit = s.next.limit; limit_backward = s.next.limit_backward }
+abbrev pub flat_literal_of : Literal → ProbeStep
+flat_literal_of s = record { moved = s.moved; ch = 0; cursor = s.next.cursor; limit = s.next.limit; limit_backward = s.next.limit_backward }
 
 -- ---- the list of pieces ----
 
 -- how a piece joined, by number
-unfoldable pub joinedNumber : Joined → ℕ
-joinedNumber alone = 0
-joinedNumber withY = 1
-joinedNumber afterVowel = 2
+unfoldable pub joined_number : Joined → ℕ
+joined_number alone = 0
+joined_number with_y = 1
+joined_number after_vowel = 2
 
 -- one number of each entry, as the promise to Rattle callers reads it
 unfoldable pub column : (Span → ℕ) → List Piece → List ℕ
 column f ps = map (λ (p : Piece). f (told p)) ps
 
 -- a list of pieces: a column for each number of an entry
-unfoldable pub flatRemoved : Removed → ProbeRemoved
-flatRemoved r =
+unfoldable pub flat_removed_of : Removed → ProbeRemoved
+flat_removed_of r =
     record {
       refusal = r.refusal;
       length = r.length;
       count = r.count;
       kinds = column (λ p. p.kind) r.pieces;
-      joinings = column (λ p. joinedNumber p.joined) r.pieces;
+      joinings = column (λ p. joined_number p.joined) r.pieces;
       first = column (λ p. p.first) r.pieces;
       last = column (λ p. p.last) r.pieces;
     }
@@ -51,6 +51,6 @@ flatRemoved r =
 pub record FlatList (w : List ℕ) (r : ProbeRemoved) : Type 0 where
   pub list : Removed
   pub refused : list.refusal ≡ refusal w
-  pub kept : list.length ≡ (stageCall w).length
+  pub kept : list.length ≡ (stage_call w).length
   pub lists : Lists (given w (refusal w)) list.count list.pieces
-  pub flat : r ≡ flatRemoved list
+  pub flat : r ≡ flat_removed_of list

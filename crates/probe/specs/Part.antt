@@ -2,8 +2,8 @@
 use Rattle.std.specs.Prelude.{ℕ, cond, List, length, ltb}
 use Rattle.turkish.specs.Calls.{written}
 
-unfoldable pub partLength : List ℕ → ℕ → ℕ
-partLength part room = cond (ltb room (length part)) 0 (length part)
+unfoldable pub part_length : List ℕ → ℕ → ℕ
+part_length part room = cond (ltb room (length part)) 0 (length part)
 
-unfoldable pub partOut : List ℕ → List ℕ → List ℕ
-partOut part out = cond (ltb (length out) (length part)) out (written part out)
+unfoldable pub part_out : List ℕ → List ℕ → List ℕ
+part_out part out = cond (ltb (length out) (length part)) out (written part out)

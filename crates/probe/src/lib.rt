@@ -2,12 +2,12 @@
 // the suffix stage's part, copied, since no exported call can hand back a slice; and the list of a removed ending's pieces, laid out flat,
 // since none can hand back an enum. No host links this.
 ghost use Rattle.std.specs.Prelude.{◌≡◌, length};
-ghost use Rattle.encoding.specs.PlainRuns.{runEnd};
-ghost use Rattle.utf8.specs.Steps.{previousChar, nextChar, eqSB, eqS};
-ghost use Rattle.turkish.specs.Calls.{stagePart};
-ghost use Rattle.turkish.specs.PieceCalls.{joinedOf, kindJoined};
-ghost use Rattle.probe.specs.Part.{partLength, partOut};
-ghost use Rattle.probe.specs.Flat.{flatStep, flatLiteral, cursorOf, joinedNumber, flatRemoved, FlatList};
+ghost use Rattle.encoding.specs.PlainRuns.{run_end_of};
+ghost use Rattle.utf8.specs.Steps.{previous_char_of, next_char_of, eq_s_b_of, eq_s_of};
+ghost use Rattle.turkish.specs.Calls.{stage_part_of};
+ghost use Rattle.turkish.specs.PieceCalls.{joined_of, kind_joined};
+ghost use Rattle.probe.specs.Part.{part_length, part_out};
+ghost use Rattle.probe.specs.Flat.{flat_step_of, flat_literal_of, cursor_from, joined_number, flat_removed_of, FlatList};
 
 use encoding::plain;
 use kinds::kind;
@@ -20,7 +20,7 @@ use words::stage;
 // Where the plain run from a place on ends; the place itself where that lies past the word.
 #[unsafe(no_mangle)]
 pub extern "C" fn probe_run_end(w: &[u8], from: usize) -> usize
-    ensures { result ≡ runEnd w.now from }
+    ensures { result ≡ run_end_of w.now from }
 {
     if w.len() < from {
         return from;
@@ -41,7 +41,7 @@ pub struct ProbeStep {
 
 // The record made of its three numbers.
 fn cursor_of(cursor: usize, limit: usize, backward: usize) -> Cursor
-    ensures { result ≡ cursorOf cursor limit backward }
+    ensures { result ≡ cursor_from cursor limit backward }
 {
     Cursor {
         cursor,
@@ -52,7 +52,7 @@ fn cursor_of(cursor: usize, limit: usize, backward: usize) -> Cursor
 
 // A step of one character, laid out flat.
 fn flat_step(s: step::Step) -> ProbeStep
-    ensures { result ≡ flatStep s }
+    ensures { result ≡ flat_step_of s }
 {
     let n = s.next;
     ProbeStep {
@@ -66,7 +66,7 @@ fn flat_step(s: step::Step) -> ProbeStep
 
 // A step over a literal, laid out flat.
 fn flat_literal(s: literal::Literal) -> ProbeStep
-    ensures { result ≡ flatLiteral s }
+    ensures { result ≡ flat_literal_of s }
 {
     let n = s.next;
     ProbeStep {
@@ -85,7 +85,7 @@ pub extern "C" fn probe_previous_char(
     limit: usize,
     backward: usize,
 ) -> ProbeStep
-    ensures { result ≡ flatStep (previousChar w.now (cursorOf cursor limit backward)) }
+    ensures { result ≡ flat_step_of (previous_char_of w.now (cursor_from cursor limit backward)) }
 {
     flat_step(step::previous_char(w, cursor_of(cursor, limit, backward)))
 }
@@ -97,7 +97,7 @@ pub extern "C" fn probe_next_char(
     limit: usize,
     backward: usize,
 ) -> ProbeStep
-    ensures { result ≡ flatStep (nextChar w.now (cursorOf cursor limit backward)) }
+    ensures { result ≡ flat_step_of (next_char_of w.now (cursor_from cursor limit backward)) }
 {
     flat_step(step::next_char(w, cursor_of(cursor, limit, backward)))
 }
@@ -110,7 +110,7 @@ pub extern "C" fn probe_eq_s_b(
     limit: usize,
     backward: usize,
 ) -> ProbeStep
-    ensures { result ≡ flatLiteral (eqSB w.now s.now (cursorOf cursor limit backward)) }
+    ensures { result ≡ flat_literal_of (eq_s_b_of w.now s.now (cursor_from cursor limit backward)) }
 {
     flat_literal(literal::eq_s_b(w, s, cursor_of(cursor, limit, backward)))
 }
@@ -123,7 +123,7 @@ pub extern "C" fn probe_eq_s(
     limit: usize,
     backward: usize,
 ) -> ProbeStep
-    ensures { result ≡ flatLiteral (eqS w.now s.now (cursorOf cursor limit backward)) }
+    ensures { result ≡ flat_literal_of (eq_s_of w.now s.now (cursor_from cursor limit backward)) }
 {
     flat_literal(literal::eq_s(w, s, cursor_of(cursor, limit, backward)))
 }
@@ -131,8 +131,8 @@ pub extern "C" fn probe_eq_s(
 // Copies the part of the word that the suffix stage keeps, and gives its length; 0, and nothing written, where it does not fit.
 #[unsafe(no_mangle)]
 pub extern "C" fn probe_stage_part(w: &[u8], out: &mut [u8]) -> usize
-    ensures value { result ≡ partLength (stagePart w.now) (length out.old) }
-    ensures out_after { out.new ≡ partOut (stagePart w.now) out.old }
+    ensures value { result ≡ part_length (stage_part_of w.now) (length out.old) }
+    ensures out_after { out.new ≡ part_out (stage_part_of w.now) out.old }
 {
     let part = stage::stage_part(w);
     if out.len() < part.len() {
@@ -157,7 +157,7 @@ pub struct ProbeRemoved {
 
 // A joining's number.
 fn number_of_joining(joining: Joining) -> u8
-    ensures { result ≡ joinedNumber (joinedOf joining) }
+    ensures { result ≡ joined_number (joined_of joining) }
 {
     match joining {
         Joining::WithY => 1,
@@ -167,7 +167,7 @@ fn number_of_joining(joining: Joining) -> u8
 
 // The number of how a piece of this kind joined.
 fn joining_of(kind: Kind) -> u8
-    ensures { result ≡ joinedNumber (kindJoined kind) }
+    ensures { result ≡ joined_number (kind_joined kind) }
 {
     match kind {
         Kind::YUm(j) => number_of_joining(j),
@@ -187,7 +187,7 @@ fn joining_of(kind: Kind) -> u8
 
 // A list of pieces, laid out flat.
 fn flat_removed(r: Removed) -> ProbeRemoved
-    ensures { result ≡ flatRemoved r }
+    ensures { result ≡ flat_removed_of r }
 {
     let a = r.pieces[0];
     let b = r.pieces[1];

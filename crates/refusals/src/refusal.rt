@@ -1,6 +1,6 @@
 // Why a call refuses a word, as the papers' number; 0 where it does not.
 ghost use Rattle.std.specs.Prelude.{◌≡◌};
-ghost use Rattle.turkish.specs.Calls.{refusal, refusalShort, refusalInto};
+ghost use Rattle.turkish.specs.Calls.{refusal, refusal_short_of, refusal_into_of};
 
 use encoding::validity;
 
@@ -25,7 +25,7 @@ pub fn refusal_of(w: &[u8]) -> u32
 
 // The same, and the call's own number where a buffer of `room` bytes is shorter than it needs.
 pub fn refusal_short(w: &[u8], number: u32, need: usize, room: usize) -> u32
-    ensures { result ≡ refusalShort number w.now need room }
+    ensures { result ≡ refusal_short_of number w.now need room }
 {
     let n = refusal_of(w);
     if n != 0 {
@@ -39,7 +39,7 @@ pub fn refusal_short(w: &[u8], number: u32, need: usize, room: usize) -> u32
 
 // The same where that is an output.
 pub fn refusal_into(w: &[u8], need: usize, room: usize) -> u32
-    ensures { result ≡ refusalInto w.now need room }
+    ensures { result ≡ refusal_into_of w.now need room }
 {
     refusal_short(w, TOO_SHORT, need, room)
 }

@@ -12,74 +12,74 @@ use borrow.Author.Tests.{ltb-true, ltb-false, lt-ltb, eqb-true, eqb-false}
 use Rattle.encoding.proofs.Laws.Booleans.{cond_both}
 use Rattle.encoding.specs.Encoding.{encode}
 use Rattle.encoding.specs.Text.{TextOf}
-use Rattle.utf8.specs.Characters.{goesOn, lastWidth, char_at, lastChar, beforeWithin, before, back}
-use Rattle.utf8.proofs.Laws.Characters.{lastWidth-le, before-zero, before-step}
+use Rattle.utf8.specs.Characters.{goes_on_of, last_width_of, char_at, last_char, before_within, before, back}
+use Rattle.utf8.proofs.Laws.Characters.{last_width_of-le, before-zero, before-step}
 use Rattle.utf8.proofs.TextCharacters.{encode-before, take_back}
 use Rattle.turkish.specs.Letters.{text, has}
-use Rattle.turkish.specs.Vowels.{lastVowel}
-use Rattle.theorems.specs.Simple.Postlude.{reserved, gained, appends, appendU, hard, harden, postlude, postludeYes}
+use Rattle.turkish.specs.Vowels.{last_vowel_of}
+use Rattle.theorems.specs.Simple.Postlude.{reserved, gained, appends, append_U, hard, harden, postlude, postlude_yes}
 use Rattle.turkish.specs.Calls.{bytes}
 use Rattle.theorems.proofs.Laws.Words.{bytes-cons}
 use Rattle.theorems.proofs.PostludeRules.{postlude-one}
 use Rattle.repairs.specs.declared.postlude.Repair.{Repair}
-use Rattle.repairs.specs.Repairs.{repairText, unchanged, followed, appended, hardened, repairOf}
+use Rattle.repairs.specs.Repairs.{repair_text, unchanged, followed, appended, hardened, repair_of}
 use Rattle.repairs.proofs.Laws.Repairs.{hard-short, appended-short}
 
 -- ---- the bytes before a place ----
 
 -- going back from a place, whether a byte goes on depends only on the bytes before it
-goesOn-append : (p q : List ℕ) (c k : ℕ) → 0 < c → 0 < k → c ≤ length p → goesOn (p ++ q) c k ≡ goesOn p c k
-unfolding goesOn
-goesOn-append p q c k h j l = rw (get_or-append p q 0 (c - k) (omega arith))
+goes_on_of-append : (p q : List ℕ) (c k : ℕ) → 0 < c → 0 < k → c ≤ length p → goes_on_of (p ++ q) c k ≡ goes_on_of p c k
+unfolding goes_on_of
+goes_on_of-append p q c k h j l = rw (get_or-append p q 0 (c - k) (omega arith))
 
 -- and so does the width of the character that ends there
-lastWidth-append : (p q : List ℕ) (c : ℕ) → 0 < c → c ≤ length p → lastWidth (p ++ q) c ≡ lastWidth p c
-unfolding lastWidth
-lastWidth-append p q c h l =
-    rw (goesOn-append p q c 1 h (omega arith) l, goesOn-append p q c 2 h (omega arith) l, goesOn-append p q c 3 h (omega arith) l)
+last_width_of-append : (p q : List ℕ) (c : ℕ) → 0 < c → c ≤ length p → last_width_of (p ++ q) c ≡ last_width_of p c
+unfolding last_width_of
+last_width_of-append p q c h l =
+    rw (goes_on_of-append p q c 1 h (omega arith) l, goes_on_of-append p q c 2 h (omega arith) l, goes_on_of-append p q c 3 h (omega arith) l)
 
 -- and the character at bytes before it
-charAt-append : (p q : List ℕ) (i n : ℕ) → i + n ≤ length p → char_at (p ++ q) i n ≡ char_at p i n
+char_at-append : (p q : List ℕ) (i n : ℕ) → i + n ≤ length p → char_at (p ++ q) i n ≡ char_at p i n
 unfolding char_at
-charAt-append p q i n h =
+char_at-append p q i n h =
     let l : n ≤ length (drop i p) = omega (arith, length-drop i p) in
     rw (drop-append-le i p q (omega arith), take-append-le n (drop i p) q l)
 
 -- and that character itself
-lastChar-append : (p q : List ℕ) (c : ℕ) → 0 < c → c ≤ length p → lastChar (p ++ q) c ≡ lastChar p c
-unfolding lastChar
-lastChar-append p q c h l =
-    rw (lastWidth-append p q c h l, charAt-append p q (c - lastWidth p c) (lastWidth p c) (omega (arith, lastWidth-le p c h)))
+last_char-append : (p q : List ℕ) (c : ℕ) → 0 < c → c ≤ length p → last_char (p ++ q) c ≡ last_char p c
+unfolding last_char
+last_char-append p q c h l =
+    rw (last_width_of-append p q c h l, char_at-append p q (c - last_width_of p c) (last_width_of p c) (omega (arith, last_width_of-le p c h)))
 
 -- and all the characters before it, as far as fuel goes
-beforeWithin-append : (f : ℕ) (p q : List ℕ) (c : ℕ) → c ≤ length p → beforeWithin f (p ++ q) c ≡ beforeWithin f p c
-unfolding beforeWithin
-beforeWithin-append zero p q c l = refl
-beforeWithin-append (suc f) p q zero l = refl
-beforeWithin-append (suc f) p q (suc c) l =
-    rw (lastChar-append p q (suc c) (omega arith) l, lastWidth-append p q (suc c) (omega arith) l)
-    (ap (λ (cs : List ℕ). lastChar p (suc c) ∷ cs) (beforeWithin-append f p q (suc c - lastWidth p (suc c)) (omega arith)))
+before_within-append : (f : ℕ) (p q : List ℕ) (c : ℕ) → c ≤ length p → before_within f (p ++ q) c ≡ before_within f p c
+unfolding before_within
+before_within-append zero p q c l = refl
+before_within-append (suc f) p q zero l = refl
+before_within-append (suc f) p q (suc c) l =
+    rw (last_char-append p q (suc c) (omega arith) l, last_width_of-append p q (suc c) (omega arith) l)
+    (ap (λ (cs : List ℕ). last_char p (suc c) ∷ cs) (before_within-append f p q (suc c - last_width_of p (suc c)) (omega arith)))
 
 module _ (w : List ℕ) (c n : ℕ) (h : c ≤ n) (l : n ≤ length w) where
   -- the width of the character that ends at a place depends only on the bytes before it
-  pub lastWidth-take : 0 < c → lastWidth (take n w) c ≡ lastWidth w c
-  lastWidth-take p = sym (rw (take-append-drop n w) at (lastWidth-append (take n w) (drop n w) c p (omega (arith, length-take-le n w l))))
+  pub last_width_of-take : 0 < c → last_width_of (take n w) c ≡ last_width_of w c
+  last_width_of-take p = sym (rw (take-append-drop n w) at (last_width_of-append (take n w) (drop n w) c p (omega (arith, length-take-le n w l))))
 
   -- and so do the characters before it
   pub before-take : before (take n w) c ≡ before w c
   unfolding before
-  before-take = sym (rw (take-append-drop n w) at (beforeWithin-append c (take n w) (drop n w) c (omega (arith, length-take-le n w l))))
+  before-take = sym (rw (take-append-drop n w) at (before_within-append c (take n w) (drop n w) c (omega (arith, length-take-le n w l))))
 
 -- ---- the text of a repair ----
 
 -- where nothing follows, it is the bytes kept
-unchanged-text : (w : List ℕ) (n : ℕ) (answer : Bool) → repairText w (unchanged n answer) ≡ take n w
-unfolding repairText unchanged
+unchanged-text : (w : List ℕ) (n : ℕ) (answer : Bool) → repair_text w (unchanged n answer) ≡ take n w
+unfolding repair_text unchanged
 unchanged-text w n answer = append-nil (take n w)
 
 -- where a character follows, its bytes stand after those
-followed-text : (w : List ℕ) (keep v : ℕ) → v < 0x800 → repairText w (followed keep v) ≡ take keep w ++ encode v
-unfolding repairText followed encode
+followed-text : (w : List ℕ) (keep v : ℕ) → v < 0x800 → repair_text w (followed keep v) ≡ take keep w ++ encode v
+unfolding repair_text followed encode
 followed-text w keep v h = rw (lt-ltb v 0x800 h) (go (ltb v 0x80))
   where
     one : Repair
@@ -88,7 +88,7 @@ followed-text w keep v h = rw (lt-ltb v 0x800 h) (go (ltb v 0x80))
     two : Repair
     two = record { keep = keep; more = 2; a = 0xC0 + v / 0x40; b = 0x80 + v % 0x40; yes = true }
 
-    go : (t : Bool) → repairText w (cond t one two)
+    go : (t : Bool) → repair_text w (cond t one two)
         ≡ take keep w ++ cond t (v ∷ []) ((0xC0 + v / 0x40) ∷ (0x80 + v % 0x40) ∷ [])
     go true = refl
     go false = refl
@@ -96,13 +96,13 @@ followed-text w keep v h = rw (lt-ltb v 0x800 h) (go (ltb v 0x80))
 -- ---- the postlude of characters ----
 
 -- characters gain their vowel where it is not 0
-appendU-appended : (cs : List ℕ) → cond (appends cs) (appendU cs) (harden cs) ≡ cond (eqb (appended cs) 0) (harden cs) (appended cs ∷ cs)
-unfolding appended appends appendU
-appendU-appended [] = refl
-appendU-appended (c ∷ cs) = go (has (text "dg") c)
+append_U-appended : (cs : List ℕ) → cond (appends cs) (append_U cs) (harden cs) ≡ cond (eqb (appended cs) 0) (harden cs) (appended cs ∷ cs)
+unfolding appended appends append_U
+append_U-appended [] = refl
+append_U-appended (c ∷ cs) = go (has (text "dg") c)
   where
     g : ℕ
-    g = gained (lastVowel cs)
+    g = gained (last_vowel_of cs)
 
     gains : (u : Bool) (x y z : List ℕ) → cond (not u) (cond (not u) x y) z ≡ cond u z x
     gains true x y z = refl
@@ -115,7 +115,7 @@ appendU-appended (c ∷ cs) = go (has (text "dg") c)
 
 -- so the postlude leaves a reserved word, and of any other hardens or appends
 postlude-appended : (cs : List ℕ) → postlude cs ≡ cond (reserved cs) cs (cond (eqb (appended cs) 0) (harden cs) (appended cs ∷ cs))
-postlude-appended cs = postlude-one cs ∙ ap (cond (reserved cs) cs) (appendU-appended cs)
+postlude-appended cs = postlude-one cs ∙ ap (cond (reserved cs) cs) (append_U-appended cs)
 
 -- ---- the repair is the postlude ----
 
@@ -126,42 +126,42 @@ module _ (w : List ℕ) (n : ℕ) (t : TextOf (take n w)) (l : n ≤ length w) w
   bytes-before = sym (rw (length-take-le n w l, before-take w n n (omega arith) l) at (encode-before (take n w) t))
 
   -- and so are those before the last character
-  bytes-before-last : 0 < n → take (n - lastWidth w n) w ≡ bytes (before w (n - lastWidth w n))
+  bytes-before-last : 0 < n → take (n - last_width_of w n) w ≡ bytes (before w (n - last_width_of w n))
   unfolding bytes back
   bytes-before-last h =
       rw (
         length-take-le n w l,
-        lastWidth-take w n n (omega arith) l h,
-        take-take (n - lastWidth w n) n w (omega arith),
+        last_width_of-take w n n (omega arith) l h,
+        take-take (n - last_width_of w n) n w (omega arith),
         before-take w n n (omega arith) l,
         before-step w n h,
       ) at (take_back (take n w) t 1)
 
   -- a vowel gained follows them
-  gained-text : repairText w (followed n (appended (before w n))) ≡ bytes (appended (before w n) ∷ before w n)
+  gained-text : repair_text w (followed n (appended (before w n))) ≡ bytes (appended (before w n) ∷ before w n)
   gained-text = followed-text w n (appended (before w n)) (appended-short (before w n)) ∙ rw (bytes-cons, bytes-before)
 
   -- a consonant hardened takes the last one's place
-  hardened-last : 0 < n → repairText w (hardened w n (before w n)) ≡ bytes (harden (before w n))
+  hardened-last : 0 < n → repair_text w (hardened w n (before w n)) ≡ bytes (harden (before w n))
   unfolding hardened harden
   hardened-last h = rw (before-step w n h) (go (eqb (hard c) c) refl)
     where
       c : ℕ
-      c = lastChar w n
+      c = last_char w n
 
       k : ℕ
-      k = n - lastWidth w n
+      k = n - last_width_of w n
 
-      go : (u : Bool) → eqb (hard c) c ≡ u → repairText w (cond u (unchanged n true) (followed k (hard c))) ≡ bytes (hard c ∷ before w k)
+      go : (u : Bool) → eqb (hard c) c ≡ u → repair_text w (cond u (unchanged n true) (followed k (hard c))) ≡ bytes (hard c ∷ before w k)
       go true e = unchanged-text w n true ∙ bytes-before ∙ rw (before-step w n h, eqb-true (hard c) c e)
       go false e = followed-text w k (hard c) (hard-short c (eqb-false (hard c) c e)) ∙ rw (bytes-cons, bytes-before-last h)
 
   -- and where there is none, nothing changes
-  hardened-text : repairText w (hardened w n (before w n)) ≡ bytes (harden (before w n))
+  hardened-text : repair_text w (hardened w n (before w n)) ≡ bytes (harden (before w n))
   unfolding hardened harden
   hardened-text = go (ltb 0 n) refl
     where
-      go : (u : Bool) → ltb 0 n ≡ u → repairText w (hardened w n (before w n)) ≡ bytes (harden (before w n))
+      go : (u : Bool) → ltb 0 n ≡ u → repair_text w (hardened w n (before w n)) ≡ bytes (harden (before w n))
       go true e = hardened-last (ltb-true 0 n e)
       go false e =
           let k : n ≡ 0 = omega (arith, ltb-false 0 n e) in
@@ -169,8 +169,8 @@ module _ (w : List ℕ) (n : ℕ) (t : TextOf (take n w)) (l : n ≤ length w) w
           rw z (unchanged-text w n true ∙ bytes-before ∙ ap bytes z)
 
   -- the repair's text is the postlude's
-  pub repair-text : repairText w (repairOf w n) ≡ bytes (postlude (before w n))
-  unfolding repairOf
+  pub repair-text : repair_text w (repair_of w n) ≡ bytes (postlude (before w n))
+  unfolding repair_of
   repair-text = go (reserved cs) ∙ ap bytes (sym (postlude-appended cs))
     where
       cs : List ℕ
@@ -179,11 +179,11 @@ module _ (w : List ℕ) (n : ℕ) (t : TextOf (take n w)) (l : n ≤ length w) w
       a : ℕ
       a = appended cs
 
-      rest : (u : Bool) → repairText w (cond u (hardened w n cs) (followed n a)) ≡ bytes (cond u (harden cs) (a ∷ cs))
+      rest : (u : Bool) → repair_text w (cond u (hardened w n cs) (followed n a)) ≡ bytes (cond u (harden cs) (a ∷ cs))
       rest true = hardened-text
       rest false = gained-text
 
-      go : (u : Bool) → repairText w (cond u (unchanged n false) (cond (eqb a 0) (hardened w n cs) (followed n a)))
+      go : (u : Bool) → repair_text w (cond u (unchanged n false) (cond (eqb a 0) (hardened w n cs) (followed n a)))
           ≡ bytes (cond u cs (cond (eqb a 0) (harden cs) (a ∷ cs)))
       go true = unchanged-text w n false ∙ bytes-before
       go false = rest (eqb a 0)
@@ -199,11 +199,11 @@ change-elim w n P p q =
   where
     last : (cs : List ℕ) → P (hardened w n cs)
     last [] = p
-    last (c ∷ cs) = cond_both P (eqb (hard c) c) _ _ p (q (n - lastWidth w n) (hard c) (omega arith))
+    last (c ∷ cs) = cond_both P (eqb (hard c) c) _ _ p (q (n - last_width_of w n) (hard c) (omega arith))
 
 -- the repair's answer is the postlude's
-pub repair-answer : (w : List ℕ) (n : ℕ) → (repairOf w n).yes ≡ postludeYes (before w n)
-unfolding repairOf postludeYes unchanged followed
+pub repair-answer : (w : List ℕ) (n : ℕ) → (repair_of w n).yes ≡ postlude_yes (before w n)
+unfolding repair_of postlude_yes unchanged followed
 repair-answer w n = go (reserved (before w n))
   where
     r : Repair
@@ -217,22 +217,22 @@ repair-answer w n = go (reserved (before w n))
 pub record Sized (w : List ℕ) (n : ℕ) (r : Repair) : Type 0 where
   pub keeps : r.keep ≤ n
   pub adds : r.more ≤ 2
-  pub sum : length (repairText w r) ≡ r.keep + r.more
-  pub fits : length (repairText w r) ≤ n + 2
+  pub sum : length (repair_text w r) ≡ r.keep + r.more
+  pub fits : length (repair_text w r) ≤ n + 2
 
 -- where at most n bytes are kept and at most two added, it is so
 sized-kept : (w : List ℕ) (n : ℕ) (r : Repair) → n ≤ length w → (r.keep ≤ n) × (r.more ≤ 2) → Sized w n r
-unfolding repairText
+unfolding repair_text
 sized-kept w n r l h =
-    let e : length (repairText w r) ≡ r.keep + r.more =
+    let e : length (repair_text w r) ≡ r.keep + r.more =
     rw (length-append, length-take-le r.keep w (omega arith), length-take-le r.more (r.a ∷ r.b ∷ []) (omega arith)) in
     record { keeps = h.0; adds = h.1; sum = e; fits = omega arith }
 
 -- it is so of the repair
-pub repair-size : (w : List ℕ) (n : ℕ) → n ≤ length w → Sized w n (repairOf w n)
-unfolding repairOf unchanged followed
+pub repair-size : (w : List ℕ) (n : ℕ) → n ≤ length w → Sized w n (repair_of w n)
+unfolding repair_of unchanged followed
 repair-size w n l =
     let P : Repair → Type 0 = λ r. (r.keep ≤ n) × (r.more ≤ 2) in
-    sized-kept w n (repairOf w n) l
+    sized-kept w n (repair_of w n) l
     (cond_both P (reserved (before w n)) (unchanged n false) _ (omega arith)
     (change-elim w n P (omega arith) (λ k v h. cond_both P (ltb v 0x80) _ _ (h, omega arith) (h, omega arith))))

@@ -1,9 +1,9 @@
 -- The postlude as the code gives it: how many of a word's bytes stay, and the character after them. Assumes nothing.
 use Rattle.std.specs.Prelude.{ℕ, ◌+◌, ◌-◌, ◌/◌, ◌%◌, Bool, true, false, cond, List, [], ◌∷◌, ◌++◌, take, eqb, ltb}
 use Rattle.utf8.specs.declared.cursor.Cursor.{Cursor}
-use Rattle.utf8.specs.Characters.{lastWidth, before}
+use Rattle.utf8.specs.Characters.{last_width_of, before}
 use Rattle.turkish.specs.Letters.{text, has}
-use Rattle.turkish.specs.Vowels.{lastVowel}
+use Rattle.turkish.specs.Vowels.{last_vowel_of}
 use Rattle.theorems.specs.Simple.Postlude.{reserved, gained, hard}
 use Rattle.repairs.specs.declared.postlude.Repair.{Repair}
 
@@ -12,8 +12,8 @@ unfoldable pub ending : ℕ → Cursor
 ending n = record { cursor = n; limit = n; limit_backward = 0 }
 
 -- the text of a repair of w
-unfoldable pub repairText : List ℕ → Repair → List ℕ
-repairText w r = take r.keep w ++ take r.more (r.a ∷ r.b ∷ [])
+unfoldable pub repair_text : List ℕ → Repair → List ℕ
+repair_text w r = take r.keep w ++ take r.more (r.a ∷ r.b ∷ [])
 
 -- nothing follows the first n bytes
 unfoldable pub unchanged : ℕ → Bool → Repair
@@ -28,15 +28,15 @@ followed keep v =
 -- the vowel that the characters gain, 0 where they gain none
 unfoldable pub appended : List ℕ → ℕ
 appended [] = 0
-appended (c ∷ cs) = cond (has (text "dg") c) (gained (lastVowel cs)) 0
+appended (c ∷ cs) = cond (has (text "dg") c) (gained (last_vowel_of cs)) 0
 
 -- the last of the characters hardened, in a word whose first n bytes they are
 unfoldable pub hardened : List ℕ → ℕ → List ℕ → Repair
 hardened w n [] = unchanged n true
-hardened w n (c ∷ cs) = cond (eqb (hard c) c) (unchanged n true) (followed (n - lastWidth w n) (hard c))
+hardened w n (c ∷ cs) = cond (eqb (hard c) c) (unchanged n true) (followed (n - last_width_of w n) (hard c))
 
 -- the postlude of a word's first n bytes
-unfoldable pub repairOf : List ℕ → ℕ → Repair
-repairOf w n =
+unfoldable pub repair_of : List ℕ → ℕ → Repair
+repair_of w n =
     cond (reserved (before w n)) (unchanged n false)
     (cond (eqb (appended (before w n)) 0) (hardened w n (before w n)) (followed n (appended (before w n))))

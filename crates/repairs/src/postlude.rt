@@ -4,7 +4,7 @@ ghost use Rattle.std.specs.Prelude.{◌≡◌, ◌≤◌, ◌<◌, length};
 ghost use Rattle.utf8.specs.Characters.{before};
 ghost use Rattle.theorems.specs.Simple.Postlude.{reserved, gained};
 ghost use Rattle.keys.specs.Seen.{seen_at};
-ghost use Rattle.repairs.specs.Repairs.{ending, unchanged, followed, appended, hardened, repairOf};
+ghost use Rattle.repairs.specs.Repairs.{ending, unchanged, followed, appended, hardened, repair_of};
 
 use keys::among::{Among, find_among_b};
 use keys::seen;
@@ -132,7 +132,7 @@ fn post_process_last_consonants(w: &[u8], s: Seen, n: usize) -> Repair
 // The postlude of the first n bytes.
 pub fn postlude(w: &[u8], n: usize) -> Repair
     requires { n ≤ length w.now }
-    ensures { result ≡ repairOf w.now n }
+    ensures { result ≡ repair_of w.now n }
 {
     if is_reserved_word(w, n) {
         return Repair::unchanged(n, false);

@@ -4,7 +4,7 @@ use Rattle.utf8.specs.declared.cursor.Cursor.{Cursor}
 use Rattle.utf8.specs.Behind.{back_by, deleted}
 use Rattle.theorems.specs.Simple.Pieces.{Taken, Trace, none, keeps, total}
 use Rattle.vowels.specs.declared.harmony.Accord.{Accord}
-use Rattle.vowels.specs.Accord.{noAccord, passedOn, orAccord}
+use Rattle.vowels.specs.Accord.{no_accord, passed_on, or_accord}
 use Rattle.stages.specs.declared.trail.Stop.{Stop}
 use Rattle.stages.specs.declared.trail.Trail.{Trail}
 use Rattle.stages.specs.declared.trail.Way.{Way}
@@ -12,37 +12,37 @@ use Rattle.stages.specs.declared.trail.Branch.{Branch}
 use Rattle.stages.specs.declared.trail.Branch.TheVariants.{Fits, Unfit}
 
 -- no mark kept
-unfoldable pub noStop : Stop
-noStop = record { kind = 0; at = 0 }
+unfoldable pub without_stop : Stop
+without_stop = record { kind = 0; at = 0 }
 
-unfoldable pub noTrail : Trail
-noTrail = record { first = noStop; second = noStop; third = noStop }
+unfoldable pub no_trail : Trail
+no_trail = record { first = without_stop; second = without_stop; third = without_stop }
 
 -- marks kept behind one more, which has a number and begins at a place
-unfoldable pub behindTrail : ℕ → ℕ → Trail → Trail
-behindTrail k at t = record { first = record { kind = k; at = at }; second = t.first; third = t.second }
+unfoldable pub behind_trail : ℕ → ℕ → Trail → Trail
+behind_trail k at t = record { first = record { kind = k; at = at }; second = t.first; third = t.second }
 
 -- the marks taken from a record on, one behind the other
-unfoldable pub trailOf : List ℕ → Cursor → List Taken → Trail
-trailOf w c [] = noTrail
-trailOf w c (t ∷ ts) = behindTrail t.kind (back_by w c t.size).cursor (trailOf w (back_by w c t.size) ts)
+unfoldable pub trail_of : List ℕ → Cursor → List Taken → Trail
+trail_of w c [] = no_trail
+trail_of w c (t ∷ ts) = behind_trail t.kind (back_by w c t.size).cursor (trail_of w (back_by w c t.size) ts)
 
 -- what the first of them found that tests harmony
-unfoldable pub heardAlong : List ℕ → Cursor → List Taken → Accord
-heardAlong w c [] = noAccord
-heardAlong w c (t ∷ ts) = orAccord (passedOn w c t.found) (heardAlong w (back_by w c t.size) ts)
+unfoldable pub heard_along : List ℕ → Cursor → List Taken → Accord
+heard_along w c [] = no_accord
+heard_along w c (t ∷ ts) = or_accord (passed_on w c t.found) (heard_along w (back_by w c t.size) ts)
 
 -- both
 unfoldable pub way_of : List ℕ → Cursor → List Taken → Way
-way_of w c ts = record { trail = trailOf w c ts; heard = heardAlong w c ts }
+way_of w c ts = record { trail = trail_of w c ts; heard = heard_along w c ts }
 
 -- neither
-unfoldable pub noWay : Way
-noWay = record { trail = noTrail; heard = noAccord }
+unfoldable pub no_way : Way
+no_way = record { trail = no_trail; heard = no_accord }
 
 -- both behind one more mark and what that one found
-unfoldable pub behindWay : ℕ → ℕ → Accord → Way → Way
-behindWay k at told y = record { trail = behindTrail k at y.trail; heard = orAccord told y.heard }
+unfoldable pub behind_way : ℕ → ℕ → Accord → Way → Way
+behind_way k at told y = record { trail = behind_trail k at y.trail; heard = or_accord told y.heard }
 
 -- a branch's answer: the record moved back over all that it takes
 unfoldable pub along : List ℕ → Cursor → Trace → Branch

@@ -9,9 +9,9 @@ ghost use Rattle.theorems.specs.Simple.Pieces.{trace};
 ghost use Rattle.theorems.specs.Simple.Stage.{person, branch1, branch2, branch3, branch4, branch5, branch6};
 ghost use Rattle.keys.specs.Seen.{Sees};
 ghost use Rattle.marks.specs.Reach.{reach};
-ghost use Rattle.stages.specs.Groups.{personMark, personAlone, afterLAr, afterNUz, firstEnds, fifthEnds};
+ghost use Rattle.stages.specs.Groups.{person_mark, person_alone_of, after_lAr_of, after_nUz_of, first_ends_of, fifth_ends};
 ghost use Rattle.stages.specs.Trail.{along, cut_to};
-ghost use Rattle.stages.specs.Outcome.{outcome, outcomeOf};
+ghost use Rattle.stages.specs.Outcome.{outcome, outcome_of};
 
 use crate::trail::{Branch, Trail, Way};
 use keys::seen::Seen;
@@ -74,7 +74,7 @@ fn first_mark(w: &[u8], s: Seen) -> Marked
 // A person's ending (lines 316 and 327).
 fn person(w: &[u8], s: Seen) -> Marked
     requires { Sees w.now s }
-    ensures { result ≡ reach w.now s.c (trace personMark (behind w.now s.c)) }
+    ensures { result ≡ reach w.now s.c (trace person_mark (behind w.now s.c)) }
 {
     if let Marked::To(c, kind, told) = mark::mark_sUnUz(w, s) {
         return Marked::To(c, kind, told);
@@ -94,7 +94,7 @@ fn person(w: &[u8], s: Seen) -> Marked
 // What may follow lAr (line 319).
 fn after_lAr(w: &[u8], s: Seen) -> Marked
     requires { Sees w.now s }
-    ensures { result ≡ reach w.now s.c (trace afterLAr (behind w.now s.c)) }
+    ensures { result ≡ reach w.now s.c (trace after_lAr_of (behind w.now s.c)) }
 {
     if let Marked::To(c, kind, told) = mark::mark_DUr(w, s) {
         return Marked::To(c, kind, told);
@@ -111,7 +111,7 @@ fn after_lAr(w: &[u8], s: Seen) -> Marked
 // What must follow nUz (line 323).
 fn after_nUz(w: &[u8], s: Seen) -> Marked
     requires { Sees w.now s }
-    ensures { result ≡ reach w.now s.c (trace afterNUz (behind w.now s.c)) }
+    ensures { result ≡ reach w.now s.c (trace after_nUz_of (behind w.now s.c)) }
 {
     if let Marked::To(c, kind, told) = mark::mark_yDU(w, s) {
         return Marked::To(c, kind, told);
@@ -122,7 +122,7 @@ fn after_nUz(w: &[u8], s: Seen) -> Marked
 // A person's ending without lAr (line 325).
 fn person_alone(w: &[u8], s: Seen) -> Marked
     requires { Sees w.now s }
-    ensures { result ≡ reach w.now s.c (trace personAlone (behind w.now s.c)) }
+    ensures { result ≡ reach w.now s.c (trace person_alone_of (behind w.now s.c)) }
 {
     if let Marked::To(c, kind, told) = mark::mark_sUnUz(w, s) {
         return Marked::To(c, kind, told);
@@ -257,13 +257,13 @@ fn sixth_branch(w: &[u8], s: Seen) -> Branch
 
 // Whether the last letter may be that of a mark with which the first branch begins, or the fifth. Of the others it is one letter or A.
 fn ends_first(a: u32) -> bool
-    ensures { result ≡ firstEnds a }
+    ensures { result ≡ first_ends_of a }
 {
     (ends::is_U(a) | ends::is_kmn(a)) | (ends::is_A(a) | (a == 0x15F))
 }
 
 fn ends_fifth(a: u32) -> bool
-    ensures { result ≡ fifthEnds a }
+    ensures { result ≡ fifth_ends a }
 {
     (a == 0x7A) | ((a == 0x6E) | (a == 0x6D))
 }
@@ -271,7 +271,7 @@ fn ends_fifth(a: u32) -> bool
 // The suffix stage of a word, entered at its end with limit_backward 0: the first branch that fits. Only those are tried that may begin with
 // the word's last letter.
 pub fn stem_nominal_verb_suffixes(w: &[u8]) -> Outcome
-    ensures { result ≡ outcomeOf w.now }
+    ensures { result ≡ outcome_of w.now }
 {
     let n = w.len();
     let s = seen::look_back(

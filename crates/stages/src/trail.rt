@@ -1,7 +1,7 @@
 // The marks that a branch keeps, as the suffix stage holds them on the way: up to three, in order of running; and what the first of them found
 // that tests harmony.
 ghost use Rattle.std.specs.Prelude.{◌≡◌};
-ghost use Rattle.stages.specs.Trail.{behindTrail, behindWay};
+ghost use Rattle.stages.specs.Trail.{behind_trail, behind_way};
 
 use utf8::cursor::Cursor;
 use vowels::harmony::Accord;
@@ -34,7 +34,7 @@ impl Trail {
 
     // The same marks behind one that was kept before them.
     pub fn behind(self, kind: u32, at: usize) -> Trail
-        ensures { result ≡ behindTrail kind at self }
+        ensures { result ≡ behind_trail kind at self }
     {
         let a = self.first;
         let b = self.second;
@@ -61,7 +61,7 @@ impl Way {
 
     // The same behind one mark that was kept before, and what that one found.
     pub fn behind(self, kind: u32, at: usize, told: Accord) -> Way
-        ensures { result ≡ behindWay kind at told self }
+        ensures { result ≡ behind_way kind at told self }
     {
         let t = self.trail;
         let h = self.heard;

@@ -3,8 +3,8 @@
 // over and written, in fixed memory.
 ghost use Rattle.std.specs.Prelude.{◌≡◌, true, ◌≤◌, length, take};
 ghost use Rattle.writing.specs.Put.{put};
-ghost use Rattle.lines.specs.Room.{lineRoom};
-ghost use Rattle.listing.specs.Feed.{most, fedLine, lastOut};
+ghost use Rattle.lines.specs.Room.{line_room};
+ghost use Rattle.listing.specs.Feed.{most, fed_line, last_out};
 
 use libc::{STDERR_FILENO, STDIN_FILENO, STDOUT_FILENO};
 use listing::feed;
@@ -22,10 +22,10 @@ struct Drained {
 fn drain(folded: bool, block: &[u8], line: &mut [u8], held: usize, out: &mut [u8]) -> Drained
     requires line_len { length line.old ≡ most }
     requires held_le_most { held ≤ most }
-    requires line_room_in_bounds { lineRoom ≤ length out.old }
+    requires line_room_in_bounds { line_room ≤ length out.old }
     ensures held_le_most_2 { result.held ≤ most }
-    ensures held_value { result.ok ≡ true → result.held ≡ length (fedLine (take held line.old) block.now) }
-    ensures line_after { result.ok ≡ true → take result.held line.new ≡ fedLine (take held line.old) block.now }
+    ensures held_value { result.ok ≡ true → result.held ≡ length (fed_line (take held line.old) block.now) }
+    ensures line_after { result.ok ≡ true → take result.held line.new ≡ fed_line (take held line.old) block.now }
 {
     let mut used = 0;
     let mut h = held;
@@ -44,8 +44,8 @@ fn drain(folded: bool, block: &[u8], line: &mut [u8], held: usize, out: &mut [u8
 // Writes the line that the input's end closes: it stands at the front of the output. Whether that could be written.
 fn close(folded: bool, line: &[u8], held: usize, out: &mut [u8]) -> bool
     requires held_in_bounds { held ≤ length line.now }
-    requires line_room_in_bounds { lineRoom ≤ length out.old }
-    ensures { out.new ≡ put 0 (lastOut folded (take held line.now)) out.old }
+    requires line_room_in_bounds { line_room ≤ length out.old }
+    ensures { out.new ≡ put 0 (last_out folded (take held line.now)) out.old }
 {
     let last = feed::finish(folded, line, held, out);
     io::write_all(STDOUT_FILENO, &out[..last])
@@ -68,7 +68,7 @@ fn list(
     out: &mut [u8],
 ) -> bool
     requires line_len { length line.old ≡ most }
-    requires line_room_in_bounds { lineRoom ≤ length out.old }
+    requires line_room_in_bounds { line_room ≤ length out.old }
 {
     let mut held: usize = 0;
     let mut turns = 0xFFFF_FFFF_FFFF_FFFFu64;
@@ -115,7 +115,7 @@ fn same(a: &[u8], b: &[u8]) -> bool {
 // Lists the file of a name; `-` is standard input. One that cannot be opened is reported. Whether all could be written.
 fn list_file(name: &[u8], folded: bool, block: &mut [u8], line: &mut [u8], out: &mut [u8]) -> bool
     requires line_len { length line.old ≡ most }
-    requires line_room_in_bounds { lineRoom ≤ length out.old }
+    requires line_room_in_bounds { line_room ≤ length out.old }
 {
     if same(name, b"-") {
         return list(STDIN_FILENO, b"standard input", folded, block, line, out);
@@ -133,7 +133,7 @@ fn list_file(name: &[u8], folded: bool, block: &mut [u8], line: &mut [u8], out: 
 // Lists the file that argument i names. Whether all could be written.
 fn list_argument(i: usize, folded: bool, block: &mut [u8], line: &mut [u8], out: &mut [u8]) -> bool
     requires line_len { length line.old ≡ most }
-    requires line_room_in_bounds { lineRoom ≤ length out.old }
+    requires line_room_in_bounds { line_room ≤ length out.old }
 {
     let mut name = io::buffer();
     let n = os::arg(i, &mut name);

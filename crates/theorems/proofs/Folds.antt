@@ -12,20 +12,20 @@ use lib.ListN.{length, replicate}
 use lib.Dec.{eqb, ltb, leb}
 use borrow.Author.Tests.{eqb-true, ltb-true, leb-true, ne_eqb, lt-ltb, le-ltb}
 use Rattle.encoding.specs.Scalar.{surrogate, scalar, scalars}
-use Rattle.encoding.specs.Encoding.{encode, encodeAll}
-use Rattle.encoding.specs.Validity.{isText}
-use Rattle.encoding.proofs.CheckExact.{isText-encodes, encodes-isText}
+use Rattle.encoding.specs.Encoding.{encode, encode_all}
+use Rattle.encoding.specs.Validity.{is_text}
+use Rattle.encoding.proofs.CheckExact.{is_text-encodes, encodes-is_text}
 use Rattle.encoding.proofs.Laws.Booleans.{and_left, and_right, or-either}
 use Rattle.encoding.proofs.Laws.Encoding.{encode_one}
 use Rattle.encoding.proofs.Laws.Scalar.{is-scalar}
 use Rattle.utf8.proofs.TextCharacters.{scalars-reverse}
 use Rattle.turkish.specs.Letters.{has}
-use Rattle.turkish.specs.Fold.{Letter, capitals01, capitals, foldBy, foldChar, fold}
-use Rattle.turkish.specs.Calls.{chars, bytes, limit, refusalShort, accepted, foldText, foldRefusal, foldCall}
+use Rattle.turkish.specs.Fold.{Letter, capitals01, capitals, fold_by, fold_char, fold}
+use Rattle.turkish.specs.Calls.{chars, bytes, limit, refusal_short_of, accepted, fold_text, fold_refusal, fold_call}
 use Rattle.theorems.proofs.Laws.Accepted.{refusal-long}
 use Rattle.theorems.proofs.Laws.Tests.{every, every-at, has-none}
 use Rattle.theorems.proofs.Laws.Words.{length-bytes-cons, chars-bytes, scalars-chars, bytes-chars-text}
-use Rattle.theorems.proofs.Laws.Folding.{foldBy-elim, reverse-fold}
+use Rattle.theorems.proofs.Laws.Folding.{fold_by-elim, reverse-fold}
 
 -- ---- how many bytes ----
 
@@ -52,10 +52,10 @@ unfolding capitals capitals01 every doubled encode
 rows-doubled = refl
 
 -- so it is so of a folded character
-foldChar-doubled : (c : ℕ) → Doubled (length (encode (foldChar c))) (length (encode c))
-unfolding foldChar
-foldChar-doubled c =
-    foldBy-elim (λ d. Doubled (length (encode d)) (length (encode c))) capitals c
+fold_char-doubled : (c : ℕ) → Doubled (length (encode (fold_char c))) (length (encode c))
+unfolding fold_char
+fold_char-doubled c =
+    fold_by-elim (λ d. Doubled (length (encode d)) (length (encode c))) capitals c
     (λ l m e. rw e (row-doubled l (every-at doubled rows-doubled m)))
     (λ o h k. rw (encode_one (c + 0x20) (omega arith), encode_one c (omega arith)) (omega arith, omega arith))
     (λ o n. (omega arith, omega arith))
@@ -66,37 +66,37 @@ unfolding fold
 fold-doubled [] = (omega arith, omega arith)
 fold-doubled (c ∷ cs) =
     let r = fold-doubled cs in
-    let e = foldChar-doubled c in
-    rw (length-bytes-cons c cs, length-bytes-cons (foldChar c) (fold cs)) (omega arith, omega arith)
+    let e = fold_char-doubled c in
+    rw (length-bytes-cons c cs, length-bytes-cons (fold_char c) (fold cs)) (omega arith, omega arith)
 
 -- so the folded text of a text has at most twice its bytes and at least half of them
-pub foldText-doubled : (w : List ℕ) → isText w ≡ true → Doubled (length (foldText w)) (length w)
-unfolding foldText
-foldText-doubled w e = rw (bytes-chars-text w (isText-encodes w e)) at (fold-doubled (chars w))
+pub fold_text-doubled : (w : List ℕ) → is_text w ≡ true → Doubled (length (fold_text w)) (length w)
+unfolding fold_text
+fold_text-doubled w e = rw (bytes-chars-text w (is_text-encodes w e)) at (fold-doubled (chars w))
 
 -- ---- without I and İ ----
 
 -- the test that a row's small letter takes as many bytes as its capital
-sameSize : Letter → Bool
-sameSize l = eqb (length (encode l.small)) (length (encode l.capital))
+same_size : Letter → Bool
+same_size l = eqb (length (encode l.small)) (length (encode l.capital))
 
 -- all of document 01's rows pass it
-rows-sameSize : every sameSize capitals01 ≡ true
-unfolding capitals01 every sameSize encode
-rows-sameSize = refl
+rows-same_size : every same_size capitals01 ≡ true
+unfolding capitals01 every same_size encode
+rows-same_size = refl
 
 -- so a character folded by them takes as many bytes
-fold01-size : (c : ℕ) → length (encode (foldBy capitals01 c)) ≡ length (encode c)
-unfolding sameSize
+fold01-size : (c : ℕ) → length (encode (fold_by capitals01 c)) ≡ length (encode c)
+unfolding same_size
 fold01-size c =
-    foldBy-elim (λ d. length (encode d) ≡ length (encode c)) capitals01 c
-    (λ l m e. rw e (eqb-true _ _ (every-at sameSize rows-sameSize m)))
+    fold_by-elim (λ d. length (encode d) ≡ length (encode c)) capitals01 c
+    (λ l m e. rw e (eqb-true _ _ (every-at same_size rows-same_size m)))
     (λ o h k. ap length (encode_one (c + 0x20) (omega arith)) ∙ sym (ap length (encode_one c (omega arith))))
     (λ o n. refl)
 
 -- characters without I and İ fold by document 01's rows
-fold-before : (cs : List ℕ) → has cs (code "I") ≡ false → has cs (code "İ") ≡ false → fold cs ≡ map (foldBy capitals01) cs
-unfolding fold foldChar foldBy capitals
+fold-before : (cs : List ℕ) → has cs (code "I") ≡ false → has cs (code "İ") ≡ false → fold cs ≡ map (fold_by capitals01) cs
+unfolding fold fold_char fold_by capitals
 fold-before [] i d = refl
 fold-before (c ∷ cs) i d =
     let p = has-none (code "I") c cs i in
@@ -104,36 +104,36 @@ fold-before (c ∷ cs) i d =
     rw (ne_eqb c (code "I") p.0, ne_eqb c (code "İ") q.0, fold-before cs p.1 q.1)
 
 -- and so to as many bytes
-fold-before-size : (cs : List ℕ) → length (bytes (map (foldBy capitals01) cs)) ≡ length (bytes cs)
+fold-before-size : (cs : List ℕ) → length (bytes (map (fold_by capitals01) cs)) ≡ length (bytes cs)
 fold-before-size [] = refl
 fold-before-size (c ∷ cs) =
-    omega (arith, length-bytes-cons c cs, length-bytes-cons (foldBy capitals01 c) (map (foldBy capitals01) cs), fold01-size c, fold-before-size cs)
+    omega (arith, length-bytes-cons c cs, length-bytes-cons (fold_by capitals01 c) (map (fold_by capitals01) cs), fold01-size c, fold-before-size cs)
 
 -- so does a text
-pub foldText-before : (w : List ℕ) → isText w ≡ true → has (chars w) (code "I") ≡ false → has (chars w) (code "İ") ≡ false
-    → (foldText w ≡ bytes (map (foldBy capitals01) (chars w))) × (length (foldText w) ≡ length w)
-unfolding foldText
-foldText-before w e i d =
+pub fold_text-before : (w : List ℕ) → is_text w ≡ true → has (chars w) (code "I") ≡ false → has (chars w) (code "İ") ≡ false
+    → (fold_text w ≡ bytes (map (fold_by capitals01) (chars w))) × (length (fold_text w) ≡ length w)
+unfolding fold_text
+fold_text-before w e i d =
     let b = fold-before (chars w) i d in
-    (ap bytes b, rw b (rw (bytes-chars-text w (isText-encodes w e)) at (fold-before-size (chars w))))
+    (ap bytes b, rw b (rw (bytes-chars-text w (is_text-encodes w e)) at (fold-before-size (chars w))))
 
 -- ---- a text, and folded once ----
 
 -- the test that a row's small letter is a scalar value
-scalarSmall : Letter → Bool
-scalarSmall l = scalar l.small
+scalar_small : Letter → Bool
+scalar_small l = scalar l.small
 
 -- every row passes it
-rows-scalar : every scalarSmall capitals ≡ true
-unfolding capitals capitals01 every scalarSmall scalar surrogate
+rows-scalar : every scalar_small capitals ≡ true
+unfolding capitals capitals01 every scalar_small scalar surrogate
 rows-scalar = refl
 
 -- so a scalar value folded is one
-scalar-foldChar : (c : ℕ) → scalar c ≡ true → scalar (foldChar c) ≡ true
-unfolding foldChar scalarSmall
-scalar-foldChar c s =
-    foldBy-elim (λ d. scalar d ≡ true) capitals c
-    (λ l m e. every-at scalarSmall rows-scalar m)
+scalar-fold_char : (c : ℕ) → scalar c ≡ true → scalar (fold_char c) ≡ true
+unfolding fold_char scalar_small
+scalar-fold_char c s =
+    fold_by-elim (λ d. scalar d ≡ true) capitals c
+    (λ l m e. every-at scalar_small rows-scalar m)
     (λ o h k. is-scalar (c + 0x20) (omega arith) (λ x. omega arith))
     (λ o n. s)
 
@@ -141,16 +141,16 @@ scalar-foldChar c s =
 scalars-fold : (cs : List ℕ) → scalars cs ≡ true → scalars (fold cs) ≡ true
 unfolding scalars fold
 scalars-fold [] s = refl
-scalars-fold (c ∷ cs) s = rw (scalar-foldChar c (and_left (scalar c) (scalars cs) s), scalars-fold cs (and_right (scalar c) (scalars cs) s))
+scalars-fold (c ∷ cs) s = rw (scalar-fold_char c (and_left (scalar c) (scalars cs) s), scalars-fold cs (and_right (scalar c) (scalars cs) s))
 
 -- the characters of a text, folded, are a text's
-folded-scalars : (w : List ℕ) → isText w ≡ true → scalars (reverse (fold (chars w))) ≡ true
-folded-scalars w e = rw (reverse-fold (chars w)) (scalars-fold (reverse (chars w)) (scalars-chars w (isText-encodes w e)))
+folded-scalars : (w : List ℕ) → is_text w ≡ true → scalars (reverse (fold (chars w))) ≡ true
+folded-scalars w e = rw (reverse-fold (chars w)) (scalars-fold (reverse (chars w)) (scalars-chars w (is_text-encodes w e)))
 
 -- the folded text of a text is a text
-pub foldText-text : (w : List ℕ) → isText w ≡ true → isText (foldText w) ≡ true
-unfolding foldText bytes
-foldText-text w e = encodes-isText (reverse (fold (chars w))) (folded-scalars w e)
+pub fold_text-text : (w : List ℕ) → is_text w ≡ true → is_text (fold_text w) ≡ true
+unfolding fold_text bytes
+fold_text-text w e = encodes-is_text (reverse (fold (chars w))) (folded-scalars w e)
 
 -- the test that a row's capital is none of a to z
 outside : Letter → Bool
@@ -169,30 +169,30 @@ a-z-outside d l h k t e =
     (or-either (ltb l.capital 0x61) (ltb 0x7A l.capital) t)
 
 -- and they stay
-foldChar-a-z : (d : ℕ) → 0x61 ≤ d → d ≤ 0x7A → foldChar d ≡ d
-unfolding foldChar
-foldChar-a-z d h k =
-    foldBy-elim (λ e. e ≡ d) capitals d
+fold_char-a-z : (d : ℕ) → 0x61 ≤ d → d ≤ 0x7A → fold_char d ≡ d
+unfolding fold_char
+fold_char-a-z d h k =
+    fold_by-elim (λ e. e ≡ d) capitals d
     (λ l m e. absurd (a-z-outside d l h k (every-at outside rows-outside m) e))
     (λ o x y. absurd (omega arith))
     (λ o n. refl)
 
 -- the test that a row's small letter stays
 settled : Letter → Bool
-settled l = eqb (foldChar l.small) l.small
+settled l = eqb (fold_char l.small) l.small
 
 -- every row passes it
 rows_settled : every settled capitals ≡ true
-unfolding capitals capitals01 every settled foldChar foldBy
+unfolding capitals capitals01 every settled fold_char fold_by
 rows_settled = refl
 
 -- so a folded character stays
-foldChar-foldChar : (c : ℕ) → foldChar (foldChar c) ≡ foldChar c
-unfolding foldChar settled
-foldChar-foldChar c =
-    foldBy-elim (λ d. foldChar c ≡ d → foldChar d ≡ d) capitals c
-    (λ l m e q. eqb-true (foldChar l.small) l.small (every-at settled rows_settled m))
-    (λ o h k q. foldChar-a-z (c + 0x20) (omega arith) (omega arith))
+fold_char-fold_char : (c : ℕ) → fold_char (fold_char c) ≡ fold_char c
+unfolding fold_char settled
+fold_char-fold_char c =
+    fold_by-elim (λ d. fold_char c ≡ d → fold_char d ≡ d) capitals c
+    (λ l m e q. eqb-true (fold_char l.small) l.small (every-at settled rows_settled m))
+    (λ o h k q. fold_char-a-z (c + 0x20) (omega arith) (omega arith))
     (λ o n q. q)
     refl
 
@@ -200,18 +200,18 @@ foldChar-foldChar c =
 fold-fold : (cs : List ℕ) → fold (fold cs) ≡ fold cs
 unfolding fold
 fold-fold [] = refl
-fold-fold (c ∷ cs) = rw (foldChar-foldChar c, fold-fold cs)
+fold-fold (c ∷ cs) = rw (fold_char-fold_char c, fold-fold cs)
 
 -- so a folded text folded again stays
-pub foldText-foldText : (w : List ℕ) → isText w ≡ true → foldText (foldText w) ≡ foldText w
-unfolding foldText
-foldText-foldText w e = rw (chars-bytes (fold (chars w)) (folded-scalars w e), fold-fold (chars w))
+pub fold_text-fold_text : (w : List ℕ) → is_text w ≡ true → fold_text (fold_text w) ≡ fold_text w
+unfolding fold_text
+fold_text-fold_text w e = rw (chars-bytes (fold (chars w)) (folded-scalars w e), fold-fold (chars w))
 
 -- ---- letters I alone ----
 
 -- so many of one letter take so many times its bytes
 length-bytes-replicate : (n c : ℕ) → length (bytes (replicate n c)) ≡ n * length (encode c)
-unfolding bytes encodeAll
+unfolding bytes encode_all
 length-bytes-replicate zero c = sym (zero-mul (length (encode c)))
 length-bytes-replicate (suc n) c = length-bytes-cons c (replicate n c) ∙ rw (length-bytes-replicate n c, suc-mul n (length (encode c)))
 
@@ -222,7 +222,7 @@ scalars-replicate zero c s = refl
 scalars-replicate (suc n) c s = rw (s, scalars-replicate n c s)
 
 -- and fold to so many of what it folds to
-fold-replicate : (n c : ℕ) → fold (replicate n c) ≡ replicate n (foldChar c)
+fold-replicate : (n c : ℕ) → fold (replicate n c) ≡ replicate n (fold_char c)
 unfolding fold
 fold-replicate zero c = refl
 fold-replicate (suc n) c = rw (fold-replicate n c)
@@ -230,18 +230,18 @@ fold-replicate (suc n) c = rw (fold-replicate n c)
 -- a word of n letters I
 module _ (n : ℕ) where
   -- is a text
-  pub letters-I-text : isText (bytes (replicate n (code "I"))) ≡ true
+  pub letters-I-text : is_text (bytes (replicate n (code "I"))) ≡ true
   unfolding bytes
   letters-I-text =
-      encodes-isText (reverse (replicate n (code "I"))) (scalars-reverse (replicate n (code "I")) (scalars-replicate n (code "I") (unfold scalar surrogate in refl)))
+      encodes-is_text (reverse (replicate n (code "I"))) (scalars-reverse (replicate n (code "I")) (scalars-replicate n (code "I") (unfold scalar surrogate in refl)))
 
   -- has n bytes
   pub letters-I-length : length (bytes (replicate n (code "I"))) ≡ n
   letters-I-length = length-bytes-replicate n (code "I") ∙ (unfold encode in omega arith)
 
   -- folds to n letters ı
-  pub letters-I-folded : foldText (bytes (replicate n (code "I"))) ≡ bytes (replicate n (code "ı"))
-  unfolding foldText foldChar foldBy capitals
+  pub letters-I-folded : fold_text (bytes (replicate n (code "I"))) ≡ bytes (replicate n (code "ı"))
+  unfolding fold_text fold_char fold_by capitals
   letters-I-folded =
       let s = scalars-reverse (replicate n (code "I")) (scalars-replicate n (code "I") (unfold scalar surrogate in refl)) in
       rw (chars-bytes (replicate n (code "I")) s, fold-replicate n (code "I"))
@@ -253,17 +253,17 @@ module _ (n : ℕ) where
 -- ---- the call ----
 
 -- an accepted word is folded where the output is as long as its folded text
-pub foldCall-fits : (w : List ℕ) (room : ℕ) → accepted w ≡ true → length (foldText w) ≤ room
-    → foldCall w room ≡ record { refusal = 0; length = length (foldText w) }
-unfolding foldCall foldRefusal refusalShort accepted
-foldCall-fits w room a h = rw (a, le-ltb room (length (foldText w)) h)
+pub fold_call-fits : (w : List ℕ) (room : ℕ) → accepted w ≡ true → length (fold_text w) ≤ room
+    → fold_call w room ≡ record { refusal = 0; length = length (fold_text w) }
+unfolding fold_call fold_refusal refusal_short_of accepted
+fold_call-fits w room a h = rw (a, le-ltb room (length (fold_text w)) h)
 
 -- and refused under 3 where it is shorter
-pub foldCall-short : (w : List ℕ) (room : ℕ) → accepted w ≡ true → room < length (foldText w) → foldCall w room ≡ record { refusal = 3; length = 0 }
-unfolding foldCall foldRefusal refusalShort accepted
-foldCall-short w room a h = rw (a, lt-ltb room (length (foldText w)) h)
+pub fold_call-short : (w : List ℕ) (room : ℕ) → accepted w ≡ true → room < length (fold_text w) → fold_call w room ≡ record { refusal = 3; length = 0 }
+unfolding fold_call fold_refusal refusal_short_of accepted
+fold_call-short w room a h = rw (a, lt-ltb room (length (fold_text w)) h)
 
 -- a word over the limit is refused under 1, whatever the output
-pub foldCall-long : (w : List ℕ) (room : ℕ) → limit < length w → foldCall w room ≡ record { refusal = 1; length = 0 }
-unfolding foldCall foldRefusal refusalShort
-foldCall-long w room h = rw (← refusal-long w h)
+pub fold_call-long : (w : List ℕ) (room : ℕ) → limit < length w → fold_call w room ≡ record { refusal = 1; length = 0 }
+unfolding fold_call fold_refusal refusal_short_of
+fold_call-long w room h = rw (← refusal-long w h)

@@ -10,31 +10,31 @@ use native.Mathlib.Omega.{arith}
 use lib.ListN.{length, drop, length-drop}
 use lib.Seq.{drop-append-le}
 use lib.Dec.{eqb}
-use Rattle.turkish.specs.Letters.{text, fromEnd, has, starts}
-use Rattle.turkish.specs.Vowels.{vowel, lastVowel, beforeLastVowel}
-use Rattle.theorems.specs.Simple.Harmony.{partner, harmony, moreThanOneSyllable}
+use Rattle.turkish.specs.Letters.{text, from_end, has, starts}
+use Rattle.turkish.specs.Vowels.{vowel, last_vowel_of, before_last_vowel}
+use Rattle.theorems.specs.Simple.Harmony.{partner, harmony, more_than_one_syllable}
 use Rattle.theorems.specs.Simple.Grammar.{Out, took, more, after, asking, among, Joint, optional, joining, mark_of, Command, mark, ◌then◌, ◌or◌, nothing, unset, try, run}
-use Rattle.theorems.specs.Simple.Marks.{unjoined, byY, marked, yUm, sUn, yUz, sUnUz, lAr, nUz, DUr, cAsInA, yDU, ysA, ymUs, yken}
+use Rattle.theorems.specs.Simple.Marks.{unjoined, by_y, marked, yUm, sUn, yUz, sUnUz, lAr, nUz, DUr, cAsInA, yDU, ysA, ymUs, yken}
 use Rattle.theorems.specs.Simple.Stage.{person, branch1, branch2, branch3, branch4, branch5, branch6, branches, staged, stage, kept}
-use Rattle.theorems.specs.Simple.Postlude.{reserved, gained, appends, appendU, hard, harden, postlude}
+use Rattle.theorems.specs.Simple.Postlude.{reserved, gained, appends, append_U, hard, harden, postlude}
 use Rattle.turkish.specs.WordPass.{pass}
-use Rattle.theorems.specs.Fronts.{endLength, Alike, reachesReserved, SameAnswers}
+use Rattle.theorems.specs.Fronts.{end_length, Alike, reaches_reserved, SameAnswers}
 use Rattle.theorems.proofs.Laws.Outcome.{Post, unfit, fits}
 use Rattle.theorems.proofs.Laws.Bounds.{longest, most, among-most, run-most, stage-taken}
-use Rattle.theorems.proofs.Source.Calls.{simplePass, pass-simple, reachesReserved-simple}
+use Rattle.theorems.proofs.Source.Calls.{simple_pass, pass-simple, reaches_reserved-simple}
 use Rattle.theorems.proofs.Laws.Harmony.{harmony-any}
-use Rattle.theorems.proofs.Laws.Vowels.{any-vowels, partner-vowel, has-last-beforeLastVowel}
+use Rattle.theorems.proofs.Laws.Vowels.{any-vowels, partner-vowel, has-last-before_last_vowel}
 
 -- ---- alike fronts ----
 
 -- fronts stay alike behind one more character
 alike-cons : (c : ℕ) (f g : List ℕ) → Alike f g → Alike (c ∷ f) (c ∷ g)
-unfolding lastVowel beforeLastVowel
+unfolding last_vowel_of before_last_vowel
 alike-cons c f g a =
     record {
-      last = elim (vowel c) as (λ b. cond b c (lastVowel f) ≡ cond b c (lastVowel g)) [ true ↦ refl | false ↦ a.last ];
-      others = elim (vowel c) as (λ b. (v : ℕ) → vowel v ≡ true → has (cond b f (beforeLastVowel f)) v ≡ has (cond b g (beforeLastVowel g)) v)
-          [ true ↦ λ v h. has-last-beforeLastVowel f v h ∙ rw (a.last, a.others v h) (sym (has-last-beforeLastVowel g v h)) | false ↦ a.others ];
+      last = elim (vowel c) as (λ b. cond b c (last_vowel_of f) ≡ cond b c (last_vowel_of g)) [ true ↦ refl | false ↦ a.last ];
+      others = elim (vowel c) as (λ b. (v : ℕ) → vowel v ≡ true → has (cond b f (before_last_vowel f)) v ≡ has (cond b g (before_last_vowel g)) v)
+          [ true ↦ λ v h. has-last-before_last_vowel f v h ∙ rw (a.last, a.others v h) (sym (has-last-before_last_vowel g v h)) | false ↦ a.others ];
     }
 
 -- and behind a shared end
@@ -43,19 +43,19 @@ alike-append [] f g a = a
 alike-append (c ∷ e) f g a = alike-cons c (e ++ f) (e ++ g) (alike-append e f g a)
 
 -- so words with a shared end, whatever it is, agree in the last vowel
-pub lastVowel-near : (e f g : List ℕ) → Alike f g → lastVowel (e ++ f) ≡ lastVowel (e ++ g)
-lastVowel-near e f g a = (alike-append e f g a).last
+pub last_vowel_of-near : (e f g : List ℕ) → Alike f g → last_vowel_of (e ++ f) ≡ last_vowel_of (e ++ g)
+last_vowel_of-near e f g a = (alike-append e f g a).last
 
 -- in harmony
 pub harmony-near : (e f g : List ℕ) → Alike f g → harmony (e ++ f) ≡ harmony (e ++ g)
 harmony-near e f g a =
-    rw (harmony-any (e ++ f), harmony-any (e ++ g), lastVowel-near e f g a)
-    (any-vowels (partner (lastVowel (e ++ g))) (beforeLastVowel (e ++ f)) (beforeLastVowel (e ++ g)) (partner-vowel (lastVowel (e ++ g))) (alike-append e f g a).others)
+    rw (harmony-any (e ++ f), harmony-any (e ++ g), last_vowel_of-near e f g a)
+    (any-vowels (partner (last_vowel_of (e ++ g))) (before_last_vowel (e ++ f)) (before_last_vowel (e ++ g)) (partner-vowel (last_vowel_of (e ++ g))) (alike-append e f g a).others)
 
 -- and in the syllable check
-pub moreThanOneSyllable-near : (e f g : List ℕ) → Alike f g → moreThanOneSyllable (e ++ f) ≡ moreThanOneSyllable (e ++ g)
-unfolding moreThanOneSyllable
-moreThanOneSyllable-near e f g a = any-vowels vowel (beforeLastVowel (e ++ f)) (beforeLastVowel (e ++ g)) (λ v h. h) (alike-append e f g a).others
+pub more_than_one_syllable-near : (e f g : List ℕ) → Alike f g → more_than_one_syllable (e ++ f) ≡ more_than_one_syllable (e ++ g)
+unfolding more_than_one_syllable
+more_than_one_syllable-near e f g a = any-vowels vowel (before_last_vowel (e ++ f)) (before_last_vowel (e ++ g)) (λ v h. h) (alike-append e f g a).others
 
 -- ---- a command ----
 
@@ -119,17 +119,17 @@ run-near unset e f g a h = refl
 -- ---- the stage ----
 
 -- the stage's command may look at no more than 16 characters, and takes fewer than it may look at
-need-branches : (need branches ≤ endLength) × (most branches < need branches)
-unfolding endLength need most longest branches branch1 branch2 branch3 branch4 branch5 branch6 person try unjoined byY marked yUm sUn yUz sUnUz lAr nUz DUr cAsInA yDU ysA ymUs yken fromEnd text
+need-branches : (need branches ≤ end_length) × (most branches < need branches)
+unfolding end_length need most longest branches branch1 branch2 branch3 branch4 branch5 branch6 person try unjoined by_y marked yUm sUn yUz sUnUz lAr nUz DUr cAsInA yDU ysA ymUs yken from_end text
 need-branches = (omega arith, omega arith)
 
 -- the stage answers alike on words with a shared end of 16 characters
-pub stage-near : (e f g : List ℕ) → Alike f g → endLength ≤ length e → stage (e ++ f) ≡ stage (e ++ g)
+pub stage-near : (e f g : List ℕ) → Alike f g → end_length ≤ length e → stage (e ++ f) ≡ stage (e ++ g)
 unfolding stage
 stage-near e f g a h = ap staged (run-near branches e f g a (omega (arith, need-branches)))
 
 -- of words with a shared end of 16 characters the stage keeps some of it
-kept_near : (e f g : List ℕ) → Alike f g → endLength ≤ length e → (x : List ℕ) × (0 < length x) × (kept (e ++ f) ≡ x ++ f) × (kept (e ++ g) ≡ x ++ g)
+kept_near : (e f g : List ℕ) → Alike f g → end_length ≤ length e → (x : List ℕ) × (0 < length x) × (kept (e ++ f) ≡ x ++ f) × (kept (e ++ g) ≡ x ++ g)
 unfolding kept
 kept_near e f g a h =
     let k : ℕ = (stage (e ++ g)).removed in
@@ -141,17 +141,17 @@ kept_near e f g a h =
 -- a final d or g of a shared end gains a vowel in both words or in neither
 appends-near : (c : ℕ) (x f g : List ℕ) → Alike f g → appends (c ∷ (x ++ f)) ≡ appends (c ∷ (x ++ g))
 unfolding appends
-appends-near c x f g a = rw (lastVowel-near x f g a)
+appends-near c x f g a = rw (last_vowel_of-near x f g a)
 
 -- where it runs, the postlude changes the shared end alone, and that alike
 postlude-near : (b : Bool) (x f g : List ℕ) → Alike f g → 0 < length x → b && reserved (x ++ f) ≡ false → b && reserved (x ++ g) ≡ false
     → (y : List ℕ) × (cond b (postlude (x ++ f)) (x ++ f) ≡ y ++ f) × (cond b (postlude (x ++ g)) (x ++ g) ≡ y ++ g)
-unfolding postlude appendU harden
+unfolding postlude append_U harden
 postlude-near false x f g a h p q = (x, refl, refl)
 postlude-near true [] f g a h p q = absurd (omega arith)
 postlude-near true (c ∷ x) f g a h p q =
-    let v : ℕ = gained (lastVowel (x ++ g)) in
-    rw (p, q, appends-near c x f g a, lastVowel-near x f g a)
+    let v : ℕ = gained (last_vowel_of (x ++ g)) in
+    rw (p, q, appends-near c x f g a, last_vowel_of-near x f g a)
     (elim (appends (c ∷ (x ++ g))) as (λ t. (y : List ℕ)
     × (harden (cond t (v ∷ c ∷ (x ++ f)) (c ∷ (x ++ f))) ≡ y ++ f)
     × (harden (cond t (v ∷ c ∷ (x ++ g)) (c ∷ (x ++ g))) ≡ y ++ g))
@@ -159,15 +159,15 @@ postlude-near true (c ∷ x) f g a h p q =
 
 -- on words with a shared end of 16 characters the pass gives equal answers, and texts with a shared end, unless a reserved text
 -- reaches the postlude
-pub pass-near : (e f g : List ℕ) → Alike f g → endLength ≤ length e → SameAnswers (pass (e ++ f)) (pass (e ++ g))
-    × (reachesReserved (e ++ f) ≡ false → reachesReserved (e ++ g) ≡ false
+pub pass-near : (e f g : List ℕ) → Alike f g → end_length ≤ length e → SameAnswers (pass (e ++ f)) (pass (e ++ g))
+    × (reaches_reserved (e ++ f) ≡ false → reaches_reserved (e ++ g) ≡ false
     → (x : List ℕ) × ((pass (e ++ f)).text ≡ x ++ f) × ((pass (e ++ g)).text ≡ x ++ g))
-unfolding simplePass
+unfolding simple_pass
 pass-near e f g a h =
-    let p = moreThanOneSyllable-near e f g a in
+    let p = more_than_one_syllable-near e f g a in
     let k = kept_near e f g a h in
-    rw (pass-simple (e ++ f), pass-simple (e ++ g), reachesReserved-simple (e ++ f), reachesReserved-simple (e ++ g))
-    (elim (dichotomy (moreThanOneSyllable (e ++ g))) [
+    rw (pass-simple (e ++ f), pass-simple (e ++ g), reaches_reserved-simple (e ++ f), reaches_reserved-simple (e ++ g))
+    (elim (dichotomy (more_than_one_syllable (e ++ g))) [
       | inl s ↦ rw (p, s) (record { syllable = refl; yes = refl; flag = refl }, λ i j. (e, refl, refl))
       | inr s ↦
           rw (p, s, stage-near e f g a h, k.2, k.3)

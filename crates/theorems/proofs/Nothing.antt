@@ -9,29 +9,29 @@ use native.Mathlib.Omega.{arith}
 use lib.ListN.{length, drop, length-drop}
 use lib.Seq.{drop-cons}
 use lib.Dec.{eqb, eqb-suc-zero}
-use Rattle.encoding.specs.Encoding.{encode, encodeAll, decode, continuation}
-use Rattle.utf8.specs.Characters.{width, goesOn, lastWidth, char_at, lastChar, beforeWithin, before}
+use Rattle.encoding.specs.Encoding.{encode, encode_all, decode, continuation}
+use Rattle.utf8.specs.Characters.{width, goes_on_of, last_width_of, char_at, last_char, before_within, before}
 use Rattle.utf8.specs.Steps.{same}
 use Rattle.utf8.proofs.Laws.Characters.{before-zero, before-step, before_back}
 use Rattle.turkish.specs.Letters.{text, any, has, starts}
 use Rattle.turkish.specs.Letters
-use Rattle.turkish.specs.Vowels.{vowels, vowel, lastVowel, beforeLastVowel}
-use Rattle.theorems.specs.Simple.Harmony.{partnerTable, partnersIn, partner, harmonyFound, isFound, harmony}
+use Rattle.turkish.specs.Vowels.{vowels, vowel, last_vowel_of, before_last_vowel}
+use Rattle.theorems.specs.Simple.Harmony.{partner_table, partners_in, partner, harmony_found, is_found, harmony}
 use Rattle.theorems.specs.Simple.Grammar.{more, after, first, asking, among, joining, mark_of, mark, ◌or◌, try, run}
-use Rattle.theorems.specs.Simple.Marks.{unjoined, byY, marked, yUm, sUn, yUz, sUnUz, lAr, nUz, DUr, cAsInA, yDU, ysA, ymUs, yken}
-use Rattle.theorems.specs.Simple.Stage.{branch1, branch2, branch3, branch4, branch5, branch6, branches, staged, stage, kept, keptLength}
+use Rattle.theorems.specs.Simple.Marks.{unjoined, by_y, marked, yUm, sUn, yUz, sUnUz, lAr, nUz, DUr, cAsInA, yDU, ysA, ymUs, yken}
+use Rattle.theorems.specs.Simple.Stage.{branch1, branch2, branch3, branch4, branch5, branch6, branches, staged, stage, kept, kept_length}
 use Rattle.turkish.specs.Calls.{chars, bytes, accepted}
-use Rattle.theorems.specs.Fronts.{leftEmpty, one_of}
+use Rattle.theorems.specs.Fronts.{left_empty, one_of}
 use Rattle.theorems.proofs.Laws.Outcome.{Post, post-map, post-first, post-then}
 use Rattle.theorems.proofs.Laws.Accepted.{bytes-chars}
-use Rattle.theorems.proofs.Laws.Same.{oneOf-every}
+use Rattle.theorems.proofs.Laws.Same.{one_of-every}
 use Rattle.theorems.proofs.Laws.Tests.{every}
 use Rattle.theorems.proofs.Laws.Leaves.{mark-leaves, unharmonic, spares, leaves, run-leaves, staged-leaves}
 
 -- branch 5 leaves a character of a text that is no key of sUnUz
 branch5-leaves : (cs : List ℕ) → one_of sUnUz.keys cs ≡ false → Post (λ k. k + 1 ≤ length cs) (run branch5 cs)
-unfolding run branch5 try leaves spares every unharmonic harmony harmonyFound isFound any partner has partnersIn partnerTable lastVowel beforeLastVowel vowel vowels
-    text Letters.fromEnd unjoined byY marked yUm sUn yUz sUnUz ymUs
+unfolding run branch5 try leaves spares every unharmonic harmony harmony_found is_found any partner has partners_in partner_table last_vowel_of before_last_vowel vowel vowels
+    text Letters.from_end unjoined by_y marked yUm sUn yUz sUnUz ymUs
 branch5-leaves cs h =
     post-then
     (post-first (mark-leaves sUnUz cs 1 (omega arith) (λ t o. absurd (false≢true (sym h ∙ o)))) (run-leaves (mark yUz or mark sUn or mark yUm) 0 cs (omega arith)))
@@ -39,8 +39,8 @@ branch5-leaves cs h =
 
 -- and so does the stage, as the other branches leave one of every text
 branches-leaves : (cs : List ℕ) → one_of sUnUz.keys cs ≡ false → Post (λ k. k + 1 ≤ length cs) (run branches cs)
-unfolding run branches branch1 branch2 branch3 branch4 branch6 try leaves spares every unharmonic harmony harmonyFound isFound any partner has partnersIn partnerTable lastVowel beforeLastVowel vowel vowels
-    text Letters.fromEnd unjoined byY marked lAr DUr yDU ysA ymUs yken
+unfolding run branches branch1 branch2 branch3 branch4 branch6 try leaves spares every unharmonic harmony harmony_found is_found any partner has partners_in partner_table last_vowel_of before_last_vowel vowel vowels
+    text Letters.from_end unjoined by_y marked lAr DUr yDU ysA ymUs yken
 branches-leaves cs h =
     let z : 0 ≤ length cs = omega arith in
     post-first (run-leaves branch1 0 cs z)
@@ -59,8 +59,8 @@ kept-others (c ∷ cs) h =
 
 -- nothing is kept of nothing, nor of a key of sUnUz
 kept-keys : every (λ cs. same (kept cs) []) ([] ∷ sUnUz.keys) ≡ true
-unfolding kept stage staged run branches branch1 branch2 branch3 branch4 branch5 branch6 try same every harmony harmonyFound isFound any partner has partnersIn partnerTable
-    lastVowel beforeLastVowel vowel vowels text Letters.fromEnd unjoined byY marked yUm sUn yUz sUnUz lAr nUz DUr cAsInA yDU ysA ymUs yken starts among joining mark_of more after first asking
+unfolding kept stage staged run branches branch1 branch2 branch3 branch4 branch5 branch6 try same every harmony harmony_found is_found any partner has partners_in partner_table
+    last_vowel_of before_last_vowel vowel vowels text Letters.from_end unjoined by_y marked yUm sUn yUz sUnUz lAr nUz DUr cAsInA yDU ysA ymUs yken starts among joining mark_of more after first asking
 kept-keys = refl
 
 -- the stage keeps nothing exactly of nothing and of the keys of sUnUz
@@ -68,7 +68,7 @@ kept-nothing : (cs : List ℕ) → same (kept cs) [] ≡ one_of ([] ∷ sUnUz.ke
 kept-nothing cs = go (one_of ([] ∷ sUnUz.keys) cs) refl
   where
     go : (t : Bool) → one_of ([] ∷ sUnUz.keys) cs ≡ t → same (kept cs) [] ≡ t
-    go true e = oneOf-every (λ x. same (kept x) []) ([] ∷ sUnUz.keys) cs kept-keys e
+    go true e = one_of-every (λ x. same (kept x) []) ([] ∷ sUnUz.keys) cs kept-keys e
     go false e = kept-others cs e
 
 -- no character stands before a place exactly where it is the word's start
@@ -78,25 +78,25 @@ before-nothing w zero = rw before-zero
 before-nothing w (suc p) = rw (before-step w (suc p) (omega arith), eqb-suc-zero)
 
 -- nothing and the keys of sUnUz as bytes are the five words
-bytes-keys : every (λ cs. one_of leftEmpty (bytes cs)) ([] ∷ sUnUz.keys) ≡ true
-unfolding every one_of same leftEmpty text bytes encodeAll encode sUnUz marked Letters.fromEnd
+bytes-keys : every (λ cs. one_of left_empty (bytes cs)) ([] ∷ sUnUz.keys) ≡ true
+unfolding every one_of same left_empty text bytes encode_all encode sUnUz marked Letters.from_end
 bytes-keys = refl
 
 -- and the five words as characters are those
-chars-words : every (λ w. one_of ([] ∷ sUnUz.keys) (chars w)) leftEmpty ≡ true
-unfolding every one_of same leftEmpty text encodeAll encode sUnUz marked Letters.fromEnd chars before beforeWithin lastChar lastWidth width goesOn continuation char_at decode
+chars-words : every (λ w. one_of ([] ∷ sUnUz.keys) (chars w)) left_empty ≡ true
+unfolding every one_of same left_empty text encode_all encode sUnUz marked Letters.from_end chars before before_within last_char last_width_of width goes_on_of continuation char_at decode
 chars-words = refl
 
 -- an accepted word is one of the five exactly where its characters are nothing or a key of sUnUz
-words-keys : (w : List ℕ) → accepted w ≡ true → one_of ([] ∷ sUnUz.keys) (chars w) ≡ one_of leftEmpty w
+words-keys : (w : List ℕ) → accepted w ≡ true → one_of ([] ∷ sUnUz.keys) (chars w) ≡ one_of left_empty w
 words-keys w a =
-    partial_order_laws.le_antisymm (one_of ([] ∷ sUnUz.keys) (chars w)) (one_of leftEmpty w)
-    (λ o. rw (bytes-chars w a) at (oneOf-every (λ cs. one_of leftEmpty (bytes cs)) ([] ∷ sUnUz.keys) (chars w) bytes-keys o))
-    (oneOf-every (λ x. one_of ([] ∷ sUnUz.keys) (chars x)) leftEmpty w chars-words)
+    partial_order_laws.le_antisymm (one_of ([] ∷ sUnUz.keys) (chars w)) (one_of left_empty w)
+    (λ o. rw (bytes-chars w a) at (one_of-every (λ cs. one_of left_empty (bytes cs)) ([] ∷ sUnUz.keys) (chars w) bytes-keys o))
+    (one_of-every (λ x. one_of ([] ∷ sUnUz.keys) (chars x)) left_empty w chars-words)
 
 -- the stage leaves nothing of an accepted word exactly where it is one of the five
-pub left-empty : (w : List ℕ) → accepted w ≡ true → eqb (keptLength w) 0 ≡ one_of leftEmpty w
-unfolding keptLength kept chars
+pub left-empty : (w : List ℕ) → accepted w ≡ true → eqb (kept_length w) 0 ≡ one_of left_empty w
+unfolding kept_length kept chars
 left-empty w a =
-    sym (before-nothing w (keptLength w)) ∙ ap (λ (l : List ℕ). same l []) (before_back w (length w) (stage (chars w)).removed)
+    sym (before-nothing w (kept_length w)) ∙ ap (λ (l : List ℕ). same l []) (before_back w (length w) (stage (chars w)).removed)
     ∙ kept-nothing (chars w) ∙ words-keys w a

@@ -9,23 +9,23 @@ use mathlib.Core.Logic.{◌↔◌}
 use native.Mathlib.Omega.{arith}
 use lib.ListN.{length, take, drop, take-append-drop, length-drop}
 use lib.Seq.{length-take-le, drop-drop}
-use Rattle.encoding.specs.Encoding.{encode, encodeAll}
+use Rattle.encoding.specs.Encoding.{encode, encode_all}
 use Rattle.encoding.proofs.Laws.Decoding.{length_encode_pos}
 use Rattle.utf8.specs.Characters.{back}
 use Rattle.utf8.proofs.Laws.Characters.{back-le}
 use Rattle.utf8.proofs.TextCharacters.{take_back}
-use Rattle.turkish.specs.Letters.{text, fromEnd}
-use Rattle.theorems.specs.Simple.Nouns.{Rest, restText, isCut, nounLeaves, nounYes}
-use Rattle.turkish.specs.Answers.{nounStage}
-use Rattle.turkish.specs.Calls.{chars, bytes, accepted, nounText}
+use Rattle.turkish.specs.Letters.{text, from_end}
+use Rattle.theorems.specs.Simple.Nouns.{Rest, rest_text, is_cut, noun_leaves, noun_yes}
+use Rattle.turkish.specs.Answers.{noun_stage}
+use Rattle.turkish.specs.Calls.{chars, bytes, accepted, noun_text}
 use Rattle.theorems.specs.NounParts.{staying, NounPart, front, closed}
 use Rattle.theorems.proofs.Laws.Words.{bytes-append, length-bytes-cons}
 use Rattle.theorems.proofs.Laws.Accepted.{accepted-text, bytes-chars}
-use Rattle.theorems.proofs.Laws.Same.{oneOf-mem}
-use Rattle.theorems.proofs.Laws.NounText.{staying as stayingChars, Rests, all, shorter, closer, nounRest-rests, noun-no-keeps, Shape, noun-shape}
+use Rattle.theorems.proofs.Laws.Same.{one_of-mem}
+use Rattle.theorems.proofs.Laws.NounText.{staying as staying_chars, Rests, all, shorter, closer, noun_rest-rests, noun-no-keeps, Shape, noun-shape}
 use Rattle.theorems.proofs.Laws.NounText as NounText
-use Rattle.theorems.proofs.Source.NounStage.{nounStage-simple}
-use Rattle.theorems.proofs.Source.Calls.{nounText-simple}
+use Rattle.theorems.proofs.Source.NounStage.{noun_stage-simple}
+use Rattle.theorems.proofs.Source.Calls.{noun_text-simple}
 use Rattle.theorems.proofs.Sizes.{bytes-parts}
 
 -- ---- parts of a word ----
@@ -58,8 +58,8 @@ length_front w a n = ap length (bytes-front w a n) ∙ length-take-le (back w (l
 -- ---- the noun stage's text ----
 
 -- a front part of the word, or one with the word's own last na, ne, nda or nde behind it
-pub nounText-part : (w : List ℕ) → accepted w ≡ true → NounPart w (nounText w)
-nounText-part w a = rw (nounText-simple w) (go (noun-shape cs))
+pub noun_text-part : (w : List ℕ) → accepted w ≡ true → NounPart w (noun_text w)
+noun_text-part w a = rw (noun_text-simple w) (go (noun-shape cs))
   where
     cs : List ℕ
     cs = chars w
@@ -68,17 +68,17 @@ nounText-part w a = rw (nounText-simple w) (go (noun-shape cs))
     go (NounText.front k h e) = front (back w (length w) k) (back-le w (length w) k) (ap bytes e ∙ bytes-front w a k)
     go (NounText.closed j k o h l e) =
         closed (back w (length w) (j + k)) (bytes (drop j cs)) (bytes (take j cs))
-        (unfold staying stayingChars bytes encodeAll encode fromEnd text in Memᴰ.map bytes (oneOf-mem stayingChars (take j cs) o))
+        (unfold staying staying_chars bytes encode_all encode from_end text in Memᴰ.map bytes (one_of-mem staying_chars (take j cs) o))
         (sym (bytes-chars w a) ∙ bytes-split j cs)
         (rw (← length_front w a (j + k)) (bytes-closer j k cs h l))
         (ap bytes e ∙ bytes-append (take j cs) (drop (j + k) cs) ∙ ap (λ (x : List ℕ). x ++ bytes (take j cs)) (bytes-front w a (j + k)))
 
 -- where it says yes, it has fewer bytes
-yes-fewer : (cs : List ℕ) → nounYes cs ≡ true → length (bytes (nounLeaves cs)) < length (bytes cs)
-unfolding nounYes nounLeaves isCut restText
-yes-fewer cs = go (nounRest-rests cs)
+yes-fewer : (cs : List ℕ) → noun_yes cs ≡ true → length (bytes (noun_leaves cs)) < length (bytes cs)
+unfolding noun_yes noun_leaves is_cut rest_text
+yes-fewer cs = go (noun_rest-rests cs)
   where
-    go : {r : Rest} → Rests cs r → isCut r ≡ true → length (bytes (restText r cs)) < length (bytes cs)
+    go : {r : Rest} → Rests cs r → is_cut r ≡ true → length (bytes (rest_text r cs)) < length (bytes cs)
     go all e = absurd (false≢true e)
     go (shorter k p q) e = omega (arith, bytes-fewer k cs q)
     go (closer j k o p q) e =
@@ -87,15 +87,15 @@ yes-fewer cs = go (nounRest-rests cs)
         omega (arith, bytes-parts (take j cs) (drop (j + k) cs), bytes-closer j k cs p q)
 
 -- so it says yes exactly where the text is another one
-pub nounText-changes : (w : List ℕ) → accepted w ≡ true → ((nounStage (chars w)).yes ≡ true) ↔ (nounText w ≡ w → ⊥)
-nounText-changes w a = rw (nounText-simple w, nounStage-simple cs) (there, go (nounYes cs) refl)
+pub noun_text-changes : (w : List ℕ) → accepted w ≡ true → ((noun_stage (chars w)).yes ≡ true) ↔ (noun_text w ≡ w → ⊥)
+noun_text-changes w a = rw (noun_text-simple w, noun_stage-simple cs) (there, go (noun_yes cs) refl)
   where
     cs : List ℕ
     cs = chars w
 
-    there : nounYes cs ≡ true → bytes (nounLeaves cs) ≡ w → ⊥
+    there : noun_yes cs ≡ true → bytes (noun_leaves cs) ≡ w → ⊥
     there e p = let l = ap length (p ∙ sym (bytes-chars w a)) in omega (arith, yes-fewer cs e)
 
-    go : (t : Bool) → nounYes cs ≡ t → (bytes (nounLeaves cs) ≡ w → ⊥) → t ≡ true
+    go : (t : Bool) → noun_yes cs ≡ t → (bytes (noun_leaves cs) ≡ w → ⊥) → t ≡ true
     go true e n = refl
     go false e n = absurd (n (ap bytes (noun-no-keeps cs e) ∙ bytes-chars w a))

@@ -9,8 +9,8 @@ use lib.Dec.{eqb}
 use borrow.Author.Tests.{eqb-true}
 use Rattle.encoding.proofs.Laws.Booleans.{and_left, and_right, and-each}
 use Rattle.turkish.specs.Letters.{text, tab, lf}
-use Rattle.turkish.specs.Pieces.{kindNames, numberFrom, kindName}
-use Rattle.turkish.specs.PieceCalls.{Span, lettersOf, pieceLine, text_of}
+use Rattle.turkish.specs.Pieces.{kind_names, number_from, kind_name}
+use Rattle.turkish.specs.PieceCalls.{Span, letters_of, piece_line, text_of}
 use Rattle.theorems.proofs.Laws.Tests.{every}
 use Rattle.theorems.proofs.Laws.Members.{without, without-append, cut-first}
 
@@ -18,18 +18,18 @@ use Rattle.theorems.proofs.Laws.Members.{without, without-append, cut-first}
 
 -- the kind that a name is of
 unfoldable pub number_of : List ℕ → ℕ
-number_of n = numberFrom 1 (map text kindNames) n
+number_of n = number_from 1 (map text kind_names) n
 
 -- a kind's name tells it, and has neither a tab nor an LF
 unfoldable pub named : ℕ → Bool
-named k = eqb (number_of (kindName k)) k && without tab (kindName k) && without lf (kindName k)
+named k = eqb (number_of (kind_name k)) k && without tab (kind_name k) && without lf (kind_name k)
 
 -- what that says
-named-tells : (k : ℕ) → named k ≡ true → (number_of (kindName k) ≡ k) × (without tab (kindName k) ≡ true) × (without lf (kindName k) ≡ true)
+named-tells : (k : ℕ) → named k ≡ true → (number_of (kind_name k) ≡ k) × (without tab (kind_name k) ≡ true) × (without lf (kind_name k) ≡ true)
 unfolding named
 named-tells k h =
-    let a = and-each (eqb (number_of (kindName k)) k) (without tab (kindName k)) (without lf (kindName k)) h in
-    (eqb-true (number_of (kindName k)) k a.0, a.1, a.2)
+    let a = and-each (eqb (number_of (kind_name k)) k) (without tab (kind_name k)) (without lf (kind_name k)) h in
+    (eqb-true (number_of (kind_name k)) k a.0, a.1, a.2)
 
 -- ---- lines ----
 
@@ -40,18 +40,18 @@ pub record Entry : Type 0 where
 
 -- what a piece's line tells
 abbrev pub entry_of : List ℕ → Span → Entry
-entry_of w p = record { kind = p.kind; letters = lettersOf w p }
+entry_of w p = record { kind = p.kind; letters = letters_of w p }
 
 -- a line's bytes up to its LF, and all of them
 body_of : Entry → List ℕ
-body_of e = kindName e.kind ++ (tab ∷ e.letters)
+body_of e = kind_name e.kind ++ (tab ∷ e.letters)
 
 pub line_of : Entry → List ℕ
 line_of e = body_of e ++ (lf ∷ [])
 
 -- these are a piece's
-pub line-entry : (w : List ℕ) (p : Span) → pieceLine w p ≡ line_of (entry_of w p)
-unfolding pieceLine line_of body_of
+pub line-entry : (w : List ℕ) (p : Span) → piece_line w p ≡ line_of (entry_of w p)
+unfolding piece_line line_of body_of
 line-entry w p = simp append_assoc
 
 -- a line tells its kind and its letters: the name ends at the first tab, and the letters at the last LF
@@ -61,7 +61,7 @@ line-tells e f m n q =
     let a = named-tells e.kind m in
     let b = named-tells f.kind n in
     let body : body_of e ≡ body_of f = append_cancel_right (body_of e) (body_of f) (lf ∷ []) q in
-    let r = cut-first tab (kindName e.kind) (kindName f.kind) e.letters f.letters a.1 b.1 body in
+    let r = cut-first tab (kind_name e.kind) (kind_name f.kind) e.letters f.letters a.1 b.1 body in
     let k : e.kind ≡ f.kind = sym a.0 ∙ ap number_of r.0 ∙ b.0 in
     λ i. record { kind = k i; letters = r.1 i }
 

@@ -12,18 +12,18 @@ use Rattle.encoding.specs.Text.{TextOf}
 use Rattle.encoding.proofs.Laws.Booleans.{cond-test}
 use Rattle.utf8.proofs.Laws.Characters.{back-le}
 use Rattle.utf8.proofs.TextCharacters.{take_back}
-use Rattle.turkish.specs.Vowels.{lastVowel}
-use Rattle.theorems.specs.Simple.Harmony.{moreThanOneSyllable}
-use Rattle.theorems.specs.Simple.Stage.{stage, kept, keptLength}
-use Rattle.theorems.specs.Simple.Postlude.{reserved, gained, appends, appendU, hard, harden, postlude}
+use Rattle.turkish.specs.Vowels.{last_vowel_of}
+use Rattle.theorems.specs.Simple.Harmony.{more_than_one_syllable}
+use Rattle.theorems.specs.Simple.Stage.{stage, kept, kept_length}
+use Rattle.theorems.specs.Simple.Postlude.{reserved, gained, appends, append_U, hard, harden, postlude}
 use Rattle.theorems.specs.Simple.Nouns as nouns
-use Rattle.theorems.specs.Simple.Nouns.{Rest, whole, cut, parted, nounRest, restText}
+use Rattle.theorems.specs.Simple.Nouns.{Rest, whole, cut, parted, noun_rest, rest_text}
 use Rattle.theorems.specs.Simple.WholeRun as runs
 use Rattle.turkish.specs.WordPass.{Passed, pass}
-use Rattle.turkish.specs.Calls.{chars, bytes, accepted, stageText, stagePart, postludeText, passText, nounText, wholeText}
+use Rattle.turkish.specs.Calls.{chars, bytes, accepted, stage_text, stage_part_of, postlude_text, pass_text, noun_text, whole_text}
 use Rattle.theorems.proofs.Laws.Accepted.{accepted-text, bytes-chars}
 use Rattle.theorems.proofs.Laws.Words.{bytes-append, length-bytes-cons}
-use Rattle.theorems.proofs.Source.Calls.{suffixStage-text, postludeOf-text, simplePass, pass-simple, nounText-simple, wholeText-simple}
+use Rattle.theorems.proofs.Source.Calls.{suffix_stage-text, postlude_of-text, simple_pass, pass-simple, noun_text-simple, whole_text-simple}
 use Rattle.theorems.proofs.PostludeRules.{gained-elim, hard-elim, postlude-one}
 
 -- ---- characters ----
@@ -51,12 +51,12 @@ abbrev TwoMore : List ℕ → List ℕ → Type 0
 TwoMore cs ds = length (bytes ds) ≤ length (bytes cs) + 2
 
 -- a gained vowel adds two bytes at most
-appendU-size : (cs : List ℕ) → TwoMore cs (appendU cs)
-unfolding appendU
-appendU-size [] = omega arith
-appendU-size (c ∷ cs) =
+append_U-size : (cs : List ℕ) → TwoMore cs (append_U cs)
+unfolding append_U
+append_U-size [] = omega arith
+append_U-size (c ∷ cs) =
     cond-test (TwoMore (c ∷ cs)) (appends (c ∷ cs))
-    (λ e. omega (arith, length-bytes-cons (gained (lastVowel cs)) (c ∷ cs), gained-size (lastVowel cs)))
+    (λ e. omega (arith, length-bytes-cons (gained (last_vowel_of cs)) (c ∷ cs), gained-size (last_vowel_of cs)))
     (omega arith)
 
 -- so does a hardened consonant
@@ -69,7 +69,7 @@ harden-size (c ∷ cs) = omega (arith, length-bytes-cons c cs, length-bytes-cons
 postlude-size : (cs : List ℕ) → TwoMore cs (postlude cs)
 postlude-size cs =
     rw (postlude-one cs)
-    (cond-test (TwoMore cs) (reserved cs) (λ e. omega arith) (cond-test (TwoMore cs) (appends cs) (λ e. appendU-size cs) (harden-size cs)))
+    (cond-test (TwoMore cs) (reserved cs) (λ e. omega arith) (cond-test (TwoMore cs) (appends cs) (λ e. append_U-size cs) (harden-size cs)))
 
 -- two parts of a text take the bytes of both
 pub bytes-parts : (ds es : List ℕ) → length (bytes (ds ++ es)) ≡ length (bytes ds) + length (bytes es)
@@ -78,11 +78,11 @@ bytes-parts ds es =
     omega arith
 
 -- the noun stage adds none
-noun-size : (cs : List ℕ) → length (bytes (nouns.nounLeaves cs)) ≤ length (bytes cs)
-unfolding nouns.nounLeaves restText
-noun-size cs = go (nounRest cs)
+noun-size : (cs : List ℕ) → length (bytes (nouns.noun_leaves cs)) ≤ length (bytes cs)
+unfolding nouns.noun_leaves rest_text
+noun-size cs = go (noun_rest cs)
   where
-    go : (r : Rest) → length (bytes (restText r cs)) ≤ length (bytes cs)
+    go : (r : Rest) → length (bytes (rest_text r cs)) ≤ length (bytes cs)
     go whole = omega arith
     go (cut k) = bytes_drop k cs
     go (parted j k) =
@@ -91,68 +91,68 @@ noun-size cs = go (nounRest cs)
         omega (arith, bytes-parts (take j cs) (drop j cs), bytes-parts (take j cs) (drop (j + k) cs), bytes_drop k (drop j cs))
 
 -- so the whole run adds two at most
-whole-size : (cs : List ℕ) → length (bytes (runs.wholeLeaves cs)) ≤ length (bytes cs) + 2
-unfolding runs.wholeLeaves kept
+whole-size : (cs : List ℕ) → length (bytes (runs.whole_leaves cs)) ≤ length (bytes cs) + 2
+unfolding runs.whole_leaves kept
 whole-size cs =
     let d : length (bytes (kept cs)) ≤ length (bytes cs) = bytes_drop (stage cs).removed cs in
-    cond-test (TwoMore cs) (moreThanOneSyllable cs)
-    (λ e. cond-test (TwoMore cs) (stage cs).flag (λ f. omega (arith, postlude-size (nouns.nounLeaves (kept cs)), noun-size (kept cs))) (omega arith))
+    cond-test (TwoMore cs) (more_than_one_syllable cs)
+    (λ e. cond-test (TwoMore cs) (stage cs).flag (λ f. omega (arith, postlude-size (nouns.noun_leaves (kept cs)), noun-size (kept cs))) (omega arith))
     (omega arith)
 
 -- and so does the pass
 pass-size : (cs : List ℕ) → TwoMore cs (pass cs).text
-unfolding simplePass kept
+unfolding simple_pass kept
 pass-size cs =
     let d : length (bytes (kept cs)) ≤ length (bytes cs) = bytes_drop (stage cs).removed cs in
     rw (pass-simple cs)
-    (cond-test (λ (r : Passed). TwoMore cs r.text) (moreThanOneSyllable cs)
+    (cond-test (λ (r : Passed). TwoMore cs r.text) (more_than_one_syllable cs)
     (λ e. cond-test (TwoMore cs) (stage cs).flag (λ e. omega (arith, postlude-size (kept cs))) (omega arith))
     (omega arith))
 
 -- ---- words ----
 
 -- the postlude's output of n + 2 bytes is long enough
-pub postludeText-size : (w : List ℕ) → accepted w ≡ true → length (postludeText w) ≤ length w + 2
-unfolding postludeText
-postludeText-size w e = rw (postludeOf-text (chars w)) (rw (bytes-chars w e) at (postlude-size (chars w)))
+pub postlude_text-size : (w : List ℕ) → accepted w ≡ true → length (postlude_text w) ≤ length w + 2
+unfolding postlude_text
+postlude_text-size w e = rw (postlude_of-text (chars w)) (rw (bytes-chars w e) at (postlude-size (chars w)))
 
 -- and the pass's
-pub passText-size : (w : List ℕ) → accepted w ≡ true → length (passText w) ≤ length w + 2
-unfolding passText
-passText-size w e = rw (bytes-chars w e) at (pass-size (chars w))
+pub pass_text-size : (w : List ℕ) → accepted w ≡ true → length (pass_text w) ≤ length w + 2
+unfolding pass_text
+pass_text-size w e = rw (bytes-chars w e) at (pass-size (chars w))
 
 -- the noun stage's of n
-pub nounText-size : (w : List ℕ) → accepted w ≡ true → length (nounText w) ≤ length w
-nounText-size w e = rw (nounText-simple w) (rw (bytes-chars w e) at (noun-size (chars w)))
+pub noun_text-size : (w : List ℕ) → accepted w ≡ true → length (noun_text w) ≤ length w
+noun_text-size w e = rw (noun_text-simple w) (rw (bytes-chars w e) at (noun-size (chars w)))
 
 -- and the whole run's of n + 2
-pub wholeText-size : (w : List ℕ) → accepted w ≡ true → length (wholeText w) ≤ length w + 2
-wholeText-size w e = rw (wholeText-simple w) (rw (bytes-chars w e) at (whole-size (chars w)))
+pub whole_text-size : (w : List ℕ) → accepted w ≡ true → length (whole_text w) ≤ length w + 2
+whole_text-size w e = rw (whole_text-simple w) (rw (bytes-chars w e) at (whole-size (chars w)))
 
 -- the bytes of the characters kept are a front of the text
-pub kept-text : (w : List ℕ) → TextOf w → take (keptLength w) w ≡ bytes (kept (chars w))
-unfolding keptLength bytes kept chars
+pub kept-text : (w : List ℕ) → TextOf w → take (kept_length w) w ≡ bytes (kept (chars w))
+unfolding kept_length bytes kept chars
 kept-text w t = take_back w t (stage (chars w)).removed
 
 -- so of the word
-pub kept-bytes : (w : List ℕ) → accepted w ≡ true → take (keptLength w) w ≡ bytes (kept (chars w))
+pub kept-bytes : (w : List ℕ) → accepted w ≡ true → take (kept_length w) w ≡ bytes (kept (chars w))
 kept-bytes w e = kept-text w (accepted-text w e)
 
 -- the text that the stage leaves is that front
-pub stageText-kept : (w : List ℕ) → accepted w ≡ true → stageText w ≡ take (keptLength w) w
-unfolding stageText
-stageText-kept w e = rw (suffixStage-text (chars w)) (sym (kept-bytes w e))
+pub stage_text-kept : (w : List ℕ) → accepted w ≡ true → stage_text w ≡ take (kept_length w) w
+unfolding stage_text
+stage_text-kept w e = rw (suffix_stage-text (chars w)) (sym (kept-bytes w e))
 
 -- and has its length
-pub stageText-length : (w : List ℕ) → accepted w ≡ true → length (stageText w) ≡ keptLength w
-unfolding keptLength
-stageText-length w e = ap length (stageText-kept w e) ∙ length-take-le (keptLength w) w (back-le w (length w) (stage (chars w)).removed)
+pub stage_text-length : (w : List ℕ) → accepted w ≡ true → length (stage_text w) ≡ kept_length w
+unfolding kept_length
+stage_text-length w e = ap length (stage_text-kept w e) ∙ length-take-le (kept_length w) w (back-le w (length w) (stage (chars w)).removed)
 
 -- so it is the word's front of its own length
-pub stageText-front : (w : List ℕ) → accepted w ≡ true → stageText w ≡ take (length (stageText w)) w
-stageText-front w e = stageText-kept w e ∙ ap (λ (n : ℕ). take n w) (sym (stageText-length w e))
+pub stage_text-front : (w : List ℕ) → accepted w ≡ true → stage_text w ≡ take (length (stage_text w)) w
+stage_text-front w e = stage_text-kept w e ∙ ap (λ (n : ℕ). take n w) (sym (stage_text-length w e))
 
 -- and what is handed back is a front of the word
-pub stagePart-front : (w : List ℕ) → stagePart w ≡ take (length (stagePart w)) w
-unfolding stagePart
-stagePart-front w = cond-test (λ s. s ≡ take (length s) w) (accepted w) (stageText-front w) refl
+pub stage_part_of-front : (w : List ℕ) → stage_part_of w ≡ take (length (stage_part_of w)) w
+unfolding stage_part_of
+stage_part_of-front w = cond-test (λ s. s ≡ take (length s) w) (accepted w) (stage_text-front w) refl

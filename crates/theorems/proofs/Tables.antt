@@ -9,15 +9,15 @@ use native.Mathlib.Omega.{arith}
 use lib.ListN.{length, get_or}
 use lib.Dec.{leb, eqb}
 use borrow.Author.Tests.{not-true, leb-true, eqb-true, eq-eqb}
-use Rattle.encoding.specs.Encoding.{encode, encodeAll, continuation}
+use Rattle.encoding.specs.Encoding.{encode, encode_all, continuation}
 use Rattle.encoding.proofs.Laws.Booleans.{and_left, and_right, and-each}
-use Rattle.turkish.specs.Letters.{text, fromEnd, starts}
+use Rattle.turkish.specs.Letters.{text, from_end, starts}
 use Rattle.theorems.specs.Simple.Marks.{marked, yUm, sUn, yUz, sUnUz, lAr, nUz, DUr, cAsInA, yDU, ysA, ymUs, yken}
-use Rattle.theorems.specs.Simple.NounMarks.{lettersU, possessives, sU, lArI, nU, nUn, yA, nA, DA, ndA, DAn, ndAn, ylA, ki, ncA}
-use Rattle.theorems.specs.Simple.Postlude.{hardenings, hardKeys}
+use Rattle.theorems.specs.Simple.NounMarks.{letters_U, possessives, sU, lArI, nU, nUn, yA, nA, DA, ndA, DAn, ndAn, ylA, ki, ncA}
+use Rattle.theorems.specs.Simple.Postlude.{hardenings, hard_keys}
 use Rattle.theorems.specs.Simple.Tables.{Table, tables, nonzero, whole}
 use Rattle.turkish.specs.Calls.{bytes}
-use Rattle.theorems.proofs.Laws.Tests.{every, every-at, every-getD}
+use Rattle.theorems.proofs.Laws.Tests.{every, every-at, every-get_or}
 
 -- ---- the test ----
 
@@ -45,8 +45,8 @@ passes t = whole t.width t.keys && every begins t.keys && apart t.keys
 
 -- every table passes
 tables-pass : every passes tables ≡ true
-unfolding every passes whole nonzero apart neither starts begins begin continuation bytes encodeAll encode tables hardKeys hardenings marked yUm sUn yUz sUnUz lAr nUz DUr cAsInA yDU ysA ymUs yken
-    lettersU possessives sU lArI nU nUn yA nA DA ndA DAn ndAn ylA ki ncA fromEnd text
+unfolding every passes whole nonzero apart neither starts begins begin continuation bytes encode_all encode tables hard_keys hardenings marked yUm sUn yUz sUnUz lAr nUz DUr cAsInA yDU ysA ymUs yken
+    letters_U possessives sU lArI nU nUn yA nA DA ndA DAn ndAn ylA ki ncA from_end text
 tables-pass = refl
 
 -- so each does
@@ -88,7 +88,7 @@ pub apart-at : (n : ℕ) → apart (get_or tables n (record { width = 0; keys = 
 unfolding passes whole every apart
 apart-at n =
     let t = get_or tables n (record { width = 0; keys = [] }) in
-    (and-each (whole t.width t.keys) (every begins t.keys) (apart t.keys) (every-getD passes tables n _ tables-pass refl)).2
+    (and-each (whole t.width t.keys) (every begins t.keys) (apart t.keys) (every-get_or passes tables n _ tables-pass refl)).2
 
 -- of each table at most one key ends a text
 pub one_key : (cs : List ℕ) {t : Table} {j k : List ℕ} → Memᴰ t tables → Memᴰ j t.keys → Memᴰ k t.keys
@@ -116,7 +116,7 @@ begin-start (b ∷ bs) e = (omega arith, not-true (continuation b) e)
 module _ {t : Table} {k : List ℕ} (m : Memᴰ t tables) (i : Memᴰ k t.keys) where
   -- every key has a letter, no more of them than its table's width, and no 0
   pub key-letters : (0 < length k) × (length k ≤ t.width) × (nonzero k ≡ true)
-  unfolding begins begin bytes encodeAll
+  unfolding begins begin bytes encode_all
   key-letters = let f = whole-key t.width (table-whole m) i in (some k (every-at begins (table-passes m).1 i), f.0, f.1)
     where
       some : (k : List ℕ) → begins k ≡ true → 0 < length k

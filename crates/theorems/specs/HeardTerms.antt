@@ -2,11 +2,11 @@
 -- and the key that has the last vowel. Assumes nothing.
 use Rattle.std.specs.Prelude.{ℕ, ◌≤◌, ◌≡◌, Bool, true, false, length}
 use mathlib.Core.List.{List, [], ◌∷◌, ◌++◌, map, Memᴰ}
-use Rattle.encoding.specs.Encoding.{encodeAll}
+use Rattle.encoding.specs.Encoding.{encode_all}
 use Rattle.turkish.specs.Letters.{any, has, starts}
-use Rattle.turkish.specs.Vowels.{vowel, lastVowel}
+use Rattle.turkish.specs.Vowels.{vowel, last_vowel_of}
 use Rattle.turkish.specs.PieceCalls.{Span}
-use Rattle.theorems.specs.Simple.Harmony.{toFirst}
+use Rattle.theorems.specs.Simple.Harmony.{to_first}
 use Rattle.theorems.specs.Simple.Harmony as Harmony
 use Rattle.theorems.specs.Simple.Grammar.{Mark}
 use Rattle.theorems.specs.Simple.Marks.{yUm, sUn, yUz, sUnUz, lAr, nUz, DUr, cAsInA, yDU, ysA, ymUs, yken}
@@ -22,10 +22,10 @@ pub record TwoVowels (w : List ℕ) (last partner end : ℕ) (loan : Bool) : Typ
   pub second : ℕ
   pub tail : List ℕ
   pub rest : List ℕ
-  pub spelled : w ≡ encodeAll (front ++ first ∷ (between ++ second ∷ (tail ++ rest)))
-  pub partner-starts : partner ≡ length (encodeAll front)
-  pub last-starts : last ≡ length (encodeAll (front ++ first ∷ between))
-  pub tail-ends : end ≡ length (encodeAll (front ++ first ∷ (between ++ second ∷ tail)))
+  pub spelled : w ≡ encode_all (front ++ first ∷ (between ++ second ∷ (tail ++ rest)))
+  pub partner-starts : partner ≡ length (encode_all front)
+  pub last-starts : last ≡ length (encode_all (front ++ first ∷ between))
+  pub tail-ends : end ≡ length (encode_all (front ++ first ∷ (between ++ second ∷ tail)))
   pub is-vowel : vowel second ≡ true
   pub none-follows : any vowel tail ≡ false
   pub is-partner : Harmony.partner second first ≡ true
@@ -33,12 +33,12 @@ pub record TwoVowels (w : List ℕ) (last partner end : ℕ) (loan : Bool) : Typ
   pub candidate : loan ≡ any vowel between
 
 -- the kinds whose marks test harmony: all but sUnUz, cAsInA, ysA and yken
-unfoldable pub testsHarmony : ℕ → Bool
-testsHarmony k = has (1 ∷ 2 ∷ 3 ∷ 5 ∷ 6 ∷ 7 ∷ 9 ∷ 11 ∷ []) k
+unfoldable pub tests_harmony : ℕ → Bool
+tests_harmony k = has (1 ∷ 2 ∷ 3 ∷ 5 ∷ 6 ∷ 7 ∷ 9 ∷ 11 ∷ []) k
 
 -- the endings none of whose pieces does: no ending, and sUnUz, ysA or yken alone, told by their kinds
-abbrev pub untestedEndings : List (List ℕ)
-untestedEndings = [] ∷ (4 ∷ []) ∷ (10 ∷ []) ∷ (12 ∷ []) ∷ []
+abbrev pub untested_endings : List (List ℕ)
+untested_endings = [] ∷ (4 ∷ []) ∷ (10 ∷ []) ∷ (12 ∷ []) ∷ []
 
 -- the kinds of some pieces
 abbrev pub kinds : List Span → List ℕ
@@ -50,14 +50,14 @@ pub record FirstHarmonic (ps : List Span) (byte : ℕ) : Type 0 where
   pub it : Span
   pub behind : List Span
   pub pieces : ps ≡ before ++ it ∷ behind
-  pub untested : any testsHarmony (kinds before) ≡ false
-  pub tested : testsHarmony it.kind ≡ true
+  pub untested : any tests_harmony (kinds before) ≡ false
+  pub tested : tests_harmony it.kind ≡ true
   pub begins : it.first ≤ byte
   pub ends : byte ≤ it.last
 
 -- the 27 marks: twelve of the suffix stage, and fifteen of the noun stage besides lAr
-unfoldable pub allMarks : List Mark
-allMarks =
+unfoldable pub all_marks : List Mark
+all_marks =
     yUm ∷ sUn ∷ yUz ∷ sUnUz ∷ lAr ∷ nUz ∷ DUr ∷ cAsInA ∷ yDU ∷ ysA ∷ ymUs ∷ yken
     ∷ possessives ∷ sU ∷ lArI ∷ yU ∷ nU ∷ nUn ∷ yA ∷ nA ∷ DA ∷ ndA ∷ DAn ∷ ndAn ∷ ylA ∷ ki ∷ ncA ∷ []
 
@@ -68,5 +68,5 @@ pub record KeyVowel (keys : List (List ℕ)) (cs : List ℕ) (taken : ℕ) : Typ
   pub ends : starts key cs ≡ true
   pub key-taken : length key ≤ taken
   pub has-vowel : any vowel key ≡ true
-  pub its-vowel : lastVowel cs ≡ lastVowel key
-  pub vowel-in-key : toFirst vowel cs ≤ length key
+  pub its-vowel : last_vowel_of cs ≡ last_vowel_of key
+  pub vowel-in-key : to_first vowel cs ≤ length key

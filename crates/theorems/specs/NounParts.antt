@@ -2,12 +2,12 @@
 use Rattle.std.specs.Prelude.{ℕ, ◌≤◌, ◌<◌, ◌≡◌, length, take}
 use Prim.Native.String.{String}
 use mathlib.Core.List.{List, [], ◌∷◌, ◌++◌, map, Memᴰ}
-use Rattle.encoding.specs.Encoding.{encodeAll}
+use Rattle.encoding.specs.Encoding.{encode_all}
 use Rattle.turkish.specs.Letters.{text}
 
 -- the letters that may stay behind a cut, in bytes
 unfoldable pub staying : List (List ℕ)
-staying = map (λ (s : String). encodeAll (text s)) ("na" ∷ "ne" ∷ "nda" ∷ "nde" ∷ [])
+staying = map (λ (s : String). encode_all (text s)) ("na" ∷ "ne" ∷ "nda" ∷ "nde" ∷ [])
 
 -- s is a front part of the word w; or a front part followed by the word's own last na, ne, nda or nde, what stood between being cut
 pub data NounPart (w s : List ℕ) : Type 0 where

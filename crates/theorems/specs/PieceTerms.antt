@@ -1,7 +1,7 @@
 -- The terms of the theorems on the pieces of an ending (document 02, request 1): pieces end to end, the bytes that they cover and spell, and the
 -- most that are removed. Assumes nothing.
 use Rattle.std.specs.Prelude.{ℕ, ◌+◌, ◌≤◌, ◌≡◌, cond, ◌&&◌, List, [], ◌∷◌, ◌++◌, ltb, leb}
-use Rattle.turkish.specs.PieceCalls.{Span, lettersOf}
+use Rattle.turkish.specs.PieceCalls.{Span, letters_of}
 
 -- pieces that lie end to end from one offset down to another: none is empty, and each ends where the one before it begins
 pub data EndToEnd : ℕ → List Span → ℕ → Type 0 where
@@ -20,8 +20,8 @@ covering i (p ∷ ps) = between p.first (p.last + 1) i + covering i ps
 -- the pieces' own bytes, in the word's order: the last one kept stands first
 unfoldable pub spelled : List ℕ → List Span → List ℕ
 spelled w [] = []
-spelled w (p ∷ ps) = spelled w ps ++ lettersOf w p
+spelled w (p ∷ ps) = spelled w ps ++ letters_of w p
 
 -- the most bytes that the suffix stage removes
-unfoldable pub mostBytes : ℕ
-mostBytes = 20
+unfoldable pub most_bytes : ℕ
+most_bytes = 20

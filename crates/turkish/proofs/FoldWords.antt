@@ -5,13 +5,13 @@ use Prim.Native.String.{String}
 use mathlib.Core.Path.{◌≡◌, refl}
 use mathlib.Core.List.{List, [], ◌∷◌, ◌++◌, map}
 use lib.ListN.{length, replicate}
-use Rattle.encoding.specs.Encoding.{encode, encodeAll, decode, continuation}
-use Rattle.encoding.specs.Validity.{table37, due, refused, leadIn, lead, next, accepts, isText}
-use Rattle.utf8.specs.Characters.{width, goesOn, lastWidth, char_at, lastChar, beforeWithin, before}
+use Rattle.encoding.specs.Encoding.{encode, encode_all, decode, continuation}
+use Rattle.encoding.specs.Validity.{table37, due, refused, lead_in, lead, next, accepts, is_text}
+use Rattle.utf8.specs.Characters.{width, goes_on_of, last_width_of, char_at, last_char, before_within, before}
 use Rattle.turkish.specs.declared.answer.FoldAnswer.{FoldAnswer}
 use Rattle.turkish.specs.Letters.{text}
-use Rattle.turkish.specs.Fold.{capitals01, capitals, foldBy, foldChar, fold}
-use Rattle.turkish.specs.Calls.{chars, bytes, limit, refusal, refusalShort, accepted, written, foldText, foldRefusal, foldCall, foldOut}
+use Rattle.turkish.specs.Fold.{capitals01, capitals, fold_by, fold_char, fold}
+use Rattle.turkish.specs.Calls.{chars, bytes, limit, refusal, refusal_short_of, accepted, written, fold_text, fold_refusal, fold_call, fold_out}
 use Rattle.turkish.proofs.Starred.{word}
 
 -- a heading and its folded text
@@ -29,7 +29,7 @@ pub record Given : Type 0 where
 
 -- the fold of a heading into an output of `room` bytes, here stars
 unfoldable pub into : ℕ → Row → Given
-into room r = record { answer = foldCall (word r.heading) room; output = foldOut (word r.heading) (replicate room 0x2A) }
+into room r = record { answer = fold_call (word r.heading) room; output = fold_out (word r.heading) (replicate room 0x2A) }
 
 -- into one byte more than the folded text has, which stays
 unfoldable pub longer : Row → Given
@@ -69,6 +69,6 @@ Folded rows = (map longer rows ≡ map filled rows) × (map shorter rows ≡ map
 -- every heading of the table, computed from the definitions
 pub words-met : Folded table
 unfolding table longer filled shorter refused3 into word
-    foldCall foldOut foldRefusal foldText refusalShort accepted refusal limit written chars bytes fold foldChar foldBy capitals capitals01
-    encodeAll encode decode isText accepts next lead leadIn table37 due refused before beforeWithin lastChar char_at lastWidth width goesOn continuation text
+    fold_call fold_out fold_refusal fold_text refusal_short_of accepted refusal limit written chars bytes fold fold_char fold_by capitals capitals01
+    encode_all encode decode is_text accepts next lead lead_in table37 due refused before before_within last_char char_at last_width_of width goes_on_of continuation text
 words-met = (refl, refl)

@@ -2,7 +2,7 @@
 -- stage backwards at the word's end, the syllable check, the postlude and the whole run forwards at its start. A word is the list of its characters, the last one first. Assumes nothing.
 use Rattle.std.specs.Prelude.{ℕ, Bool, true, false, List, reverse}
 use Rattle.turkish.specs.Snowball.{State, Result, done, failed, Direction, forward, backward, Command, run}
-use Rattle.turkish.specs.Source.{stem-nominal-verb-suffixes, stem-noun-suffixes, more-than-one-syllable-word, postlude, stem}
+use Rattle.turkish.specs.Source.{stem_nominal_verb_suffixes, stem_noun_suffixes, more_than_one_syllable_word, postlude, stem}
 
 -- a text at its first character, with nothing set; no answer depends on what is set
 unfoldable pub entered : List ℕ → State
@@ -22,8 +22,8 @@ left (done s) = s
 left (failed s) = s
 
 -- more_than_one_syllable_word: yes or no
-unfoldable pub syllableCheck : List ℕ → Bool
-syllableCheck cs = succeeded (called forward more-than-one-syllable-word (entered (reverse cs)))
+unfoldable pub syllable_check : List ℕ → Bool
+syllable_check cs = succeeded (called forward more_than_one_syllable_word (entered (reverse cs)))
 
 -- stem_nominal_verb_suffixes: yes or no, the text it leaves, and the flag
 pub record Stemmed : Type 0 where
@@ -34,8 +34,8 @@ pub record Stemmed : Type 0 where
 unfoldable pub stemmed : Result → Stemmed
 stemmed r = record { yes = succeeded r; text = (left r).text; flag = (left r).flag }
 
-unfoldable pub suffixStage : List ℕ → Stemmed
-suffixStage cs = stemmed (called backward stem-nominal-verb-suffixes (entered cs))
+unfoldable pub suffix_stage : List ℕ → Stemmed
+suffix_stage cs = stemmed (called backward stem_nominal_verb_suffixes (entered cs))
 
 -- postlude: yes or no, and the text it leaves
 pub record Repaired : Type 0 where
@@ -45,8 +45,8 @@ pub record Repaired : Type 0 where
 unfoldable pub repaired : Result → Repaired
 repaired r = record { yes = succeeded r; text = reverse (left r).text }
 
-unfoldable pub postludeOf : List ℕ → Repaired
-postludeOf cs = repaired (called forward postlude (entered (reverse cs)))
+unfoldable pub postlude_of : List ℕ → Repaired
+postlude_of cs = repaired (called forward postlude (entered (reverse cs)))
 
 -- stem_noun_suffixes: yes or no, and the text it leaves
 pub record Uninflected : Type 0 where
@@ -56,9 +56,9 @@ pub record Uninflected : Type 0 where
 unfoldable pub uninflected : Result → Uninflected
 uninflected r = record { yes = succeeded r; text = (left r).text }
 
-unfoldable pub nounStage : List ℕ → Uninflected
-nounStage cs = uninflected (called backward stem-noun-suffixes (entered cs))
+unfoldable pub noun_stage : List ℕ → Uninflected
+noun_stage cs = uninflected (called backward stem_noun_suffixes (entered cs))
 
 -- stem, the whole run: the text it leaves, whether it succeeded or ended early
-unfoldable pub wholeRun : List ℕ → List ℕ
-wholeRun cs = reverse (left (called forward stem (entered (reverse cs)))).text
+unfoldable pub whole_run : List ℕ → List ℕ
+whole_run cs = reverse (left (called forward stem (entered (reverse cs)))).text

@@ -20,14 +20,14 @@ unfoldable pub capitals : List Letter
 capitals = letter "I" "ı" ∷ letter "İ" "i" ∷ capitals01
 
 -- one character folded: a capital of the rows becomes its small letter, any other of A to Z its own, and every other character stays
-unfoldable pub foldBy : List Letter → ℕ → ℕ
-foldBy [] c = cond (leb (code "A") c && leb c (code "Z")) (c + 0x20) c
-foldBy (l ∷ ls) c = cond (eqb c l.capital) l.small (foldBy ls c)
+unfoldable pub fold_by : List Letter → ℕ → ℕ
+fold_by [] c = cond (leb (code "A") c && leb c (code "Z")) (c + 0x20) c
+fold_by (l ∷ ls) c = cond (eqb c l.capital) l.small (fold_by ls c)
 
 -- by all rows above
-unfoldable pub foldChar : ℕ → ℕ
-foldChar c = foldBy capitals c
+unfoldable pub fold_char : ℕ → ℕ
+fold_char c = fold_by capitals c
 
 -- all of a text's
 unfoldable pub fold : List ℕ → List ℕ
-fold cs = map foldChar cs
+fold cs = map fold_char cs

@@ -9,16 +9,16 @@ pub data Heard : Type 0 where
   heard : ℕ → ℕ → Heard
 
 -- whether it was tested
-unfoldable pub isHeard : Heard → Bool
-isHeard unheard = false
-isHeard (heard last partner) = true
+unfoldable pub is_heard : Heard → Bool
+is_heard unheard = false
+is_heard (heard last partner) = true
 
 -- the first of two that was
-unfoldable pub orHeard : Heard → Heard → Heard
-orHeard unheard h = h
-orHeard (heard last partner) h = heard last partner
+unfoldable pub or_heard : Heard → Heard → Heard
+or_heard unheard h = h
+or_heard (heard last partner) h = heard last partner
 
 -- a loan candidate, of a word's characters, the last one first: some vowel stands between the two
-unfoldable pub loanIn : List ℕ → Heard → Bool
-loanIn cs unheard = false
-loanIn cs (heard last partner) = any vowel (take (last - (partner + 1)) (drop (partner + 1) (reverse cs)))
+unfoldable pub loan_in : List ℕ → Heard → Bool
+loan_in cs unheard = false
+loan_in cs (heard last partner) = any vowel (take (last - (partner + 1)) (drop (partner + 1) (reverse cs)))

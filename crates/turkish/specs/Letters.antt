@@ -8,8 +8,8 @@ unfoldable pub text : String → List ℕ
 text String.[] = []
 text (String.◌∷◌ c s) = code c ∷ text s
 
-unfoldable pub fromEnd : String → List ℕ
-fromEnd s = reverse (text s)
+unfoldable pub from_end : String → List ℕ
+from_end s = reverse (text s)
 
 -- the two bytes that part fields and lines
 unfoldable pub tab : ℕ

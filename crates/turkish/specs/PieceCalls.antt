@@ -10,8 +10,8 @@ use Rattle.turkish.specs.declared.endings.Kind.{Kind}
 use Rattle.turkish.specs.declared.endings.Kind.TheVariants.{YUm, SUn, YUz, SUnUz, LAr, NUz, DUr, CAsInA, YDU, YsA, YmUs, Yken}
 use Rattle.turkish.specs.declared.endings.Piece.{Piece}
 use Rattle.turkish.specs.Letters.{tab, lf}
-use Rattle.turkish.specs.Pieces.{Joined, alone, withY, afterVowel, Kept, kindName, keptMarks}
-use Rattle.turkish.specs.Calls.{chars, offset, refusal, refusalShort, written, stageText}
+use Rattle.turkish.specs.Pieces.{Joined, alone, with_y, after_vowel, Kept, kind_name, kept_marks}
+use Rattle.turkish.specs.Calls.{chars, offset, refusal, refusal_short_of, written, stage_text}
 
 -- ---- the pieces of a word of bytes ----
 
@@ -26,12 +26,12 @@ unfoldable pub span_of : List ℕ → Kept → Span
 span_of w k = record { kind = k.kind; joined = k.joined; first = offset w k.to; last = offset w k.from - 1 }
 
 -- one for each mark that the suffix stage keeps, in order of running
-unfoldable pub spansOf : List ℕ → List Span
-spansOf w = map (span_of w) (keptMarks (chars w))
+unfoldable pub spans_of : List ℕ → List Span
+spans_of w = map (span_of w) (kept_marks (chars w))
 
 -- a piece's own bytes, with the y that joined it
-unfoldable pub lettersOf : List ℕ → Span → List ℕ
-lettersOf w p = take (p.last + 1 - p.first) (drop p.first w)
+unfoldable pub letters_of : List ℕ → Span → List ℕ
+letters_of w p = take (p.last + 1 - p.first) (drop p.first w)
 
 -- ---- the order is free ----
 
@@ -45,58 +45,58 @@ pub record InSomeOrder (form : List Span → List ℕ) (ps : List Span) (before 
 -- ---- refusals ----
 
 -- the host program: 5 where the buffer is shorter than the call needs
-unfoldable pub pieceRefusal : List ℕ → ℕ → ℕ → ℕ
-pieceRefusal w need room = refusalShort 5 w need room
+unfoldable pub piece_refusal : List ℕ → ℕ → ℕ → ℕ
+piece_refusal w need room = refusal_short_of 5 w need room
 
 -- the pieces that a call gives: none where it is refused
 unfoldable pub given : List ℕ → ℕ → List Span
-given w refused = cond (eqb refused 0) (spansOf w) []
+given w refused = cond (eqb refused 0) (spans_of w) []
 
 -- ---- for Rattle callers ----
 
 -- the number of a kind, and how the piece joined
-unfoldable pub joinedOf : Joining → Joined
-joinedOf WithY = withY
-joinedOf AfterVowel = afterVowel
+unfoldable pub joined_of : Joining → Joined
+joined_of WithY = with_y
+joined_of AfterVowel = after_vowel
 
-unfoldable pub kindNumber : Kind → ℕ
-kindNumber (YUm j) = 1
-kindNumber SUn = 2
-kindNumber (YUz j) = 3
-kindNumber SUnUz = 4
-kindNumber LAr = 5
-kindNumber NUz = 6
-kindNumber DUr = 7
-kindNumber CAsInA = 8
-kindNumber (YDU j) = 9
-kindNumber (YsA j) = 10
-kindNumber (YmUs j) = 11
-kindNumber (Yken j) = 12
+unfoldable pub kind_number : Kind → ℕ
+kind_number (YUm j) = 1
+kind_number SUn = 2
+kind_number (YUz j) = 3
+kind_number SUnUz = 4
+kind_number LAr = 5
+kind_number NUz = 6
+kind_number DUr = 7
+kind_number CAsInA = 8
+kind_number (YDU j) = 9
+kind_number (YsA j) = 10
+kind_number (YmUs j) = 11
+kind_number (Yken j) = 12
 
-unfoldable pub kindJoined : Kind → Joined
-kindJoined (YUm j) = joinedOf j
-kindJoined SUn = alone
-kindJoined (YUz j) = joinedOf j
-kindJoined SUnUz = alone
-kindJoined LAr = alone
-kindJoined NUz = alone
-kindJoined DUr = alone
-kindJoined CAsInA = alone
-kindJoined (YDU j) = joinedOf j
-kindJoined (YsA j) = joinedOf j
-kindJoined (YmUs j) = joinedOf j
-kindJoined (Yken j) = joinedOf j
+unfoldable pub kind_joined : Kind → Joined
+kind_joined (YUm j) = joined_of j
+kind_joined SUn = alone
+kind_joined (YUz j) = joined_of j
+kind_joined SUnUz = alone
+kind_joined LAr = alone
+kind_joined NUz = alone
+kind_joined DUr = alone
+kind_joined CAsInA = alone
+kind_joined (YDU j) = joined_of j
+kind_joined (YsA j) = joined_of j
+kind_joined (YmUs j) = joined_of j
+kind_joined (Yken j) = joined_of j
 
 unfoldable pub told : Piece → Span
-told p = record { kind = kindNumber p.kind; joined = kindJoined p.kind; first = p.first; last = p.last }
+told p = record { kind = kind_number p.kind; joined = kind_joined p.kind; first = p.first; last = p.last }
 
 -- an entry that is not used
 unfoldable pub unused : Piece
 unused = record { kind = YUm WithY; first = 0; last = 0 }
 
 -- the entries that the list of pieces has
-unfoldable pub mostPieces : ℕ
-mostPieces = 3
+unfoldable pub most_pieces : ℕ
+most_pieces = 3
 
 -- so many entries are a word's pieces in some order, and the others are not used
 pub record Lists (ps : List Span) (count : ℕ) (entries : List Piece) : Type 0 where
@@ -106,52 +106,52 @@ pub record Lists (ps : List Span) (count : ℕ) (entries : List Piece) : Type 0 
 
 -- ---- the buffer of 9 bytes ----
 
-unfoldable pub piecesRoom : ℕ
-piecesRoom = 9
+unfoldable pub pieces_room : ℕ
+pieces_room = 9
 
 -- three bytes each: the kind, then the distances of both offsets from the kept text's end
 unfoldable pub buffer : ℕ → List Span → List ℕ
 buffer kept [] = []
 buffer kept (p ∷ ps) = p.kind ∷ (p.first - kept) ∷ (p.last - kept) ∷ buffer kept ps
 
-unfoldable pub bufferOf : List ℕ → List Span → List ℕ
-bufferOf w ps = buffer (length (stageText w)) ps
+unfoldable pub buffer_of : List ℕ → List Span → List ℕ
+buffer_of w ps = buffer (length (stage_text w)) ps
 
-unfoldable pub piecesRefusal : List ℕ → ℕ → ℕ
-piecesRefusal w room = pieceRefusal w piecesRoom room
+unfoldable pub pieces_refusal : List ℕ → ℕ → ℕ
+pieces_refusal w room = piece_refusal w pieces_room room
 
-unfoldable pub piecesCall : List ℕ → ℕ → PiecesAnswer
-piecesCall w room =
-    cond (eqb (piecesRefusal w room) 0)
-    (record { refusal = 0; length = length (stageText w); count = length (spansOf w) })
-    (record { refusal = piecesRefusal w room; length = 0; count = 0 })
+unfoldable pub pieces_call : List ℕ → ℕ → PiecesAnswer
+pieces_call w room =
+    cond (eqb (pieces_refusal w room) 0)
+    (record { refusal = 0; length = length (stage_text w); count = length (spans_of w) })
+    (record { refusal = pieces_refusal w room; length = 0; count = 0 })
 
 -- the buffer after the call
 pub record PiecesOut (w before after : List ℕ) : Type 0 where
-  pub pieces : InSomeOrder (bufferOf w) (given w (piecesRefusal w (length before))) before after
+  pub pieces : InSomeOrder (buffer_of w) (given w (pieces_refusal w (length before))) before after
 
 -- ---- the text form, to a buffer of 96 bytes ----
 
-unfoldable pub textRoom : ℕ
-textRoom = 96
+unfoldable pub text_room : ℕ
+text_room = 96
 
 -- a line for each: kind name, tab, letters, LF
-unfoldable pub pieceLine : List ℕ → Span → List ℕ
-pieceLine w p = kindName p.kind ++ (tab ∷ (lettersOf w p ++ (lf ∷ [])))
+unfoldable pub piece_line : List ℕ → Span → List ℕ
+piece_line w p = kind_name p.kind ++ (tab ∷ (letters_of w p ++ (lf ∷ [])))
 
 unfoldable pub text_of : List ℕ → List Span → List ℕ
 text_of w [] = []
-text_of w (p ∷ ps) = pieceLine w p ++ text_of w ps
+text_of w (p ∷ ps) = piece_line w p ++ text_of w ps
 
-unfoldable pub piecesTextRefusal : List ℕ → ℕ → ℕ
-piecesTextRefusal w room = pieceRefusal w textRoom room
+unfoldable pub pieces_text_refusal : List ℕ → ℕ → ℕ
+pieces_text_refusal w room = piece_refusal w text_room room
 
-unfoldable pub piecesTextCall : List ℕ → ℕ → PiecesTextAnswer
-piecesTextCall w room =
-    cond (eqb (piecesTextRefusal w room) 0)
-    (record { refusal = 0; length = length (text_of w (spansOf w)) })
-    (record { refusal = piecesTextRefusal w room; length = 0 })
+unfoldable pub pieces_text_call : List ℕ → ℕ → PiecesTextAnswer
+pieces_text_call w room =
+    cond (eqb (pieces_text_refusal w room) 0)
+    (record { refusal = 0; length = length (text_of w (spans_of w)) })
+    (record { refusal = pieces_text_refusal w room; length = 0 })
 
 -- the buffer after the call
 pub record PiecesTextOut (w before after : List ℕ) : Type 0 where
-  pub lines : InSomeOrder (text_of w) (given w (piecesTextRefusal w (length before))) before after
+  pub lines : InSomeOrder (text_of w) (given w (pieces_text_refusal w (length before))) before after

@@ -5,8 +5,8 @@
 use Rattle.std.specs.Prelude.{ℕ, zero, suc, ◌+◌, ◌-◌, Bool, true, false, cond, ◌&&◌, List, [], ◌∷◌, ◌++◌, map, reverse, length, take, drop, eqb, ltb, leb}
 use Prim.Native.String.{String}
 use Rattle.std.proofs.Math.Bool as Bool
-use Rattle.encoding.specs.Encoding.{encodeAll}
-use Rattle.turkish.specs.Letters.{text, fromEnd, has, starts}
+use Rattle.encoding.specs.Encoding.{encode_all}
+use Rattle.turkish.specs.Letters.{text, from_end, has, starts}
 
 -- ---- the state ----
 
@@ -32,23 +32,23 @@ place s = length (ahead s)
 
 -- the bytes of the text: the Rust's `limit`, where nothing is set aside
 unfoldable pub limit : State → ℕ
-limit s = length (encodeAll s.text)
+limit s = length (encode_all s.text)
 
 -- the same with another cursor, slice, flag, strlen or key found
-unfoldable pub moveTo : State → ℕ → State
-moveTo s c = record { text = s.text; cursor = c; ket = s.ket; bra = s.bra; flag = s.flag; strlen = s.strlen; found = s.found }
+unfoldable pub move_to : State → ℕ → State
+move_to s c = record { text = s.text; cursor = c; ket = s.ket; bra = s.bra; flag = s.flag; strlen = s.strlen; found = s.found }
 
-unfoldable pub withSlice : State → ℕ → ℕ → State
-withSlice s k b = record { text = s.text; cursor = s.cursor; ket = k; bra = b; flag = s.flag; strlen = s.strlen; found = s.found }
+unfoldable pub with_slice : State → ℕ → ℕ → State
+with_slice s k b = record { text = s.text; cursor = s.cursor; ket = k; bra = b; flag = s.flag; strlen = s.strlen; found = s.found }
 
-unfoldable pub withFlag : State → Bool → State
-withFlag s f = record { text = s.text; cursor = s.cursor; ket = s.ket; bra = s.bra; flag = f; strlen = s.strlen; found = s.found }
+unfoldable pub with_flag : State → Bool → State
+with_flag s f = record { text = s.text; cursor = s.cursor; ket = s.ket; bra = s.bra; flag = f; strlen = s.strlen; found = s.found }
 
-unfoldable pub withStrlen : State → ℕ → State
-withStrlen s n = record { text = s.text; cursor = s.cursor; ket = s.ket; bra = s.bra; flag = s.flag; strlen = n; found = s.found }
+unfoldable pub with_strlen : State → ℕ → State
+with_strlen s n = record { text = s.text; cursor = s.cursor; ket = s.ket; bra = s.bra; flag = s.flag; strlen = n; found = s.found }
 
-unfoldable pub withFound : State → ℕ → State
-withFound s n = record { text = s.text; cursor = s.cursor; ket = s.ket; bra = s.bra; flag = s.flag; strlen = s.strlen; found = n }
+unfoldable pub with_found : State → ℕ → State
+with_found s n = record { text = s.text; cursor = s.cursor; ket = s.ket; bra = s.bra; flag = s.flag; strlen = s.strlen; found = n }
 
 -- ---- results ----
 
@@ -65,47 +65,47 @@ and_then (failed s) q = failed s
 -- whoever goes on after a failure puts the cursor back
 unfoldable pub or_else : ℕ → Result → (State → Result) → Result
 or_else c (done s) q = done s
-or_else c (failed s) q = q (moveTo s c)
+or_else c (failed s) q = q (move_to s c)
 
 -- `test`: the cursor goes back where the command succeeded
 unfoldable pub tested : ℕ → Result → Result
-tested c (done s) = done (moveTo s c)
+tested c (done s) = done (move_to s c)
 tested c (failed s) = failed s
 
 -- `not`: failure and success change places
 unfoldable pub negated : ℕ → Result → Result
 negated c (done s) = failed s
-negated c (failed s) = done (moveTo s c)
+negated c (failed s) = done (move_to s c)
 
 -- a change of the state, whichever way the command went
-unfoldable pub eitherWay : (State → State) → Result → Result
-eitherWay f (done s) = done (f s)
-eitherWay f (failed s) = failed (f s)
+unfoldable pub either_way : (State → State) → Result → Result
+either_way f (done s) = done (f s)
+either_way f (failed s) = failed (f s)
 
 -- `do`: success, with the cursor put back
-unfoldable pub carriedOut : ℕ → Result → Result
-carriedOut c (done s) = done (moveTo s c)
-carriedOut c (failed s) = done (moveTo s c)
+unfoldable pub carried_out : ℕ → Result → Result
+carried_out c (done s) = done (move_to s c)
+carried_out c (failed s) = done (move_to s c)
 
 -- ---- reading ----
 
 -- so many characters on where the test holds
-unfoldable pub readIf : Bool → ℕ → State → Result
-readIf b n s = cond b (done (moveTo s (s.cursor + n))) (failed s)
+unfoldable pub read_if : Bool → ℕ → State → Result
+read_if b n s = cond b (done (move_to s (s.cursor + n))) (failed s)
 
 -- a character is left (`next`), and it is in the grouping
-unfoldable pub isLeft : List ℕ → Bool
-isLeft [] = false
-isLeft (c ∷ cs) = true
+unfoldable pub is_left : List ℕ → Bool
+is_left [] = false
+is_left (c ∷ cs) = true
 
-unfoldable pub isIn : List ℕ → List ℕ → Bool
-isIn g [] = false
-isIn g (c ∷ cs) = has g c
+unfoldable pub is_in : List ℕ → List ℕ → Bool
+is_in g [] = false
+is_in g (c ∷ cs) = has g c
 
 -- a character is left, and it is not in the grouping
-unfoldable pub isOutside : List ℕ → List ℕ → Bool
-isOutside g [] = false
-isOutside g (c ∷ cs) = Bool.not (has g c)
+unfoldable pub is_outside : List ℕ → List ℕ → Bool
+is_outside g [] = false
+is_outside g (c ∷ cs) = Bool.not (has g c)
 
 pub data Direction : Type 0 where
   forward : Direction
@@ -114,7 +114,7 @@ pub data Direction : Type 0 where
 -- letters in the direction of reading
 unfoldable pub letters : Direction → String → List ℕ
 letters forward s = text s
-letters backward s = fromEnd s
+letters backward s = from_end s
 
 -- a key that the text ahead begins with: its place in the table, from 1, and its length; place 0 where there is none
 pub record Key : Type 0 where
@@ -131,8 +131,8 @@ longest i [] cs = record { number = 0; size = 0 }
 longest i (k ∷ ks) cs = longer (starts k cs) (record { number = i; size = length k }) (longest (i + 1) ks cs)
 
 -- the longest key of a table ahead, and whether there is one
-unfoldable pub keyAhead : Direction → List String → State → Key
-keyAhead d keys s = longest 1 (map (letters d) keys) (ahead s)
+unfoldable pub key_ahead : Direction → List String → State → Key
+key_ahead d keys s = longest 1 (map (letters d) keys) (ahead s)
 
 unfoldable pub fits : Key → Bool
 fits k = ltb 0 k.number
@@ -140,19 +140,19 @@ fits k = ltb 0 k.number
 -- ---- loops ----
 
 -- `gopast`: the command is tried from here, then one character on, and so on; a failure at the edge. n is at least the turns there are.
-unfoldable pub goPast : ℕ → (State → Result) → State → Result
-goPast zero f s = failed s
-goPast (suc n) f s = or_else s.cursor (f s) (λ t. and_then (readIf (isLeft (ahead t)) 1 t) (goPast n f))
+unfoldable pub go_past : ℕ → (State → Result) → State → Result
+go_past zero f s = failed s
+go_past (suc n) f s = or_else s.cursor (f s) (λ t. and_then (read_if (is_left (ahead t)) 1 t) (go_past n f))
 
 -- `atleast`: as often as the command succeeds; a failure where that is less often than wanted. n is at least the turns
 -- there are.
-unfoldable pub oneTurn : ℕ → ℕ → Result → (State → Result) → Result
-oneTurn wanted c (done s) q = q s
-oneTurn wanted c (failed s) q = cond (eqb wanted 0) (done (moveTo s c)) (failed (moveTo s c))
+unfoldable pub one_turn : ℕ → ℕ → Result → (State → Result) → Result
+one_turn wanted c (done s) q = q s
+one_turn wanted c (failed s) q = cond (eqb wanted 0) (done (move_to s c)) (failed (move_to s c))
 
 unfoldable pub at_least : ℕ → ℕ → (State → Result) → State → Result
 at_least zero wanted f s = failed s
-at_least (suc n) wanted f s = oneTurn wanted s.cursor (f s) (at_least n (wanted - 1) f)
+at_least (suc n) wanted f s = one_turn wanted s.cursor (f s) (at_least n (wanted - 1) f)
 
 -- a routine that calls itself, n calls deep at most
 unfoldable pub deep : ((State → Result) → State → Result) → ℕ → State → Result
@@ -162,18 +162,18 @@ deep body (suc n) s = body (deep body n) s
 -- ---- the slice, read backwards ----
 
 -- the text from bra to ket becomes the given one (`replace_s`); a cursor at ket or behind it moves along, one inside goes to bra
-unfoldable pub placeAfter : ℕ → ℕ → ℕ → ℕ → ℕ
-placeAfter bra ket n p = cond (leb ket p) (p + n - (ket - bra)) (cond (ltb bra p) bra p)
+unfoldable pub place_after : ℕ → ℕ → ℕ → ℕ → ℕ
+place_after bra ket n p = cond (leb ket p) (p + n - (ket - bra)) (cond (ltb bra p) bra p)
 
 -- another text, with the cursor at place p
-unfoldable pub withText : State → List ℕ → ℕ → State
-withText s t p = record { text = t; cursor = length t - p; ket = s.ket; bra = s.bra; flag = s.flag; strlen = s.strlen; found = s.found }
+unfoldable pub with_text : State → List ℕ → ℕ → State
+with_text s t p = record { text = t; cursor = length t - p; ket = s.ket; bra = s.bra; flag = s.flag; strlen = s.strlen; found = s.found }
 
 -- `<-`, and `delete` where it is nothing
-unfoldable pub sliceFrom : List ℕ → State → State
-sliceFrom cs s =
+unfoldable pub slice_from : List ℕ → State → State
+slice_from cs s =
     let n = length s.text in
-    withText s (take (n - s.ket) s.text ++ cs ++ drop (n - s.bra) s.text) (placeAfter s.bra s.ket (length cs) (place s))
+    with_text s (take (n - s.ket) s.text ++ cs ++ drop (n - s.bra) s.text) (place_after s.bra s.ket (length cs) (place s))
 
 -- `<+`: at the cursor, whose place stays; ket and bra at it or behind it move along (`insert`)
 unfoldable pub shifted : ℕ → ℕ → ℕ → ℕ
@@ -181,7 +181,7 @@ shifted p n b = cond (leb p b) (b + n) b
 
 unfoldable pub inserted : List ℕ → State → State
 inserted cs s =
-    withSlice (withText s (take s.cursor s.text ++ cs ++ ahead s) (place s))
+    with_slice (with_text s (take s.cursor s.text ++ cs ++ ahead s) (place s))
     (shifted (place s) (length cs) s.ket)
     (shifted (place s) (length cs) s.bra)
 
@@ -194,8 +194,8 @@ turned s =
     record { text = reverse (ahead s); cursor = 0; ket = s.ket - c; bra = s.bra - c; flag = s.flag; strlen = s.strlen; found = s.found }
 
 -- and afterwards the cursor stands where it stood
-unfoldable pub turnedBack : List ℕ → State → State
-turnedBack front s =
+unfoldable pub turned_back : List ℕ → State → State
+turned_back front s =
     let c = length front in
     record { text = front ++ reverse s.text; cursor = c; ket = s.ket + c; bra = s.bra + c; flag = s.flag; strlen = s.strlen; found = s.found }
 
@@ -250,28 +250,28 @@ run d self (p or q) s = or_else s.cursor (run d self p s) (run d self q)
 run d self (test p) s = tested s.cursor (run d self p s)
 run d self (not p) s = negated s.cursor (run d self p s)
 run d self (try p) s = or_else s.cursor (run d self p s) done
-run d self («do» p) s = carriedOut s.cursor (run d self p s)
-run d self (goto p) s = goPast (enough s) (λ t. tested t.cursor (run d self p t)) s
-run d self (gopast p) s = goPast (enough s) (run d self p) s
+run d self («do» p) s = carried_out s.cursor (run d self p s)
+run d self (goto p) s = go_past (enough s) (λ t. tested t.cursor (run d self p t)) s
+run d self (gopast p) s = go_past (enough s) (run d self p) s
 run d self (atleast n p) s = at_least (enough s) n (run d self p) s
-run d self (backwards p) s = eitherWay (turnedBack (take s.cursor s.text)) (run backward self p (turned s))
+run d self (backwards p) s = either_way (turned_back (take s.cursor s.text)) (run backward self p (turned s))
 run d self succeed s = done s
-run d self next s = readIf (isLeft (ahead s)) 1 s
-run d self (literal l) s = readIf (starts (letters d l) (ahead s)) (length (letters d l)) s
-run d self (grouping g) s = readIf (isIn (text g) (ahead s)) 1 s
-run d self (outside g) s = readIf (isOutside (text g) (ahead s)) 1 s
-run d self (among ks) s = let k = keyAhead d ks s in readIf (fits k) k.size s
-run d self (substring ks) s = let k = keyAhead d ks s in readIf (fits k) k.size (withFound s k.number)
+run d self next s = read_if (is_left (ahead s)) 1 s
+run d self (literal l) s = read_if (starts (letters d l) (ahead s)) (length (letters d l)) s
+run d self (grouping g) s = read_if (is_in (text g) (ahead s)) 1 s
+run d self (outside g) s = read_if (is_outside (text g) (ahead s)) 1 s
+run d self (among ks) s = let k = key_ahead d ks s in read_if (fits k) k.size s
+run d self (substring ks) s = let k = key_ahead d ks s in read_if (fits k) k.size (with_found s k.number)
 run d self (case n p) s = cond (eqb s.found n) (run d self p s) (done s)
-run d self ⟦ s = done (withSlice s (place s) s.bra)
-run d self ⟧ s = done (withSlice s s.ket (place s))
-run d self delete s = done (sliceFrom [] s)
-run d self (<- l) s = done (sliceFrom (letters d l) s)
+run d self ⟦ s = done (with_slice s (place s) s.bra)
+run d self ⟧ s = done (with_slice s s.ket (place s))
+run d self delete s = done (slice_from [] s)
+run d self (<- l) s = done (slice_from (letters d l) s)
 run d self (<+ l) s = done (inserted (letters d l) s)
-run d self set s = done (withFlag s true)
-run d self unset s = done (withFlag s false)
+run d self set s = done (with_flag s true)
+run d self unset s = done (with_flag s false)
 run d self is_set s = cond s.flag (done s) (failed s)
-run d self (strlen= n) s = done (withStrlen s n)
+run d self (strlen= n) s = done (with_strlen s n)
 run d self strlen==limit s = cond (eqb s.strlen (limit s)) (done s) (failed s)
 run d self (routine p) s = deep (λ again. run d again p) (enough s) s
 run d self itself s = self s

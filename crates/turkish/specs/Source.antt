@@ -115,8 +115,8 @@ A-23 = "b" ∷ "c" ∷ "d" ∷ "ğ" ∷ []
 
 -- ---- routines ----
 
-unfoldable pub check-vowel-harmony : Command
-check-vowel-harmony = define "check_vowel_harmony" ( -- 111
+unfoldable pub check_vowel_harmony : Command
+check_vowel_harmony = define "check_vowel_harmony" ( -- 111
     test  -- 112
     ( -- 113
     (goto (grouping vowel)) then  -- 114
@@ -132,284 +132,284 @@ check-vowel-harmony = define "check_vowel_harmony" ( -- 111
     )
     ))
 
-unfoldable pub mark-suffix-with-optional-n-consonant : Command
-mark-suffix-with-optional-n-consonant = define "mark_suffix_with_optional_n_consonant" ( -- 132
+unfoldable pub mark_suffix_with_optional_n_consonant : Command
+mark_suffix_with_optional_n_consonant = define "mark_suffix_with_optional_n_consonant" ( -- 132
     (literal "n" then (test (grouping vowel)))  -- 133
     or  -- 134
     ((not (test (literal "n"))) then test (next then grouping vowel)))  -- 135
 
-unfoldable pub mark-suffix-with-optional-s-consonant : Command
-mark-suffix-with-optional-s-consonant = define "mark_suffix_with_optional_s_consonant" ( -- 143
+unfoldable pub mark_suffix_with_optional_s_consonant : Command
+mark_suffix_with_optional_s_consonant = define "mark_suffix_with_optional_s_consonant" ( -- 143
     (literal "s" then (test (grouping vowel)))  -- 144
     or  -- 145
     ((not (test (literal "s"))) then test (next then grouping vowel)))  -- 146
 
-unfoldable pub mark-suffix-with-optional-y-consonant : Command
-mark-suffix-with-optional-y-consonant = define "mark_suffix_with_optional_y_consonant" ( -- 153
+unfoldable pub mark_suffix_with_optional_y_consonant : Command
+mark_suffix_with_optional_y_consonant = define "mark_suffix_with_optional_y_consonant" ( -- 153
     (literal "y" then (test (grouping vowel)))  -- 154
     or  -- 155
     ((not (test (literal "y"))) then test (next then grouping vowel)))  -- 156
 
-unfoldable pub mark-suffix-with-optional-U-vowel : Command
-mark-suffix-with-optional-U-vowel = define "mark_suffix_with_optional_U_vowel" ( -- 159
+unfoldable pub mark_suffix_with_optional_U_vowel : Command
+mark_suffix_with_optional_U_vowel = define "mark_suffix_with_optional_U_vowel" ( -- 159
     (grouping U then (test (outside vowel)))  -- 160
     or  -- 161
     ((not (test (grouping U))) then test (next then outside vowel)))  -- 162
 
-unfoldable pub mark-possessives : Command
-mark-possessives = define "mark_possessives" ( -- 166
+unfoldable pub mark_possessives : Command
+mark_possessives = define "mark_possessives" ( -- 166
     among A-0 then  -- 167
-    (mark-suffix-with-optional-U-vowel))  -- 169
+    (mark_suffix_with_optional_U_vowel))  -- 169
 
-unfoldable pub mark-sU : Command
-mark-sU = define "mark_sU" ( -- 172
-    check-vowel-harmony then  -- 173
+unfoldable pub mark_sU : Command
+mark_sU = define "mark_sU" ( -- 172
+    check_vowel_harmony then  -- 173
     grouping U then
-    (mark-suffix-with-optional-s-consonant))  -- 175
+    (mark_suffix_with_optional_s_consonant))  -- 175
 
-unfoldable pub mark-lArI : Command
-mark-lArI = define "mark_lArI" ( -- 178
+unfoldable pub mark_lArI : Command
+mark_lArI = define "mark_lArI" ( -- 178
     among A-1)  -- 179
 
-unfoldable pub mark-yU : Command
-mark-yU = define "mark_yU" ( -- 182
-    check-vowel-harmony then  -- 183
+unfoldable pub mark_yU : Command
+mark_yU = define "mark_yU" ( -- 182
+    check_vowel_harmony then  -- 183
     grouping U then
-    (mark-suffix-with-optional-y-consonant))  -- 185
+    (mark_suffix_with_optional_y_consonant))  -- 185
 
-unfoldable pub mark-nU : Command
-mark-nU = define "mark_nU" ( -- 188
-    check-vowel-harmony then  -- 189
+unfoldable pub mark_nU : Command
+mark_nU = define "mark_nU" ( -- 188
+    check_vowel_harmony then  -- 189
     among A-2)  -- 190
 
-unfoldable pub mark-nUn : Command
-mark-nUn = define "mark_nUn" ( -- 193
-    check-vowel-harmony then  -- 194
+unfoldable pub mark_nUn : Command
+mark_nUn = define "mark_nUn" ( -- 193
+    check_vowel_harmony then  -- 194
     among A-3 then  -- 195
-    (mark-suffix-with-optional-n-consonant))  -- 196
+    (mark_suffix_with_optional_n_consonant))  -- 196
 
-unfoldable pub mark-yA : Command
-mark-yA = define "mark_yA" ( -- 199
-    check-vowel-harmony then  -- 200
+unfoldable pub mark_yA : Command
+mark_yA = define "mark_yA" ( -- 199
+    check_vowel_harmony then  -- 200
     among A-4 then  -- 201
-    (mark-suffix-with-optional-y-consonant))  -- 202
+    (mark_suffix_with_optional_y_consonant))  -- 202
 
-unfoldable pub mark-nA : Command
-mark-nA = define "mark_nA" ( -- 205
-    check-vowel-harmony then  -- 206
+unfoldable pub mark_nA : Command
+mark_nA = define "mark_nA" ( -- 205
+    check_vowel_harmony then  -- 206
     among A-5)  -- 207
 
-unfoldable pub mark-DA : Command
-mark-DA = define "mark_DA" ( -- 210
-    check-vowel-harmony then  -- 211
+unfoldable pub mark_DA : Command
+mark_DA = define "mark_DA" ( -- 210
+    check_vowel_harmony then  -- 211
     among A-6)  -- 212
 
-unfoldable pub mark-ndA : Command
-mark-ndA = define "mark_ndA" ( -- 215
-    check-vowel-harmony then  -- 216
+unfoldable pub mark_ndA : Command
+mark_ndA = define "mark_ndA" ( -- 215
+    check_vowel_harmony then  -- 216
     among A-7)  -- 217
 
-unfoldable pub mark-DAn : Command
-mark-DAn = define "mark_DAn" ( -- 220
-    check-vowel-harmony then  -- 221
+unfoldable pub mark_DAn : Command
+mark_DAn = define "mark_DAn" ( -- 220
+    check_vowel_harmony then  -- 221
     among A-8)  -- 222
 
-unfoldable pub mark-ndAn : Command
-mark-ndAn = define "mark_ndAn" ( -- 225
-    check-vowel-harmony then  -- 226
+unfoldable pub mark_ndAn : Command
+mark_ndAn = define "mark_ndAn" ( -- 225
+    check_vowel_harmony then  -- 226
     among A-9)  -- 227
 
-unfoldable pub mark-ylA : Command
-mark-ylA = define "mark_ylA" ( -- 230
-    check-vowel-harmony then  -- 231
+unfoldable pub mark_ylA : Command
+mark_ylA = define "mark_ylA" ( -- 230
+    check_vowel_harmony then  -- 231
     among A-10 then  -- 232
-    (mark-suffix-with-optional-y-consonant))  -- 233
+    (mark_suffix_with_optional_y_consonant))  -- 233
 
-unfoldable pub mark-ki : Command
-mark-ki = define "mark_ki" ( -- 236
+unfoldable pub mark_ki : Command
+mark_ki = define "mark_ki" ( -- 236
     literal "ki")  -- 237
 
-unfoldable pub mark-ncA : Command
-mark-ncA = define "mark_ncA" ( -- 240
-    check-vowel-harmony then  -- 241
+unfoldable pub mark_ncA : Command
+mark_ncA = define "mark_ncA" ( -- 240
+    check_vowel_harmony then  -- 241
     among A-11 then  -- 242
-    (mark-suffix-with-optional-n-consonant))  -- 243
+    (mark_suffix_with_optional_n_consonant))  -- 243
 
-unfoldable pub mark-yUm : Command
-mark-yUm = define "mark_yUm" ( -- 246
-    check-vowel-harmony then  -- 247
+unfoldable pub mark_yUm : Command
+mark_yUm = define "mark_yUm" ( -- 246
+    check_vowel_harmony then  -- 247
     among A-12 then  -- 248
-    (mark-suffix-with-optional-y-consonant))  -- 249
+    (mark_suffix_with_optional_y_consonant))  -- 249
 
-unfoldable pub mark-sUn : Command
-mark-sUn = define "mark_sUn" ( -- 252
-    check-vowel-harmony then  -- 253
+unfoldable pub mark_sUn : Command
+mark_sUn = define "mark_sUn" ( -- 252
+    check_vowel_harmony then  -- 253
     among A-13)  -- 254
 
-unfoldable pub mark-yUz : Command
-mark-yUz = define "mark_yUz" ( -- 257
-    check-vowel-harmony then  -- 258
+unfoldable pub mark_yUz : Command
+mark_yUz = define "mark_yUz" ( -- 257
+    check_vowel_harmony then  -- 258
     among A-14 then  -- 259
-    (mark-suffix-with-optional-y-consonant))  -- 260
+    (mark_suffix_with_optional_y_consonant))  -- 260
 
-unfoldable pub mark-sUnUz : Command
-mark-sUnUz = define "mark_sUnUz" ( -- 263
+unfoldable pub mark_sUnUz : Command
+mark_sUnUz = define "mark_sUnUz" ( -- 263
     among A-15)  -- 264
 
-unfoldable pub mark-lAr : Command
-mark-lAr = define "mark_lAr" ( -- 267
-    check-vowel-harmony then  -- 268
+unfoldable pub mark_lAr : Command
+mark_lAr = define "mark_lAr" ( -- 267
+    check_vowel_harmony then  -- 268
     among A-16)  -- 269
 
-unfoldable pub mark-nUz : Command
-mark-nUz = define "mark_nUz" ( -- 272
-    check-vowel-harmony then  -- 273
+unfoldable pub mark_nUz : Command
+mark_nUz = define "mark_nUz" ( -- 272
+    check_vowel_harmony then  -- 273
     among A-17)  -- 274
 
-unfoldable pub mark-DUr : Command
-mark-DUr = define "mark_DUr" ( -- 277
-    check-vowel-harmony then  -- 278
+unfoldable pub mark_DUr : Command
+mark_DUr = define "mark_DUr" ( -- 277
+    check_vowel_harmony then  -- 278
     among A-18)  -- 279
 
-unfoldable pub mark-cAsInA : Command
-mark-cAsInA = define "mark_cAsInA" ( -- 282
+unfoldable pub mark_cAsInA : Command
+mark_cAsInA = define "mark_cAsInA" ( -- 282
     among A-19)  -- 283
 
-unfoldable pub mark-yDU : Command
-mark-yDU = define "mark_yDU" ( -- 286
-    check-vowel-harmony then  -- 287
+unfoldable pub mark_yDU : Command
+mark_yDU = define "mark_yDU" ( -- 286
+    check_vowel_harmony then  -- 287
     among A-20 then  -- 288
-    (mark-suffix-with-optional-y-consonant))  -- 292
+    (mark_suffix_with_optional_y_consonant))  -- 292
 
-unfoldable pub mark-ysA : Command
-mark-ysA = define "mark_ysA" ( -- 296
+unfoldable pub mark_ysA : Command
+mark_ysA = define "mark_ysA" ( -- 296
     among A-21 then  -- 297
-    (mark-suffix-with-optional-y-consonant))  -- 298
+    (mark_suffix_with_optional_y_consonant))  -- 298
 
-unfoldable pub mark-ymUs- : Command
-mark-ymUs- = define "mark_ymUs_" ( -- 301
-    check-vowel-harmony then  -- 302
+unfoldable pub mark_ymUs_ : Command
+mark_ymUs_ = define "mark_ymUs_" ( -- 301
+    check_vowel_harmony then  -- 302
     among A-22 then  -- 303
-    (mark-suffix-with-optional-y-consonant))  -- 304
+    (mark_suffix_with_optional_y_consonant))  -- 304
 
-unfoldable pub mark-yken : Command
-mark-yken = define "mark_yken" ( -- 307
-    literal "ken" then (mark-suffix-with-optional-y-consonant))  -- 308
+unfoldable pub mark_yken : Command
+mark_yken = define "mark_yken" ( -- 307
+    literal "ken" then (mark_suffix_with_optional_y_consonant))  -- 308
 
-unfoldable pub stem-nominal-verb-suffixes : Command
-stem-nominal-verb-suffixes = define "stem_nominal_verb_suffixes" ( -- 311
+unfoldable pub stem_nominal_verb_suffixes : Command
+stem_nominal_verb_suffixes = define "stem_nominal_verb_suffixes" ( -- 311
     ⟦ then  -- 312
     set then  -- 313
-    (mark-ymUs- or mark-yDU or mark-ysA or mark-yken)  -- 314
+    (mark_ymUs_ or mark_yDU or mark_ysA or mark_yken)  -- 314
     or  -- 315
-    (mark-cAsInA then (mark-sUnUz or mark-lAr or mark-yUm or mark-sUn or mark-yUz or succeed) then mark-ymUs-)  -- 316
+    (mark_cAsInA then (mark_sUnUz or mark_lAr or mark_yUm or mark_sUn or mark_yUz or succeed) then mark_ymUs_)  -- 316
     or
     ( -- 318
-    mark-lAr then ⟧ then delete then try (⟦ then (mark-DUr or mark-yDU or mark-ysA or mark-ymUs-)) then  -- 319
+    mark_lAr then ⟧ then delete then try (⟦ then (mark_DUr or mark_yDU or mark_ysA or mark_ymUs_)) then  -- 319
     unset  -- 320
     )
     or
-    (mark-nUz then (mark-yDU or mark-ysA))  -- 323
+    (mark_nUz then (mark_yDU or mark_ysA))  -- 323
     or
-    ((mark-sUnUz or mark-yUz or mark-sUn or mark-yUm) then ⟧ then delete then try (⟦ then mark-ymUs-))  -- 325
+    ((mark_sUnUz or mark_yUz or mark_sUn or mark_yUm) then ⟧ then delete then try (⟦ then mark_ymUs_))  -- 325
     or
     ( -- 327
-    mark-DUr then ⟧ then delete then try  -- 327
-    (⟦ then (mark-sUnUz or mark-lAr or mark-yUm or mark-sUn or mark-yUz or succeed) then mark-ymUs-)  -- 327
+    mark_DUr then ⟧ then delete then try  -- 327
+    (⟦ then (mark_sUnUz or mark_lAr or mark_yUm or mark_sUn or mark_yUz or succeed) then mark_ymUs_)  -- 327
     ) then
     ⟧ then delete)  -- 328
 
-unfoldable pub stem-suffix-chain-before-ki : Command
-stem-suffix-chain-before-ki = define "stem_suffix_chain_before_ki" (routine ( -- 332
+unfoldable pub stem_suffix_chain_before_ki : Command
+stem_suffix_chain_before_ki = define "stem_suffix_chain_before_ki" (routine ( -- 332
     ⟦ then  -- 333
-    mark-ki then  -- 334
+    mark_ki then  -- 334
     ( -- 335
-    (mark-DA then ⟧ then delete then try (⟦ then  -- 336
-    (mark-lAr then ⟧ then delete then try (itself))  -- 337
+    (mark_DA then ⟧ then delete then try (⟦ then  -- 336
+    (mark_lAr then ⟧ then delete then try (itself))  -- 337
     or  -- 338
-    (mark-possessives then ⟧ then delete then try (⟦ then mark-lAr then ⟧ then delete then itself))  -- 339
+    (mark_possessives then ⟧ then delete then try (⟦ then mark_lAr then ⟧ then delete then itself))  -- 339
     ))
     or  -- 342
-    (mark-nUn then ⟧ then delete then try (⟦ then  -- 343
-    (mark-lArI then ⟧ then delete)  -- 344
+    (mark_nUn then ⟧ then delete then try (⟦ then  -- 343
+    (mark_lArI then ⟧ then delete)  -- 344
     or  -- 345
-    (⟦ then mark-possessives or mark-sU then ⟧ then delete then try (⟦ then mark-lAr then ⟧ then delete then itself))  -- 346
+    (⟦ then mark_possessives or mark_sU then ⟧ then delete then try (⟦ then mark_lAr then ⟧ then delete then itself))  -- 346
     or
     (itself)  -- 348
     ))
     or
-    (mark-ndA then ( -- 351
-    (mark-lArI then ⟧ then delete)  -- 352
+    (mark_ndA then ( -- 351
+    (mark_lArI then ⟧ then delete)  -- 352
     or  -- 353
-    ((mark-sU then ⟧ then delete then try (⟦ then mark-lAr then ⟧ then delete then itself)))  -- 354
+    ((mark_sU then ⟧ then delete then try (⟦ then mark_lAr then ⟧ then delete then itself)))  -- 354
     or
     (itself)  -- 356
     ))
     )))
 
-unfoldable pub stem-noun-suffixes : Command
-stem-noun-suffixes = define "stem_noun_suffixes" ( -- 361
-    (⟦ then mark-lAr then ⟧ then delete then try (stem-suffix-chain-before-ki))  -- 362
+unfoldable pub stem_noun_suffixes : Command
+stem_noun_suffixes = define "stem_noun_suffixes" ( -- 361
+    (⟦ then mark_lAr then ⟧ then delete then try (stem_suffix_chain_before_ki))  -- 362
     or  -- 363
-    (⟦ then mark-ncA then ⟧ then delete then  -- 364
+    (⟦ then mark_ncA then ⟧ then delete then  -- 364
     try ( -- 365
-    (⟦ then mark-lArI then ⟧ then delete)  -- 366
+    (⟦ then mark_lArI then ⟧ then delete)  -- 366
     or  -- 367
-    (⟦ then mark-possessives or mark-sU then ⟧ then delete then try (⟦ then mark-lAr then ⟧ then delete then stem-suffix-chain-before-ki))  -- 368
+    (⟦ then mark_possessives or mark_sU then ⟧ then delete then try (⟦ then mark_lAr then ⟧ then delete then stem_suffix_chain_before_ki))  -- 368
     or
-    (⟦ then mark-lAr then ⟧ then delete then stem-suffix-chain-before-ki)  -- 370
+    (⟦ then mark_lAr then ⟧ then delete then stem_suffix_chain_before_ki)  -- 370
     ))
     or
-    (⟦ then (mark-ndA or mark-nA) then  -- 374
+    (⟦ then (mark_ndA or mark_nA) then  -- 374
     ( -- 375
-    (mark-lArI then ⟧ then delete)  -- 376
+    (mark_lArI then ⟧ then delete)  -- 376
     or  -- 377
-    (mark-sU then ⟧ then delete then try (⟦ then mark-lAr then ⟧ then delete then stem-suffix-chain-before-ki))  -- 378
+    (mark_sU then ⟧ then delete then try (⟦ then mark_lAr then ⟧ then delete then stem_suffix_chain_before_ki))  -- 378
     or
-    (stem-suffix-chain-before-ki)  -- 380
+    (stem_suffix_chain_before_ki)  -- 380
     ))
     or
-    (⟦ then (mark-ndAn or mark-nU) then  -- 384
-    ((mark-sU then ⟧ then delete then try (⟦ then mark-lAr then ⟧ then delete then stem-suffix-chain-before-ki)) or (mark-lArI)))  -- 384
+    (⟦ then (mark_ndAn or mark_nU) then  -- 384
+    ((mark_sU then ⟧ then delete then try (⟦ then mark_lAr then ⟧ then delete then stem_suffix_chain_before_ki)) or (mark_lArI)))  -- 384
     or
-    (⟦ then mark-DAn then ⟧ then delete then try (⟦ then  -- 386
+    (⟦ then mark_DAn then ⟧ then delete then try (⟦ then  -- 386
     ( -- 387
-    (mark-possessives then ⟧ then delete then try (⟦ then mark-lAr then ⟧ then delete then stem-suffix-chain-before-ki))  -- 388
+    (mark_possessives then ⟧ then delete then try (⟦ then mark_lAr then ⟧ then delete then stem_suffix_chain_before_ki))  -- 388
     or  -- 389
-    (mark-lAr then ⟧ then delete then try (stem-suffix-chain-before-ki))  -- 390
+    (mark_lAr then ⟧ then delete then try (stem_suffix_chain_before_ki))  -- 390
     or
-    (stem-suffix-chain-before-ki)  -- 392
+    (stem_suffix_chain_before_ki)  -- 392
     )))
     or
-    (⟦ then mark-nUn or mark-ylA then ⟧ then delete then  -- 396
+    (⟦ then mark_nUn or mark_ylA then ⟧ then delete then  -- 396
     try ( -- 397
-    (⟦ then mark-lAr then ⟧ then delete then stem-suffix-chain-before-ki)  -- 398
+    (⟦ then mark_lAr then ⟧ then delete then stem_suffix_chain_before_ki)  -- 398
     or  -- 399
-    (⟦ then mark-possessives or mark-sU then ⟧ then delete then try (⟦ then mark-lAr then ⟧ then delete then stem-suffix-chain-before-ki))  -- 400
+    (⟦ then mark_possessives or mark_sU then ⟧ then delete then try (⟦ then mark_lAr then ⟧ then delete then stem_suffix_chain_before_ki))  -- 400
     or
-    stem-suffix-chain-before-ki  -- 402
+    stem_suffix_chain_before_ki  -- 402
     ))
     or
-    (⟦ then mark-lArI then ⟧ then delete)  -- 406
+    (⟦ then mark_lArI then ⟧ then delete)  -- 406
     or
-    (stem-suffix-chain-before-ki)  -- 408
+    (stem_suffix_chain_before_ki)  -- 408
     or
-    (⟦ then mark-DA or mark-yU or mark-yA then ⟧ then delete then try (⟦ then  -- 410
-    ((mark-possessives then ⟧ then delete then try (⟦ then mark-lAr)) or mark-lAr) then  -- 410
-    ⟧ then delete then ⟦ then stem-suffix-chain-before-ki))  -- 410
+    (⟦ then mark_DA or mark_yU or mark_yA then ⟧ then delete then try (⟦ then  -- 410
+    ((mark_possessives then ⟧ then delete then try (⟦ then mark_lAr)) or mark_lAr) then  -- 410
+    ⟧ then delete then ⟦ then stem_suffix_chain_before_ki))  -- 410
     or
-    (⟦ then mark-possessives or mark-sU then ⟧ then delete then try (⟦ then mark-lAr then ⟧ then delete then stem-suffix-chain-before-ki)))  -- 412
+    (⟦ then mark_possessives or mark_sU then ⟧ then delete then try (⟦ then mark_lAr then ⟧ then delete then stem_suffix_chain_before_ki)))  -- 412
 
-unfoldable pub post-process-last-consonants : Command
-post-process-last-consonants = define "post_process_last_consonants" ( -- 415
+unfoldable pub post_process_last_consonants : Command
+post_process_last_consonants = define "post_process_last_consonants" ( -- 415
     ⟦ then substring A-23 then ⟧ then  -- 416
     case 1 (<- "p") then  -- 417
     case 2 (<- "ç") then  -- 418
     case 3 (<- "t") then  -- 419
     case 4 (<- "k"))  -- 420
 
-unfoldable pub append-U-to-stems-ending-with-d-or-g : Command
-append-U-to-stems-ending-with-d-or-g = define "append_U_to_stems_ending_with_d_or_g" ( -- 430
+unfoldable pub append_U_to_stems_ending_with_d_or_g : Command
+append_U_to_stems_ending_with_d_or_g = define "append_U_to_stems_ending_with_d_or_g" ( -- 430
     test (literal "d" or literal "g") then  -- 431
     (test ((goto (grouping vowel)) then literal "a" or literal "ı") then <+ "ı")  -- 432
     or  -- 433
@@ -419,29 +419,29 @@ append-U-to-stems-ending-with-d-or-g = define "append_U_to_stems_ending_with_d_o
     or
     (test ((goto (grouping vowel)) then literal "ö" or literal "ü") then <+ "ü"))  -- 438
 
-unfoldable pub more-than-one-syllable-word : Command
-more-than-one-syllable-word = define "more_than_one_syllable_word" ( -- 445
+unfoldable pub more_than_one_syllable_word : Command
+more_than_one_syllable_word = define "more_than_one_syllable_word" ( -- 445
     test (atleast 2 (gopast (grouping vowel))))  -- 446
 
-unfoldable pub is-reserved-word : Command
-is-reserved-word = define "is_reserved_word" ( -- 449
+unfoldable pub is_reserved_word : Command
+is_reserved_word = define "is_reserved_word" ( -- 449
     test (gopast (literal "ad") then (strlen= 2) then (strlen==limit))  -- 450
     or  -- 451
     test (gopast (literal "soyad") then (strlen= 5) then (strlen==limit)))  -- 452
 
 unfoldable pub postlude : Command
 postlude = define "postlude" ( -- 455
-    not (is-reserved-word) then  -- 456
+    not (is_reserved_word) then  -- 456
     backwards ( -- 457
-    «do» append-U-to-stems-ending-with-d-or-g then  -- 458
-    «do» post-process-last-consonants))  -- 459
+    «do» append_U_to_stems_ending_with_d_or_g then  -- 458
+    «do» post_process_last_consonants))  -- 459
 
 unfoldable pub stem : Command
 stem = define "stem" ( -- 464
-    (more-than-one-syllable-word) then  -- 465
+    (more_than_one_syllable_word) then  -- 465
     ( -- 466
     backwards ( -- 467
-    «do» stem-nominal-verb-suffixes then  -- 468
+    «do» stem_nominal_verb_suffixes then  -- 468
     is_set then  -- 469
-    «do» stem-noun-suffixes) then  -- 470
+    «do» stem_noun_suffixes) then  -- 470
     postlude))  -- 473

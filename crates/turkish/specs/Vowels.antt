@@ -11,10 +11,10 @@ unfoldable pub vowel : ℕ → Bool
 vowel c = has vowels c
 
 -- the vowel nearest the cursor (0 where there is none), and what stands before it
-unfoldable pub lastVowel : List ℕ → ℕ
-lastVowel [] = 0
-lastVowel (c ∷ cs) = cond (vowel c) c (lastVowel cs)
+unfoldable pub last_vowel_of : List ℕ → ℕ
+last_vowel_of [] = 0
+last_vowel_of (c ∷ cs) = cond (vowel c) c (last_vowel_of cs)
 
-unfoldable pub beforeLastVowel : List ℕ → List ℕ
-beforeLastVowel [] = []
-beforeLastVowel (c ∷ cs) = cond (vowel c) cs (beforeLastVowel cs)
+unfoldable pub before_last_vowel : List ℕ → List ℕ
+before_last_vowel [] = []
+before_last_vowel (c ∷ cs) = cond (vowel c) cs (before_last_vowel cs)

@@ -12,15 +12,15 @@ use lib.Dec.{eqb}
 use borrow.Author.Tests.{eqb-true, eq-eqb}
 use Rattle.utf8.specs.declared.cursor.Cursor.{Cursor}
 use Rattle.encoding.specs.Scalar.{scalars}
-use Rattle.encoding.specs.Encoding.{encodeAll}
+use Rattle.encoding.specs.Encoding.{encode_all}
 use Rattle.encoding.specs.Text.{TextOf}
-use Rattle.encoding.specs.Validity.{isText}
+use Rattle.encoding.specs.Validity.{is_text}
 use Rattle.utf8.specs.Characters.{before}
-use Rattle.utf8.specs.Steps.{moveTo, same, standsAt, passed, eqSB, eqS}
+use Rattle.utf8.specs.Steps.{move_to, same, stands_at_of, passed, eq_s_b_of, eq_s_of}
 use Rattle.encoding.proofs.Laws.Booleans.{and_left, and_right}
-use Rattle.utf8.proofs.Laws.Steps.{stands-ordered, eqSB-moves, eqSB-moved, eqS-moves, eqS-moved}
-use Rattle.encoding.proofs.CheckExact.{isText-encodeAll-append, encodes-isText, isText-encodes}
-use Rattle.utf8.proofs.TextCharacters.{encodeAll-append, scalars-append, before_text, before-after, encodeAll-injective}
+use Rattle.utf8.proofs.Laws.Steps.{stands-ordered, eq_s_b_of-moves, eq_s_b_of-moved, eq_s_of-moves, eq_s_of-moved}
+use Rattle.encoding.proofs.CheckExact.{is_text-encode_all-append, encodes-is_text, is_text-encodes}
+use Rattle.utf8.proofs.TextCharacters.{encode_all-append, scalars-append, before_text, before-after, encode_all-injective}
 
 -- ---- bytes that stand at a place ----
 
@@ -42,70 +42,70 @@ same_refl [] = refl
 same_refl (x ∷ xs) = rw (eq-eqb x x refl) (same_refl xs)
 
 -- where bytes stand, the word goes on with them and then with what follows them
-standsAt-drop : (w : List ℕ) (i : ℕ) (s : List ℕ) → standsAt w i s ≡ true → drop i w ≡ s ++ drop (i + length s) w
-unfolding standsAt
-standsAt-drop w i s e = sym (take-append-drop (length s) (drop i w)) ∙ rw (same-equal (take (length s) (drop i w)) s e, drop-drop (length s) i w)
+stands_at_of-drop : (w : List ℕ) (i : ℕ) (s : List ℕ) → stands_at_of w i s ≡ true → drop i w ≡ s ++ drop (i + length s) w
+unfolding stands_at_of
+stands_at_of-drop w i s e = sym (take-append-drop (length s) (drop i w)) ∙ rw (same-equal (take (length s) (drop i w)) s e, drop-drop (length s) i w)
 
 -- the whole word around them
-standsAt-around : (w : List ℕ) (i : ℕ) (s : List ℕ) → standsAt w i s ≡ true → w ≡ take i w ++ s ++ drop (i + length s) w
-standsAt-around w i s e = sym (take-append-drop i w) ∙ rw (append_assoc, ← standsAt-drop w i s e)
+stands_at_of-around : (w : List ℕ) (i : ℕ) (s : List ℕ) → stands_at_of w i s ≡ true → w ≡ take i w ++ s ++ drop (i + length s) w
+stands_at_of-around w i s e = sym (take-append-drop i w) ∙ rw (append_assoc, ← stands_at_of-drop w i s e)
 
 -- bytes stand where they were put
-standsAt-between : (p s q : List ℕ) → standsAt (p ++ s ++ q) (length p) s ≡ true
-unfolding standsAt
-standsAt-between p s q = rw (append_assoc, drop-append_seam, take-append_seam) (same_refl s)
+stands_at_of-between : (p s q : List ℕ) → stands_at_of (p ++ s ++ q) (length p) s ≡ true
+unfolding stands_at_of
+stands_at_of-between p s q = rw (append_assoc, drop-append_seam, take-append_seam) (same_refl s)
 
 -- ---- back ----
 
 -- back past a literal that is a text, over any bytes: the characters before the cursor are the literal's, from its end, and then those before the
 -- place that the cursor comes to
-pub eqSB-before : (w s : List ℕ) (r : Cursor) (t : TextOf s) → (eqSB w s r).moved ≡ true → before w r.cursor ≡ reverse t.chars ++ before w (eqSB w s r).next.cursor
-unfolding moveTo
-eqSB-before w s r t m =
-    let b = eqSB-moved w s r m in
+pub eq_s_b_of-before : (w s : List ℕ) (r : Cursor) (t : TextOf s) → (eq_s_b_of w s r).moved ≡ true → before w r.cursor ≡ reverse t.chars ++ before w (eq_s_b_of w s r).next.cursor
+unfolding move_to
+eq_s_b_of-before w s r t m =
+    let b = eq_s_b_of-moved w s r m in
     let i : ℕ = r.cursor - length s in
     let p : List ℕ = take i w in
     let l : length p ≡ i = length-take-le i w (omega (arith, b)) in
-    let k : length (p ++ encodeAll t.chars) ≡ r.cursor = length-append p (encodeAll t.chars) ∙ rw t.encoded (omega (arith, b)) in
-    let around : w ≡ p ++ encodeAll t.chars ++ drop (i + length s) w = rw t.encoded (standsAt-around w i s b.equal) in
-    let at : (eqSB w s r).next.cursor ≡ i = ap (λ (n : Cursor). n.cursor) b.lands in
+    let k : length (p ++ encode_all t.chars) ≡ r.cursor = length-append p (encode_all t.chars) ∙ rw t.encoded (omega (arith, b)) in
+    let around : w ≡ p ++ encode_all t.chars ++ drop (i + length s) w = rw t.encoded (stands_at_of-around w i s b.equal) in
+    let at : (eq_s_b_of w s r).next.cursor ≡ i = ap (λ (n : Cursor). n.cursor) b.lands in
     ap (before w) (sym k) ∙ before-after w p t.chars (drop (i + length s) w) t.valid around ∙ rw (l, at)
 
 -- the literal's characters ls end the characters cs before the cursor, which comes from r to n, before them
 pub record PassedBack (cs ls : List ℕ) (r n : Cursor) : Type 0 where
   pub front : List ℕ
   pub ends : cs ≡ front ++ ls
-  pub lands : n ≡ moveTo r (length (encodeAll front))
+  pub lands : n ≡ move_to r (length (encode_all front))
 
 -- so from between two characters of a text it comes to such a place
-pub eqSB-whole : (cs ds ls : List ℕ) (r : Cursor) → scalars (cs ++ ds) ≡ true → scalars ls ≡ true → r.cursor ≡ length (encodeAll cs)
-    → (eqSB (encodeAll (cs ++ ds)) (encodeAll ls) r).moved ≡ true → PassedBack cs ls r (eqSB (encodeAll (cs ++ ds)) (encodeAll ls) r).next
-eqSB-whole cs ds ls r h k e m =
-    let w : List ℕ = encodeAll (cs ++ ds) in
-    let n : Cursor = (eqSB w (encodeAll ls) r).next in
-    let b = eqSB-moved w (encodeAll ls) r m in
+pub eq_s_b_of-whole : (cs ds ls : List ℕ) (r : Cursor) → scalars (cs ++ ds) ≡ true → scalars ls ≡ true → r.cursor ≡ length (encode_all cs)
+    → (eq_s_b_of (encode_all (cs ++ ds)) (encode_all ls) r).moved ≡ true → PassedBack cs ls r (eq_s_b_of (encode_all (cs ++ ds)) (encode_all ls) r).next
+eq_s_b_of-whole cs ds ls r h k e m =
+    let w : List ℕ = encode_all (cs ++ ds) in
+    let n : Cursor = (eq_s_b_of w (encode_all ls) r).next in
+    let b = eq_s_b_of-moved w (encode_all ls) r m in
     let valid : scalars cs ≡ true = and_left (scalars cs) (scalars ds) (rw scalars-append at h) in
-    let all : before w r.cursor ≡ reverse cs = rw (e, encodeAll-append) (before_text cs (encodeAll ds) valid) in
-    let some : reverse cs ≡ reverse ls ++ before w n.cursor = sym all ∙ eqSB-before w (encodeAll ls) r (record { chars = ls; valid = k; encoded = refl }) m in
+    let all : before w r.cursor ≡ reverse cs = rw (e, encode_all-append) (before_text cs (encode_all ds) valid) in
+    let some : reverse cs ≡ reverse ls ++ before w n.cursor = sym all ∙ eq_s_b_of-before w (encode_all ls) r (record { chars = ls; valid = k; encoded = refl }) m in
     let front : List ℕ = reverse (before w n.cursor) in
     let ends : cs ≡ front ++ ls = sym (reverse-reverse cs) ∙ ap reverse some ∙ rw (reverse-append, reverse-reverse) in
-    let bytes : length (encodeAll cs) ≡ length (encodeAll front) + length (encodeAll ls) =
-    ap (λ (l : List ℕ). length (encodeAll l)) ends ∙ ap length (encodeAll-append front ls) ∙ length-append (encodeAll front) (encodeAll ls) in
-    let place : r.cursor - length (encodeAll ls) ≡ length (encodeAll front) = omega arith in
-    record { front = front; ends = ends; lands = b.lands ∙ ap (moveTo r) place }
+    let bytes : length (encode_all cs) ≡ length (encode_all front) + length (encode_all ls) =
+    ap (λ (l : List ℕ). length (encode_all l)) ends ∙ ap length (encode_all-append front ls) ∙ length-append (encode_all front) (encode_all ls) in
+    let place : r.cursor - length (encode_all ls) ≡ length (encode_all front) = omega arith in
+    record { front = front; ends = ends; lands = b.lands ∙ ap (move_to r) place }
 
 -- and it is passed where its characters stand, unless limit_backward comes first
-pub eqSB-passes : (cs ls ds : List ℕ) (r : Cursor) → r.cursor ≡ length (encodeAll (cs ++ ls)) → r.limit_backward ≤ length (encodeAll cs)
-    → r.cursor ≤ r.limit → r.limit ≤ length (encodeAll (cs ++ ls ++ ds))
-    → eqSB (encodeAll (cs ++ ls ++ ds)) (encodeAll ls) r ≡ passed r (length (encodeAll cs))
-eqSB-passes cs ls ds r e l m n =
-    let w : List ℕ = encodeAll (cs ++ ls ++ ds) in
-    let bytes : w ≡ encodeAll cs ++ encodeAll ls ++ encodeAll ds = rw (encodeAll-append, encodeAll-append) in
-    let sum : length (encodeAll (cs ++ ls)) ≡ length (encodeAll cs) + length (encodeAll ls) = rw (encodeAll-append, length-append) in
-    let place : r.cursor - length (encodeAll ls) ≡ length (encodeAll cs) = omega arith in
-    let equal : standsAt w (r.cursor - length (encodeAll ls)) (encodeAll ls) ≡ true =
-    rw (place, bytes) (standsAt-between (encodeAll cs) (encodeAll ls) (encodeAll ds)) in
-    eqSB-moves w (encodeAll ls) r (stands-ordered w r (omega arith) m n) (omega arith) equal ∙ ap (passed r) place
+pub eq_s_b_of-passes : (cs ls ds : List ℕ) (r : Cursor) → r.cursor ≡ length (encode_all (cs ++ ls)) → r.limit_backward ≤ length (encode_all cs)
+    → r.cursor ≤ r.limit → r.limit ≤ length (encode_all (cs ++ ls ++ ds))
+    → eq_s_b_of (encode_all (cs ++ ls ++ ds)) (encode_all ls) r ≡ passed r (length (encode_all cs))
+eq_s_b_of-passes cs ls ds r e l m n =
+    let w : List ℕ = encode_all (cs ++ ls ++ ds) in
+    let bytes : w ≡ encode_all cs ++ encode_all ls ++ encode_all ds = rw (encode_all-append, encode_all-append) in
+    let sum : length (encode_all (cs ++ ls)) ≡ length (encode_all cs) + length (encode_all ls) = rw (encode_all-append, length-append) in
+    let place : r.cursor - length (encode_all ls) ≡ length (encode_all cs) = omega arith in
+    let equal : stands_at_of w (r.cursor - length (encode_all ls)) (encode_all ls) ≡ true =
+    rw (place, bytes) (stands_at_of-between (encode_all cs) (encode_all ls) (encode_all ds)) in
+    eq_s_b_of-moves w (encode_all ls) r (stands-ordered w r (omega arith) m n) (omega arith) equal ∙ ap (passed r) place
 
 -- ---- on ----
 
@@ -113,41 +113,41 @@ eqSB-passes cs ls ds r e l m n =
 pub record PassedOn (cs ds ls : List ℕ) (r n : Cursor) : Type 0 where
   pub rest : List ℕ
   pub begins : ds ≡ ls ++ rest
-  pub lands : n ≡ moveTo r (length (encodeAll (cs ++ ls)))
+  pub lands : n ≡ move_to r (length (encode_all (cs ++ ls)))
 
 -- bytes that a text goes on with after some of its characters are a text
-rest-text : (ds ls q : List ℕ) → scalars ds ≡ true → encodeAll ds ≡ encodeAll ls ++ q → TextOf q
+rest-text : (ds ls q : List ℕ) → scalars ds ≡ true → encode_all ds ≡ encode_all ls ++ q → TextOf q
 rest-text ds ls q h e =
-    isText-encodes q (and_right (scalars ls) (isText q) (sym (isText-encodeAll-append ls q) ∙ ap isText (sym e) ∙ encodes-isText ds h))
+    is_text-encodes q (and_right (scalars ls) (is_text q) (sym (is_text-encode_all-append ls q) ∙ ap is_text (sym e) ∙ encodes-is_text ds h))
 
 -- and whose characters follow those
-rest-chars : (ds ls q : List ℕ) (t : TextOf q) → scalars ds ≡ true → scalars ls ≡ true → encodeAll ds ≡ encodeAll ls ++ q → ds ≡ ls ++ t.chars
+rest-chars : (ds ls q : List ℕ) (t : TextOf q) → scalars ds ≡ true → scalars ls ≡ true → encode_all ds ≡ encode_all ls ++ q → ds ≡ ls ++ t.chars
 rest-chars ds ls q t h k e =
     let both : scalars (ls ++ t.chars) ≡ true = rw (scalars-append, k, t.valid) in
-    encodeAll-injective ds (ls ++ t.chars) h both (e ∙ sym (encodeAll-append ls t.chars ∙ ap (λ (l : List ℕ). encodeAll ls ++ l) t.encoded))
+    encode_all-injective ds (ls ++ t.chars) h both (e ∙ sym (encode_all-append ls t.chars ∙ ap (λ (l : List ℕ). encode_all ls ++ l) t.encoded))
 
 -- on past a literal that is a text, from between two characters of a text: the characters after the cursor begin with the literal's, and it
 -- comes to where they end
-pub eqS-whole : (cs ds ls : List ℕ) (r : Cursor) → scalars (cs ++ ds) ≡ true → scalars ls ≡ true → r.cursor ≡ length (encodeAll cs)
-    → (eqS (encodeAll (cs ++ ds)) (encodeAll ls) r).moved ≡ true → PassedOn cs ds ls r (eqS (encodeAll (cs ++ ds)) (encodeAll ls) r).next
-eqS-whole cs ds ls r h k e m =
-    let w : List ℕ = encodeAll (cs ++ ds) in
-    let o = eqS-moved w (encodeAll ls) r m in
-    let q : List ℕ = drop (r.cursor + length (encodeAll ls)) w in
+pub eq_s_of-whole : (cs ds ls : List ℕ) (r : Cursor) → scalars (cs ++ ds) ≡ true → scalars ls ≡ true → r.cursor ≡ length (encode_all cs)
+    → (eq_s_of (encode_all (cs ++ ds)) (encode_all ls) r).moved ≡ true → PassedOn cs ds ls r (eq_s_of (encode_all (cs ++ ds)) (encode_all ls) r).next
+eq_s_of-whole cs ds ls r h k e m =
+    let w : List ℕ = encode_all (cs ++ ds) in
+    let o = eq_s_of-moved w (encode_all ls) r m in
+    let q : List ℕ = drop (r.cursor + length (encode_all ls)) w in
     let valid : scalars ds ≡ true = and_right (scalars cs) (scalars ds) (rw scalars-append at h) in
-    let after : drop r.cursor w ≡ encodeAll ds = rw (e, encodeAll-append, drop-append_seam) in
-    let bytes : encodeAll ds ≡ encodeAll ls ++ q = sym after ∙ standsAt-drop w r.cursor (encodeAll ls) o.equal in
+    let after : drop r.cursor w ≡ encode_all ds = rw (e, encode_all-append, drop-append_seam) in
+    let bytes : encode_all ds ≡ encode_all ls ++ q = sym after ∙ stands_at_of-drop w r.cursor (encode_all ls) o.equal in
     let t = rest-text ds ls q valid bytes in
-    let place : r.cursor + length (encodeAll ls) ≡ length (encodeAll (cs ++ ls)) = rw (encodeAll-append, length-append, e) in
-    record { rest = t.chars; begins = rest-chars ds ls q t valid k bytes; lands = o.lands ∙ ap (moveTo r) place }
+    let place : r.cursor + length (encode_all ls) ≡ length (encode_all (cs ++ ls)) = rw (encode_all-append, length-append, e) in
+    record { rest = t.chars; begins = rest-chars ds ls q t valid k bytes; lands = o.lands ∙ ap (move_to r) place }
 
 -- and it is passed where its characters stand, unless limit comes first
-pub eqS-passes : (cs ls ds : List ℕ) (r : Cursor) → r.cursor ≡ length (encodeAll cs) → r.limit_backward ≤ r.cursor → r.cursor < r.limit
-    → length (encodeAll (cs ++ ls)) ≤ r.limit → r.limit ≤ length (encodeAll (cs ++ ls ++ ds))
-    → eqS (encodeAll (cs ++ ls ++ ds)) (encodeAll ls) r ≡ passed r (length (encodeAll (cs ++ ls)))
-eqS-passes cs ls ds r e l b m n =
-    let w : List ℕ = encodeAll (cs ++ ls ++ ds) in
-    let bytes : w ≡ encodeAll cs ++ encodeAll ls ++ encodeAll ds = rw (encodeAll-append, encodeAll-append) in
-    let place : r.cursor + length (encodeAll ls) ≡ length (encodeAll (cs ++ ls)) = rw (encodeAll-append, length-append, e) in
-    let equal : standsAt w r.cursor (encodeAll ls) ≡ true = rw (e, bytes) (standsAt-between (encodeAll cs) (encodeAll ls) (encodeAll ds)) in
-    eqS-moves w (encodeAll ls) r (stands-ordered w r l (omega arith) n) b (omega arith) equal ∙ ap (passed r) place
+pub eq_s_of-passes : (cs ls ds : List ℕ) (r : Cursor) → r.cursor ≡ length (encode_all cs) → r.limit_backward ≤ r.cursor → r.cursor < r.limit
+    → length (encode_all (cs ++ ls)) ≤ r.limit → r.limit ≤ length (encode_all (cs ++ ls ++ ds))
+    → eq_s_of (encode_all (cs ++ ls ++ ds)) (encode_all ls) r ≡ passed r (length (encode_all (cs ++ ls)))
+eq_s_of-passes cs ls ds r e l b m n =
+    let w : List ℕ = encode_all (cs ++ ls ++ ds) in
+    let bytes : w ≡ encode_all cs ++ encode_all ls ++ encode_all ds = rw (encode_all-append, encode_all-append) in
+    let place : r.cursor + length (encode_all ls) ≡ length (encode_all (cs ++ ls)) = rw (encode_all-append, length-append, e) in
+    let equal : stands_at_of w r.cursor (encode_all ls) ≡ true = rw (e, bytes) (stands_at_of-between (encode_all cs) (encode_all ls) (encode_all ds)) in
+    eq_s_of-moves w (encode_all ls) r (stands-ordered w r l (omega arith) n) b (omega arith) equal ∙ ap (passed r) place

@@ -5,11 +5,11 @@ use Rattle.utf8.specs.declared.cursor.Cursor.{Cursor}
 use Rattle.utf8.specs.declared.characters.Read.{Read}
 use Rattle.encoding.specs.Encoding.{continuation}
 use Rattle.utf8.specs.Characters.{before, back}
-use Rattle.utf8.specs.Steps.{stands, moveTo}
+use Rattle.utf8.specs.Steps.{stands, move_to}
 
 -- the character that ends at place c, 0 where none does, and the place where it begins
-unfoldable pub readBack : List ℕ → ℕ → Read
-readBack w c = record { ch = get_or (before w c) 0 0; at = back w c 1 }
+unfoldable pub read_back_of : List ℕ → ℕ → Read
+read_back_of w c = record { ch = get_or (before w c) 0 0; at = back w c 1 }
 
 -- the characters before the cursor, the nearest first
 unfoldable pub behind : List ℕ → Cursor → List ℕ
@@ -17,7 +17,7 @@ behind w r = before (drop r.limit_backward w) (r.cursor - r.limit_backward)
 
 -- the record n characters back, or as far back as limit_backward lets it
 unfoldable pub back_by : List ℕ → Cursor → ℕ → Cursor
-back_by w r n = moveTo r (r.limit_backward + back (drop r.limit_backward w) (r.cursor - r.limit_backward) n)
+back_by w r n = move_to r (r.limit_backward + back (drop r.limit_backward w) (r.cursor - r.limit_backward) n)
 
 -- the record after all from the cursor on is deleted (`slice_del`, at an end): the limit comes down to the cursor
 unfoldable pub deleted : Cursor → Cursor

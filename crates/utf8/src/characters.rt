@@ -1,15 +1,15 @@
 // The character that ends, and the one that begins, at a place of a word. Total on any bytes: nothing here asks for valid UTF-8.
 ghost use Rattle.std.specs.Prelude.{◌≡◌, [], ◌∷◌, ◌+◌, ◌%◌, ◌≤◌, ◌<◌, max, length, get_or};
 ghost use Rattle.encoding.specs.Encoding.{decode, continuation};
-ghost use Rattle.utf8.specs.Behind.{readBack};
-ghost use Rattle.utf8.specs.Characters.{goesOn, lastWidth, firstWidth, char_at};
+ghost use Rattle.utf8.specs.Behind.{read_back_of};
+ghost use Rattle.utf8.specs.Characters.{goes_on_of, last_width_of, first_width_of, char_at};
 
 use encoding::continuation;
 
 // Whether, going back from place c, the k-th byte goes on with a character that begins before it.
 fn goes_on(w: &[u8], c: usize, k: usize) -> bool
     requires { (0 < k) × (c ≤ length w.now) }
-    ensures { result ≡ goesOn w.now c k }
+    ensures { result ≡ goes_on_of w.now c k }
 {
     if c <= k {
         return false;
@@ -20,7 +20,7 @@ fn goes_on(w: &[u8], c: usize, k: usize) -> bool
 // The bytes of the character that ends at place c.
 pub fn last_width(w: &[u8], c: usize) -> usize
     requires { c ≤ length w.now }
-    ensures { result ≡ lastWidth w.now c }
+    ensures { result ≡ last_width_of w.now c }
 {
     if !goes_on(w, c, 1) {
         return 1;
@@ -47,7 +47,7 @@ fn continues_at(w: &[u8], i: usize) -> bool
 // The bytes of the character that begins at place c.
 pub(crate) fn first_width(w: &[u8], c: usize) -> usize
     requires { c < length w.now }
-    ensures { result ≡ firstWidth w.now c }
+    ensures { result ≡ first_width_of w.now c }
 {
     if !continues_at(w, c + 1) {
         return 1;
@@ -131,7 +131,7 @@ pub struct Read {
 // The character that ends at place c, 0 where none does, and where it begins. One byte or two are read at once.
 pub fn read_back(w: &[u8], c: usize) -> Read
     requires { c ≤ length w.now }
-    ensures { result ≡ readBack w.now c }
+    ensures { result ≡ read_back_of w.now c }
 {
     if c == 0 {
         return Read { ch: 0, at: 0 };
@@ -163,7 +163,7 @@ pub fn read_back(w: &[u8], c: usize) -> Read
 // The same, so short that it can stand in its caller: a character of one byte or two is read here, any other by a call.
 pub fn read_short_back(w: &[u8], c: usize) -> Read
     requires { c ≤ length w.now }
-    ensures { result ≡ readBack w.now c }
+    ensures { result ≡ read_back_of w.now c }
 {
     if 2 <= c {
         let b = w[c - 1];

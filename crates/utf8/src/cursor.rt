@@ -1,6 +1,6 @@
 // The cursor record: three places of a word in bytes, by value (snowball_env.rs, `SnowballEnv`).
 ghost use Rattle.std.specs.Prelude.{◌≡◌};
-ghost use Rattle.utf8.specs.Steps.{stands, moveTo};
+ghost use Rattle.utf8.specs.Steps.{stands, move_to};
 ghost use Rattle.utf8.specs.Behind.{deleted};
 
 #[derive(Drop)]
@@ -26,7 +26,7 @@ impl Cursor {
 
     // The record with its cursor elsewhere.
     pub fn moved_to(self, c: usize) -> Cursor
-        ensures { result ≡ moveTo self c }
+        ensures { result ≡ move_to self c }
     {
         Cursor {
             cursor: c,

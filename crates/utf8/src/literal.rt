@@ -1,6 +1,6 @@
 // A literal before or after the cursor (snowball_env.rs, `eq_s_b`, `eq_s`), compared byte by byte and never past the limits.
 ghost use Rattle.std.specs.Prelude.{◌≡◌, ◌+◌, ◌≤◌, length};
-ghost use Rattle.utf8.specs.Steps.{standsAt, notPassed, eqSB, eqS};
+ghost use Rattle.utf8.specs.Steps.{stands_at_of, not_passed_of, eq_s_b_of, eq_s_of};
 
 use crate::cursor::Cursor;
 
@@ -14,7 +14,7 @@ pub struct Literal {
 impl Literal {
     // The literal does not stand: the record stays.
     pub fn not_passed(r: Cursor) -> Literal
-        ensures { result ≡ notPassed r }
+        ensures { result ≡ not_passed_of r }
     {
         Literal {
             moved: false,
@@ -26,7 +26,7 @@ impl Literal {
 // Whether the bytes s stand at place i.
 pub fn stands_at(w: &[u8], i: usize, s: &[u8]) -> bool
     requires { i + length s.now ≤ length w.now }
-    ensures { result ≡ standsAt w.now i s.now }
+    ensures { result ≡ stands_at_of w.now i s.now }
 {
     let mut k = 0;
     while k < s.len() {
@@ -40,7 +40,7 @@ pub fn stands_at(w: &[u8], i: usize, s: &[u8]) -> bool
 
 // Back past s where it stands before the cursor, within limit_backward; otherwise the record stays.
 pub fn eq_s_b(w: &[u8], s: &[u8], r: Cursor) -> Literal
-    ensures { result ≡ eqSB w.now s.now r }
+    ensures { result ≡ eq_s_b_of w.now s.now r }
 {
     if !r.stands_in(w) {
         return Literal::not_passed(r);
@@ -61,7 +61,7 @@ pub fn eq_s_b(w: &[u8], s: &[u8], r: Cursor) -> Literal
 
 // On past s where it stands at the cursor, below limit; otherwise the record stays.
 pub fn eq_s(w: &[u8], s: &[u8], r: Cursor) -> Literal
-    ensures { result ≡ eqS w.now s.now r }
+    ensures { result ≡ eq_s_of w.now s.now r }
 {
     if !r.stands_in(w) {
         return Literal::not_passed(r);

@@ -1,6 +1,6 @@
 // One character back and one on (snowball_env.rs, `previous_char`, `next_char`), by value and never past the limits.
 ghost use Rattle.std.specs.Prelude.{◌≡◌};
-ghost use Rattle.utf8.specs.Steps.{stay, previousChar, nextChar};
+ghost use Rattle.utf8.specs.Steps.{stay, previous_char_of, next_char_of};
 
 use crate::characters;
 use crate::cursor::Cursor;
@@ -28,7 +28,7 @@ impl Step {
 
 // One character back; at limit_backward, or outside the word, the record stays.
 pub fn previous_char(w: &[u8], r: Cursor) -> Step
-    ensures { result ≡ previousChar w.now r }
+    ensures { result ≡ previous_char_of w.now r }
 {
     if !r.stands_in(w) {
         return Step::stay(r);
@@ -51,7 +51,7 @@ pub fn previous_char(w: &[u8], r: Cursor) -> Step
 
 // One character on; at limit, or outside the word, the record stays.
 pub fn next_char(w: &[u8], r: Cursor) -> Step
-    ensures { result ≡ nextChar w.now r }
+    ensures { result ≡ next_char_of w.now r }
 {
     if !r.stands_in(w) {
         return Step::stay(r);

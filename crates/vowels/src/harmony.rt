@@ -1,7 +1,7 @@
 // Vowel harmony (turkish.rs, `r_check_vowel_harmony`): the last vowel before the cursor, and the nearest of its partners before it.
 ghost use Rattle.std.specs.Prelude.{◌≡◌, ◌≤◌, length};
 ghost use Rattle.utf8.specs.Behind.{Open};
-ghost use Rattle.vowels.specs.Accord.{asked, holds, skips, accordBefore, accordAt, orAccord};
+ghost use Rattle.vowels.specs.Accord.{asked, holds, skips, accord_before, accord_at, or_accord};
 
 use crate::vowel::{Sound, Vowel};
 use utf8::characters;
@@ -60,7 +60,7 @@ impl Accord {
 
     // This, or another where harmony was not asked for here.
     pub fn or_else(self, other: Accord) -> Accord
-        ensures { result ≡ orAccord self other }
+        ensures { result ≡ or_accord self other }
     {
         if self.asked() {
             return self;
@@ -72,7 +72,7 @@ impl Accord {
 // Harmony before place c: no vowel, or one vowel only, is no.
 fn check_vowel_harmony(w: &[u8], c: usize) -> Accord
     requires { c ≤ length w.now }
-    ensures { result ≡ accordBefore w.now c }
+    ensures { result ≡ accord_before w.now c }
 {
     let mut at = c;
     let v = 'goto: loop {
@@ -115,7 +115,7 @@ fn check_vowel_harmony(w: &[u8], c: usize) -> Accord
 // Harmony before the cursor, down to limit_backward.
 pub fn listen(w: &[u8], c: Cursor) -> Accord
     requires { Open w.now c }
-    ensures { result ≡ accordAt w.now c }
+    ensures { result ≡ accord_at w.now c }
 {
     let low = c.limit_backward;
     let part = &w[low..];

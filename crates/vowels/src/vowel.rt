@@ -1,7 +1,7 @@
 // The eight vowels and their partners (turkish.rs, `G_vowel` and `G_vowel1` to `G_vowel6`): what may stand earlier in harmony.
 ghost use Rattle.std.specs.Prelude.{◌≡◌, true};
 ghost use Rattle.turkish.specs.Vowels.{vowel};
-ghost use Rattle.vowels.specs.Sounds.{soundOf, soundNumbered, partners, encodedOf};
+ghost use Rattle.vowels.specs.Sounds.{sound_of, sound_numbered, partners, encoded_of};
 
 // A vowel: its own code point, its number, from 1 in the order of turkish.sbl's `vowel`, and its partners, up to four code points; where there
 // are fewer, the last is named again.
@@ -105,7 +105,7 @@ impl Vowel {
 
     // The vowel that a code point is.
     pub fn of(ch: u32) -> Sound
-        ensures { result ≡ soundOf ch }
+        ensures { result ≡ sound_of ch }
     {
         match ch {
             0x61 => Sound::AVowel(Vowel::A),
@@ -122,7 +122,7 @@ impl Vowel {
 
     // The vowel of a number.
     pub fn numbered(number: usize) -> Sound
-        ensures { result ≡ soundNumbered number }
+        ensures { result ≡ sound_numbered number }
     {
         match number {
             1 => Sound::AVowel(Vowel::A),
@@ -140,7 +140,7 @@ impl Vowel {
     // The vowel in UTF-8.
     pub fn encode(self) -> Encoded
         requires { vowel self.ch ≡ true }
-        ensures { result ≡ encodedOf self.ch }
+        ensures { result ≡ encoded_of self.ch }
     {
         let ch = self.ch;
         if ch < 0x80 {

@@ -1,6 +1,6 @@
 // The walk back to the last vowel before a place, for the syllable check and the postlude.
 ghost use Rattle.std.specs.Prelude.{◌≡◌, ◌≤◌, length};
-ghost use Rattle.vowels.specs.LastVowel.{lastVowelOf};
+ghost use Rattle.vowels.specs.LastVowel.{last_vowel_answer};
 
 use crate::vowel;
 use utf8::characters;
@@ -15,7 +15,7 @@ pub struct LastVowel {
 // The last vowel before place c.
 pub fn last_vowel(w: &[u8], c: usize) -> LastVowel
     requires { c ≤ length w.now }
-    ensures { result ≡ lastVowelOf w.now c }
+    ensures { result ≡ last_vowel_answer w.now c }
 {
     let mut at = c;
     let ch = 'gopast: loop {

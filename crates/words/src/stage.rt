@@ -1,6 +1,6 @@
 // The suffix stage of a word of bytes: the text kept, as a part of the caller's own bytes, and its numbers by a second call.
 ghost use Rattle.std.specs.Prelude.{◌≡◌};
-ghost use Rattle.turkish.specs.Calls.{stagePart, stageCall};
+ghost use Rattle.turkish.specs.Calls.{stage_part_of, stage_call};
 
 use refusals::refusal;
 use stages::stage;
@@ -8,7 +8,7 @@ use turkish::answer::StageAnswer;
 
 // The part of the word that is kept; empty on a refusal.
 pub fn stage_part(w: &[u8]) -> &[u8]
-    ensures { result.now ≡ stagePart w.now }
+    ensures { result.now ≡ stage_part_of w.now }
 {
     if refusal::refusal_of(w) != 0 {
         return &w[..0];
@@ -20,7 +20,7 @@ pub fn stage_part(w: &[u8]) -> &[u8]
 
 // The kept text's length, yes or no, the flag, and what harmony found.
 pub fn stage_numbers(w: &[u8]) -> StageAnswer
-    ensures { result ≡ stageCall w.now }
+    ensures { result ≡ stage_call w.now }
 {
     let n = refusal::refusal_of(w);
     if n != 0 {

@@ -1,6 +1,6 @@
 // The syllable check of a word of bytes.
 ghost use Rattle.std.specs.Prelude.{◌≡◌};
-ghost use Rattle.turkish.specs.Calls.{syllableCall};
+ghost use Rattle.turkish.specs.Calls.{syllable_call};
 
 use refusals::refusal;
 use stages::syllable;
@@ -8,7 +8,7 @@ use turkish::answer::SyllableAnswer;
 
 // Whether the word has two or more vowels.
 pub fn check_syllables(w: &[u8]) -> SyllableAnswer
-    ensures { result ≡ syllableCall w.now }
+    ensures { result ≡ syllable_call w.now }
 {
     let n = refusal::refusal_of(w);
     if n != 0 {

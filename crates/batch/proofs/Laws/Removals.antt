@@ -8,25 +8,25 @@ use lib.ListN.{length, take, drop, length-append}
 use lib.Seq.{length-take-le, take_at, take-append_seam}
 use borrow.Author.Tests.{leb-true}
 use Rattle.encoding.specs.Text.{TextOf}
-use Rattle.encoding.proofs.CheckExact.{isText-iff}
+use Rattle.encoding.proofs.CheckExact.{is_text-iff}
 use Rattle.utf8.proofs.Laws.Characters.{back-le}
-use Rattle.turkish.specs.Calls.{chars, accepted, stageCall}
-use Rattle.theorems.specs.Fronts.{endLength, long, Alike}
+use Rattle.turkish.specs.Calls.{chars, accepted, stage_call}
+use Rattle.theorems.specs.Fronts.{end_length, long, Alike}
 use Rattle.batches.specs.Summary.{summary}
-use Rattle.theorems.specs.Simple.Stage.{Staged, stage, keptLength}
+use Rattle.theorems.specs.Simple.Stage.{Staged, stage, kept_length}
 use Rattle.theorems.proofs.Laws.Accepted.{accepted-text}
-use Rattle.theorems.proofs.Source.Calls.{suffixStage-yes, suffixStage-flag}
-use Rattle.theorems.proofs.Sizes.{stageText-length}
-use Rattle.batches.proofs.Joined.{keptLength-joined, stage-joined, kept-joined}
-use Rattle.fronts.specs.StandIn.{standIn}
-use Rattle.fronts.proofs.Laws.StandIn.{standIn-text, standIn-alike}
+use Rattle.theorems.proofs.Source.Calls.{suffix_stage-yes, suffix_stage-flag}
+use Rattle.theorems.proofs.Sizes.{stage_text-length}
+use Rattle.batches.proofs.Joined.{kept_length-joined, stage-joined, kept-joined}
+use Rattle.fronts.specs.StandIn.{stand_in_of}
+use Rattle.fronts.proofs.Laws.StandIn.{stand_in_of-text, stand_in_of-alike}
 use Rattle.stages.specs.declared.stage.Outcome.{Outcome}
-use Rattle.stages.specs.Outcome.{outcomeOf}
+use Rattle.stages.specs.Outcome.{outcome_of}
 use Rattle.stages.proofs.Laws.Kept.{kept-le}
 use Rattle.writing.specs.Put.{put}
 use Rattle.writing.proofs.Laws.Put.{put-end}
 use Rattle.batch.specs.declared.entries.Removal.{Removal}
-use Rattle.batch.specs.Removal.{removalOf}
+use Rattle.batch.specs.Removal.{removal_of}
 
 -- ---- a tail put behind some bytes ----
 
@@ -46,14 +46,14 @@ module _ (m end : ℕ) (t word after : List ℕ) (room : m + length t ≤ length
   pub behind-end : end ≡ length (take end after)
   behind-end = sym (length-take-le end after (rw (w.0, w.1) (put-end m t word (omega arith))))
 
-  module _ (o : Outcome) (e : o ≡ outcomeOf (take end after)) where
+  module _ (o : Outcome) (e : o ≡ outcome_of (take end after)) where
     -- what is kept of it lies within it
     pub behind-kept : o.kept ≤ end
     behind-kept = omega (arith, kept-le (take end after) o e, behind-end)
 
     -- and the stage does to it what the definition says
-    pub behind-removal : ◌≡◌ {A = Removal} (record { bytes = end - o.kept; yes = o.yes; flag = o.flag }) (removalOf (take m word ++ t))
-    unfolding removalOf
+    pub behind-removal : ◌≡◌ {A = Removal} (record { bytes = end - o.kept; yes = o.yes; flag = o.flag }) (removal_of (take m word ++ t))
+    unfolding removal_of
     behind-removal = rw (← behind-word, ← behind-end, e)
 
 -- what stands before the tail stays
@@ -70,7 +70,7 @@ take-front s word = take-append_seam s (drop (0 + length s) word)
 
 module _ (f t : List ℕ) (front : accepted f ≡ true) (tail : accepted t ≡ true) (joined : accepted (f ++ t) ≡ true) (whole : long t ≡ true) where
   g : List ℕ
-  g = standIn (summary f)
+  g = stand_in_of (summary f)
 
   behind : List ℕ
   behind = g ++ t
@@ -83,15 +83,15 @@ module _ (f t : List ℕ) (front : accepted f ≡ true) (tail : accepted t ≡ t
 
   g-text : TextOf g
   unfolding g
-  g-text = (isText-iff (standIn (summary f))).0 (standIn-text (summary f))
+  g-text = (is_text-iff (stand_in_of (summary f))).0 (stand_in_of-text (summary f))
 
   alike : Alike (chars g) (chars f)
   unfolding g summary
-  alike = standIn-alike (chars f)
+  alike = stand_in_of-alike (chars f)
 
-  enough : endLength ≤ length (chars t)
+  enough : end_length ≤ length (chars t)
   unfolding long
-  enough = leb-true endLength (length (chars t)) whole
+  enough = leb-true end_length (length (chars t)) whole
 
   -- the stage does the same to both words
   same-stage : stage (chars behind) ≡ stage (chars (f ++ t))
@@ -99,29 +99,29 @@ module _ (f t : List ℕ) (front : accepted f ≡ true) (tail : accepted t ≡ t
   same-stage = stage-joined g-text f-text t-text alike enough
 
   -- it keeps at least the stand-in, and at most all
-  kept-behind : (length g ≤ keptLength behind) × (keptLength behind ≤ length g + length t)
-  unfolding behind keptLength
+  kept-behind : (length g ≤ kept_length behind) × (kept_length behind ≤ length g + length t)
+  unfolding behind kept_length
   kept-behind =
       let all = length-append g t in
-      (omega (arith, keptLength-joined g-text t-text enough), omega (arith, back-le (g ++ t) (length (g ++ t)) (stage (chars (g ++ t))).removed))
+      (omega (arith, kept_length-joined g-text t-text enough), omega (arith, back-le (g ++ t) (length (g ++ t)) (stage (chars (g ++ t))).removed))
 
   -- no more bytes go than the tail has
-  pub removed-le : (removalOf (standIn (summary f) ++ t)).bytes ≤ length t
-  unfolding removalOf outcomeOf behind g
+  pub removed-le : (removal_of (stand_in_of (summary f) ++ t)).bytes ≤ length t
+  unfolding removal_of outcome_of behind g
   removed-le = let all = length-append g t in omega (arith, kept-behind.0)
 
   -- and the front with the rest is what the stage keeps of the joined word
-  pub length-kept : length f + length t - (removalOf (standIn (summary f) ++ t)).bytes ≡ (stageCall (f ++ t)).length
-  unfolding removalOf outcomeOf stageCall behind g
+  pub length-kept : length f + length t - (removal_of (stand_in_of (summary f) ++ t)).bytes ≡ (stage_call (f ++ t)).length
+  unfolding removal_of outcome_of stage_call behind g
   length-kept =
       rw joined
       (let all = length-append g t in
-      omega (arith, kept-behind.0, kept-behind.1, kept-joined g-text f-text t-text alike enough, stageText-length (f ++ t) joined))
+      omega (arith, kept-behind.0, kept-behind.1, kept-joined g-text f-text t-text alike enough, stage_text-length (f ++ t) joined))
 
-  pub yes-kept : (removalOf (standIn (summary f) ++ t)).yes ≡ (stageCall (f ++ t)).yes
-  unfolding removalOf outcomeOf stageCall behind g
-  yes-kept = rw joined (ap (λ (s : Staged). s.yes) same-stage ∙ sym (suffixStage-yes (chars (f ++ t))))
+  pub yes-kept : (removal_of (stand_in_of (summary f) ++ t)).yes ≡ (stage_call (f ++ t)).yes
+  unfolding removal_of outcome_of stage_call behind g
+  yes-kept = rw joined (ap (λ (s : Staged). s.yes) same-stage ∙ sym (suffix_stage-yes (chars (f ++ t))))
 
-  pub flag-kept : (removalOf (standIn (summary f) ++ t)).flag ≡ (stageCall (f ++ t)).flag
-  unfolding removalOf outcomeOf stageCall behind g
-  flag-kept = rw joined (ap (λ (s : Staged). s.flag) same-stage ∙ sym (suffixStage-flag (chars (f ++ t))))
+  pub flag-kept : (removal_of (stand_in_of (summary f) ++ t)).flag ≡ (stage_call (f ++ t)).flag
+  unfolding removal_of outcome_of stage_call behind g
+  flag-kept = rw joined (ap (λ (s : Staged). s.flag) same-stage ∙ sym (suffix_stage-flag (chars (f ++ t))))

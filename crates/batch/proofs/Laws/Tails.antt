@@ -16,13 +16,13 @@ use Rattle.encoding.proofs.Laws.Booleans.{cond_cases, lt-or-le}
 use Rattle.turkish.specs.Letters.{lf, any, has}
 use Rattle.turkish.specs.Lines.{unclosed, lines_from}
 use Rattle.turkish.specs.Calls.{written}
-use Rattle.theorems.specs.Fronts.{endLength}
-use Rattle.batches.specs.BatchCalls.{mostTails, tailsIn, some}
+use Rattle.theorems.specs.Fronts.{end_length}
+use Rattle.batches.specs.BatchCalls.{most_tails, tails_in, some}
 use Rattle.theorems.proofs.Laws.Tests.{eqb_comm, has-none}
 use Rattle.batch.specs.declared.tails.Line.{Line}
 use Rattle.batch.specs.declared.tails.Survey.{Survey}
 use Rattle.batch.specs.declared.tails.Tails.{Tails}
-use Rattle.batch.specs.Tails.{line_of, leads, line_at, longest, few, surveyOf, endsFrom, firstPlaces, tailsOf}
+use Rattle.batch.specs.Tails.{line_of, leads, line_at, longest, few, survey_of, ends_from, first_places, tails_of}
 
 -- ---- what is stored behind what is written ----
 
@@ -114,37 +114,37 @@ leads-within w i to h l = omega (arith, leads-le (part w i to), length-take-le (
 -- ---- one line ----
 
 -- no longer than what it begins
-lineOf-le : (w : List ℕ) → length (line_of w) ≤ length w
+line_of-le : (w : List ℕ) → length (line_of w) ≤ length w
 unfolding line_of
-lineOf-le [] = omega arith
-lineOf-le (b ∷ bs) =
-    let l = lineOf-le bs in cond_cases (λ (v : List ℕ). length v ≤ suc (length bs)) (eqb b lf) (λ e. omega arith) (λ e. omega arith)
+line_of-le [] = omega arith
+line_of-le (b ∷ bs) =
+    let l = line_of-le bs in cond_cases (λ (v : List ℕ). length v ≤ suc (length bs)) (eqb b lf) (λ e. omega arith) (λ e. omega arith)
 
 -- it is the front of it
-pub lineOf-front : (w : List ℕ) → line_of w ≡ take (length (line_of w)) w
+pub line_of-front : (w : List ℕ) → line_of w ≡ take (length (line_of w)) w
 unfolding line_of
-lineOf-front [] = refl
-lineOf-front (b ∷ bs) =
-    cond_cases (λ (v : List ℕ). v ≡ take (length v) (b ∷ bs)) (eqb b lf) (λ e. refl) (λ e. ap (λ (v : List ℕ). b ∷ v) (lineOf-front bs))
+line_of-front [] = refl
+line_of-front (b ∷ bs) =
+    cond_cases (λ (v : List ℕ). v ≡ take (length v) (b ∷ bs)) (eqb b lf) (λ e. refl) (λ e. ap (λ (v : List ℕ). b ∷ v) (line_of-front bs))
 
 -- a line that begins within the slice ends within it
 pub line-within : (w : List ℕ) (at : ℕ) → at ≤ length w → at + length (line_of (drop at w)) ≤ length w
-line-within w at h = omega (arith, lineOf-le (drop at w), length-drop at w)
+line-within w at h = omega (arith, line_of-le (drop at w), length-drop at w)
 
 -- it goes on past bytes without a line feed
-lineOf-clear : (v w : List ℕ) → has v lf ≡ false → line_of (v ++ w) ≡ v ++ line_of w
+line_of-clear : (v w : List ℕ) → has v lf ≡ false → line_of (v ++ w) ≡ v ++ line_of w
 unfolding line_of
-lineOf-clear [] w n = refl
-lineOf-clear (b ∷ v) w n =
+line_of-clear [] w n = refl
+line_of-clear (b ∷ v) w n =
     let d = has-none lf b v n in
-    rw (ne_eqb b lf d.0, lineOf-clear v w d.1)
+    rw (ne_eqb b lf d.0, line_of-clear v w d.1)
 
 -- a part without one
 line-part : (w : List ℕ) (at to : ℕ) → at ≤ to → has (part w at to) lf ≡ false → line_of (drop at w) ≡ part w at to ++ line_of (drop to w)
 line-part w at to h e =
     let n : at + (to - at) ≡ to = omega arith in
     let d : drop (to - at) (drop at w) ≡ drop to w = drop-drop (to - at) at w ∙ ap (λ (k : ℕ). drop k w) n in
-    ap line_of (sym (take-append-drop (to - at) (drop at w))) ∙ rw d (lineOf-clear (part w at to) (drop to w) e)
+    ap line_of (sym (take-append-drop (to - at) (drop at w))) ∙ rw d (line_of-clear (part w at to) (drop to w) e)
 
 -- one byte that is none
 line-byte : (w : List ℕ) (at : ℕ) → at < length w → eqb (get_or w at 0) lf ≡ false
@@ -175,7 +175,7 @@ remains-start w from h = record { begun = omega arith; within = h; ends = refl; 
 
 -- no more are counted than the slice has bytes
 pub remains-fit : {w : List ℕ} {from at chars : ℕ} → Remains w from at chars → chars ≤ length w
-remains-fit {w} {from} r = omega (arith, r.counted, leads-le (line_of (drop from w)), lineOf-le (drop from w), length-drop from w)
+remains-fit {w} {from} r = omega (arith, r.counted, leads-le (line_of (drop from w)), line_of-le (drop from w), length-drop from w)
 
 -- on past a part without a line feed
 pub remains-part : {w : List ℕ} {from at chars : ℕ} (to more : ℕ) → Remains w from at chars → at ≤ to → to ≤ length w
@@ -260,41 +260,41 @@ line-ends w at e = ap (λ (l : Line). l.end) e
 
 -- whether it has fewer than 16 characters
 line-few : (w : List ℕ) (at : ℕ) {line : Line} → line ≡ line_at w at → ltb line.chars 16 ≡ few (line_of (drop at w))
-unfolding line_at few endLength
+unfolding line_at few end_length
 line-few w at e = ap (λ (l : Line). ltb l.chars 16) e
 
 -- a place stored behind those held is one more of them, as long as there is room
-firstPlaces-more : (es ps qs : List ℕ) (e : ℕ) → ps ≡ firstPlaces es → (length es < mostTails → qs ≡ set ps (length es) e)
-    → (mostTails ≤ length es → qs ≡ ps) → qs ≡ firstPlaces (es ++ (e ∷ []))
-unfolding firstPlaces
-firstPlaces-more es ps qs e p stored kept = lt-or-le (length es) mostTails room full
+first_places-more : (es ps qs : List ℕ) (e : ℕ) → ps ≡ first_places es → (length es < most_tails → qs ≡ set ps (length es) e)
+    → (most_tails ≤ length es → qs ≡ ps) → qs ≡ first_places (es ++ (e ∷ []))
+unfolding first_places
+first_places-more es ps qs e p stored kept = lt-or-le (length es) most_tails room full
   where
     more : length (es ++ (e ∷ [])) ≡ length es + 1
     more = length-append es (e ∷ [])
 
-    room : length es < mostTails → qs ≡ written (take mostTails (es ++ (e ∷ []))) (replicate mostTails 0)
+    room : length es < most_tails → qs ≡ written (take most_tails (es ++ (e ∷ []))) (replicate most_tails 0)
     room l =
         stored l
-        ∙ rw (p, take_all mostTails es (omega arith), take_all mostTails (es ++ (e ∷ [])) (omega (arith, more)))
-        (set-written es (replicate mostTails 0) e (omega (arith, length-replicate {A = ℕ} mostTails 0)))
+        ∙ rw (p, take_all most_tails es (omega arith), take_all most_tails (es ++ (e ∷ [])) (omega (arith, more)))
+        (set-written es (replicate most_tails 0) e (omega (arith, length-replicate {A = ℕ} most_tails 0)))
 
-    full : mostTails ≤ length es → qs ≡ written (take mostTails (es ++ (e ∷ []))) (replicate mostTails 0)
-    full l = kept l ∙ p ∙ rw (take-append-le mostTails es (e ∷ []) l)
+    full : most_tails ≤ length es → qs ≡ written (take most_tails (es ++ (e ∷ []))) (replicate most_tails 0)
+    full l = kept l ∙ p ∙ rw (take-append-le most_tails es (e ∷ []) l)
 
 -- the lines before a place looked at: what is found of them and what the rest has are what all have, and the first of their ends are held
 pub record Found (slice ends : List ℕ) (count most : ℕ) (short : Bool) (at : ℕ) : Type 0 where
   pub below : count ≤ at
-  pub counted : count + length (lines_from [] (drop at slice)) ≡ length (tailsIn slice)
-  pub longest : max most (longest (lines_from [] (drop at slice))) ≡ longest (tailsIn slice)
-  pub few : (short || some few (lines_from [] (drop at slice))) ≡ some few (tailsIn slice)
+  pub counted : count + length (lines_from [] (drop at slice)) ≡ length (tails_in slice)
+  pub longest : max most (longest (lines_from [] (drop at slice))) ≡ longest (tails_in slice)
+  pub few : (short || some few (lines_from [] (drop at slice))) ≡ some few (tails_in slice)
   pub ended : List ℕ
   pub endings : length ended ≡ count
-  pub split : ended ++ endsFrom at (lines_from [] (drop at slice)) ≡ endsFrom 0 (tailsIn slice)
-  pub held : ends ≡ firstPlaces ended
+  pub split : ended ++ ends_from at (lines_from [] (drop at slice)) ≡ ends_from 0 (tails_in slice)
+  pub held : ends ≡ first_places ended
 
 -- none looked at yet
-pub found_none : (slice : List ℕ) → Found slice (replicate mostTails 0) 0 0 false 0
-unfolding tailsIn firstPlaces written
+pub found_none : (slice : List ℕ) → Found slice (replicate most_tails 0) 0 0 false 0
+unfolding tails_in first_places written
 found_none slice =
     record {
       below = omega arith;
@@ -310,17 +310,17 @@ found_none slice =
 -- one line more; its end is kept where there is room
 pub found-line : {slice ends : List ℕ} {count most : ℕ} {short : Bool} {at : ℕ} (ends' : List ℕ) (most' : ℕ) (line : Line)
     → Found slice ends count most short at → at < length slice → line ≡ line_at slice at
-    → (count < mostTails → ends' ≡ set ends count line.end) → (mostTails ≤ count → ends' ≡ ends)
+    → (count < most_tails → ends' ≡ set ends count line.end) → (most_tails ≤ count → ends' ≡ ends)
     → most' ≡ max most (line.end - at) → Found slice ends' (count + 1) most' (short || ltb line.chars 16) (line.end + 1)
-unfolding longest some endsFrom
+unfolding longest some ends_from
 found-line {slice} {ends} {count} {most} {short} {at} ends' most' line f h g stored kept m =
     let first = line_of (drop at slice) in
     let end = line.end in
     let rest = lines_from [] (drop (end + 1) slice) in
     let e : end ≡ at + length first = line-ends slice at g in
     let r : lines_from [] (drop at slice) ≡ first ∷ rest = rw e (lines_at slice at h) in
-    let c : count + length (first ∷ rest) ≡ length (tailsIn slice) = rw r at f.counted in
-    let l : max most (max (length first) (longest rest)) ≡ longest (tailsIn slice) = rw r at f.longest in
+    let c : count + length (first ∷ rest) ≡ length (tails_in slice) = rw r at f.counted in
+    let l : max most (max (length first) (longest rest)) ≡ longest (tails_in slice) = rw r at f.longest in
     record {
       below = omega (arith, f.below);
       counted = omega arith;
@@ -328,54 +328,54 @@ found-line {slice} {ends} {count} {most} {short} {at} ends' most' line f h g sto
       few = rw (line-few slice at g) (or_assoc short (few first) (some few rest)) ∙ rw r at f.few;
       ended = f.ended ++ (end ∷ []);
       endings = length-append f.ended (end ∷ []) ∙ ap (λ (n : ℕ). n + 1) f.endings;
-      split = rw (append_snoc f.ended end (endsFrom (end + 1) rest)) (rw (r, ← e) at f.split);
-      held = firstPlaces-more f.ended ends ends' end f.held (rw f.endings stored) (rw f.endings kept);
+      split = rw (append_snoc f.ended end (ends_from (end + 1) rest)) (rw (r, ← e) at f.split);
+      held = first_places-more f.ended ends ends' end f.held (rw f.endings stored) (rw f.endings kept);
     }
 
 -- all of them
 pub found_all : {slice ends : List ℕ} {count most : ℕ} {short : Bool} {at : ℕ} → Found slice ends count most short at → length slice ≤ at
-    → record { survey = record { count = count; longest = most; short = short }; ends = ends } ≡ tailsOf (tailsIn slice)
-unfolding longest some endsFrom surveyOf tailsOf
+    → record { survey = record { count = count; longest = most; short = short }; ends = ends } ≡ tails_of (tails_in slice)
+unfolding longest some ends_from survey_of tails_of
 found_all {slice} {ends} {count} {most} {short} {at} f h =
     let r = lines_none slice at h in
-    let c : count ≡ length (tailsIn slice) = sym (add-zero count) ∙ rw r at f.counted in
-    let m : most ≡ longest (tailsIn slice) = sym (max-zero most) ∙ rw r at f.longest in
-    let s : short ≡ some few (tailsIn slice) = sym (or-false short) ∙ rw r at f.few in
-    let e : f.ended ≡ endsFrom 0 (tailsIn slice) = sym (append-nil f.ended) ∙ rw r at f.split in
+    let c : count ≡ length (tails_in slice) = sym (add-zero count) ∙ rw r at f.counted in
+    let m : most ≡ longest (tails_in slice) = sym (max-zero most) ∙ rw r at f.longest in
+    let s : short ≡ some few (tails_in slice) = sym (or-false short) ∙ rw r at f.few in
+    let e : f.ended ≡ ends_from 0 (tails_in slice) = sym (append-nil f.ended) ∙ rw r at f.split in
     rw (c, m, s, f.held, e)
 
 -- ---- what is told of them ----
 
 -- there are as many ends as lines
-length-endsFrom : (at : ℕ) (ts : List (List ℕ)) → length (endsFrom at ts) ≡ length ts
-unfolding endsFrom
-length-endsFrom at [] = refl
-length-endsFrom at (t ∷ ts) = ap suc (length-endsFrom (at + length t + 1) ts)
+length-ends_from : (at : ℕ) (ts : List (List ℕ)) → length (ends_from at ts) ≡ length ts
+unfolding ends_from
+length-ends_from at [] = refl
+length-ends_from at (t ∷ ts) = ap suc (length-ends_from (at + length t + 1) ts)
 
 module _ (ts : List (List ℕ)) where
   -- a survey's numbers, each by itself
-  module _ {s : Survey} (e : s ≡ surveyOf ts) where
+  module _ {s : Survey} (e : s ≡ survey_of ts) where
     pub survey-count : s.count ≡ length ts
-    unfolding surveyOf
+    unfolding survey_of
     survey-count = ap (λ (s : Survey). s.count) e
 
     pub survey-longest : s.longest ≡ longest ts
-    unfolding surveyOf
+    unfolding survey_of
     survey-longest = ap (λ (s : Survey). s.longest) e
 
     pub survey-short : s.short ≡ some few ts
-    unfolding surveyOf
+    unfolding survey_of
     survey-short = ap (λ (s : Survey). s.short) e
 
-  module _ {t : Tails} (e : t ≡ tailsOf ts) where
+  module _ {t : Tails} (e : t ≡ tails_of ts) where
     -- the survey is that of the tails
-    pub tails-survey : t.survey ≡ surveyOf ts
-    unfolding tailsOf
+    pub tails-survey : t.survey ≡ survey_of ts
+    unfolding tails_of
     tails-survey = ap (λ (t : Tails). t.survey) e
 
     -- where there are no more than 64 the end of each is held
-    pub tails-ends : length ts ≤ mostTails → take (length ts) t.ends ≡ endsFrom 0 ts
-    unfolding tailsOf firstPlaces written
+    pub tails-ends : length ts ≤ most_tails → take (length ts) t.ends ≡ ends_from 0 ts
+    unfolding tails_of first_places written
     tails-ends h =
-        let n = length-endsFrom 0 ts in
-        rw (e, take_all mostTails (endsFrom 0 ts) (omega arith), ← n) (take-append_seam (endsFrom 0 ts) _)
+        let n = length-ends_from 0 ts in
+        rw (e, take_all most_tails (ends_from 0 ts) (omega arith), ← n) (take-append_seam (ends_from 0 ts) _)

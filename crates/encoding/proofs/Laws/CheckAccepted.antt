@@ -7,8 +7,8 @@ use mathlib.Core.List.{List, [], ◌∷◌, ◌++◌}
 use native.Mathlib.Omega.{arith}
 use lib.Dec.{leb, eqb-suc-zero}
 use borrow.Author.Tests.{leb-true}
-use Rattle.encoding.specs.Encoding.{encode, encodeAll}
-use Rattle.encoding.specs.Validity.{Row, table37, due, refused, lead, next, accepts, isText}
+use Rattle.encoding.specs.Encoding.{encode, encode_all}
+use Rattle.encoding.specs.Validity.{Row, table37, due, refused, lead, next, accepts, is_text}
 use Rattle.encoding.proofs.Laws.Booleans.{and-each}
 use Rattle.encoding.proofs.Laws.Encoding.{encode_one, encode-two, encode-three, encode-four}
 use Rattle.encoding.proofs.Laws.Table37.{lead-elim}
@@ -16,7 +16,7 @@ use Rattle.encoding.proofs.Laws.Validity.{accepts-due}
 
 -- bytes that encode some characters
 abbrev pub Encoded : List ℕ → Type 0
-Encoded w = (cs : List ℕ) × (encodeAll cs ≡ w)
+Encoded w = (cs : List ℕ) × (encode_all cs ≡ w)
 
 -- n bytes due, the first of them from lo to hi, and then bytes that encode some characters
 data Read : ℕ → ℕ → ℕ → List ℕ → Type 0 where
@@ -25,7 +25,7 @@ data Read : ℕ → ℕ → ℕ → List ℕ → Type 0 where
 
 -- one character more in front
 encoded-cons : (c : ℕ) (bs w : List ℕ) → encode c ≡ bs → Encoded w → Encoded (bs ++ w)
-unfolding encodeAll
+unfolding encode_all
 encoded-cons c bs w e t = (c ∷ t.0, rw (e, t.1))
 
 -- what makes a row's bytes the encoding of a character, by how many follow the first
@@ -54,7 +54,7 @@ encoded-lead b bs read =
 
 -- what is accepted from a state on reads as the state says
 accepts-read : (w : List ℕ) (n lo hi : ℕ) → accepts (due n lo hi) w ≡ true → Read n lo hi w
-unfolding accepts next due encodeAll
+unfolding accepts next due encode_all
 accepts-read [] zero lo hi e = done ([], refl)
 accepts-read [] (suc n) lo hi e = absurd (false≢true (rw eqb-suc-zero at e))
 accepts-read (b ∷ bs) zero lo hi e = done (encoded-lead b bs (accepts-read bs) e)
@@ -67,6 +67,6 @@ encoded-done : {lo hi : ℕ} {w : List ℕ} → Read 0 lo hi w → Encoded w
 encoded-done (done t) = t
 
 -- what the check accepts encodes some characters
-pub isText-encoded : (w : List ℕ) → isText w ≡ true → Encoded w
-unfolding isText
-isText-encoded w e = encoded-done (accepts-read w 0 0x80 0xBF e)
+pub is_text-encoded : (w : List ℕ) → is_text w ≡ true → Encoded w
+unfolding is_text
+is_text-encoded w e = encoded-done (accepts-read w 0 0x80 0xBF e)

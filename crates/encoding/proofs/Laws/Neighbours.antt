@@ -11,9 +11,9 @@ use lib.ListN.{length, drop, get_or, drop_of_length-le}
 use lib.Seq.{drop-cons}
 use lib.Dec.{ltb, leb, eqb}
 use borrow.Author.Tests.{lt-leb, leb-true, leb-false, ltb-true, eq-eqb, ne_eqb}
-use Rattle.encoding.specs.Validity.{Row, Due, due, refused, lead, accepts, isText, table37}
+use Rattle.encoding.specs.Validity.{Row, Due, due, refused, lead, accepts, is_text, table37}
 use Rattle.encoding.specs.Encoding.{continuation}
-use Rattle.encoding.specs.Neighbours.{owed, follows, textAfter, shortBegins, shortFollows, shortAfter}
+use Rattle.encoding.specs.Neighbours.{owed, follows, text_after, short_begins, short_follows, short_after}
 use Rattle.encoding.proofs.Laws.Booleans.{and_left, and_right, or-either, guarded, chosen}
 use Rattle.encoding.proofs.Laws.Table37.{lead-none, lead-elim, lead-rows, lead-ok, lead_low, lead_high}
 use Rattle.encoding.proofs.Laws.Validity.{next-lead, accepts-due}
@@ -192,8 +192,8 @@ at-end a b c = go (owed-either a b c)
     go (inr h) = rw (h.0, eq-eqb (need a b c) 0 (need-none a b c h.1))
 
 -- the walk by neighbours from any three bytes is the walk from their state
-after-accepts : (a b c : ℕ) (xs : List ℕ) → textAfter a b c xs ≡ accepts (state a b c) xs
-unfolding textAfter accepts state due
+after-accepts : (a b c : ℕ) (xs : List ℕ) → text_after a b c xs ≡ accepts (state a b c) xs
+unfolding text_after accepts state due
 after-accepts a b c [] = at-end a b c
 after-accepts a b c (x ∷ xs) = ap (λ (t : Bool). follows a b c x && t) (after-accepts x a b xs) ∙ go (owed-either a b c)
   where
@@ -202,8 +202,8 @@ after-accepts a b c (x ∷ xs) = ap (λ (t : Bool). follows a b c x && t) (after
     go (inr h) = step-none a b c x xs h.0 h.1
 
 -- the check of a whole word
-pub text-after : (w : List ℕ) → textAfter 0 0 0 w ≡ isText w
-unfolding isText state need asks
+pub text-after : (w : List ℕ) → text_after 0 0 0 w ≡ is_text w
+unfolding is_text state need asks
 text-after w = after-accepts 0 0 0 w ∙ ap (λ (d : Due). accepts d w) (unfold lead in refl)
 
 -- ---- characters of one and two bytes ----
@@ -219,8 +219,8 @@ unfolding continuation
 follows-short a x h = rw (lead_low a (λ z. omega arith) (λ z. omega arith), lead_high a (λ z. omega arith) (λ z. omega arith))
 
 -- a byte that begins one of at most two begins a character, and is below E0
-short-begins : (x : ℕ) → shortBegins x ≡ true → ((lead x).ok ≡ true) × (x < 0xE0)
-unfolding shortBegins
+short-begins : (x : ℕ) → short_begins x ≡ true → ((lead x).ok ≡ true) × (x < 0xE0)
+unfolding short_begins
 short-begins x e = go (or-either (ltb x 0x80) (leb 0xC2 x && ltb x 0xE0) e)
   where
     go : (ltb x 0x80 ≡ true) ⊎ (leb 0xC2 x && ltb x 0xE0 ≡ true) → ((lead x).ok ≡ true) × (x < 0xE0)
@@ -230,24 +230,24 @@ short-begins x e = go (or-either (ltb x 0x80) (leb 0xC2 x && ltb x 0xE0) e)
         (lead-rows x l (omega arith), u)
 
 -- a byte that may follow as one of at most two may follow, and is below E0
-short-step : (a b c x : ℕ) → a < 0xE0 → b < 0xE0 → c < 0xF0 → shortFollows a x ≡ true → (follows a b c x ≡ true) × (x < 0xE0)
-unfolding shortFollows follows continuation
+short-step : (a b c x : ℕ) → a < 0xE0 → b < 0xE0 → c < 0xF0 → short_follows a x ≡ true → (follows a b c x ≡ true) × (x < 0xE0)
+unfolding short_follows follows continuation
 short-step a b c x p q r = rw (owed-short a b c q r, follows-short a x p) (go (leb 0xC0 a))
   where
-    go : (t : Bool) → cond t (continuation x) (shortBegins x) ≡ true → (cond t (continuation x) (lead x).ok ≡ true) × (x < 0xE0)
+    go : (t : Bool) → cond t (continuation x) (short_begins x) ≡ true → (cond t (continuation x) (lead x).ok ≡ true) × (x < 0xE0)
     go true e = let h = leb-true x 0xBF (and_right (leb 0x80 x) (leb x 0xBF) e) in (e, omega arith)
     go false e = short-begins x e
 
 -- what passes the check for at most two bytes passes the check
-short-after : (a b c : ℕ) (xs : List ℕ) → a < 0xE0 → b < 0xE0 → c < 0xF0 → shortAfter a xs ≡ true → textAfter a b c xs ≡ true
-unfolding shortAfter textAfter
+short-after : (a b c : ℕ) (xs : List ℕ) → a < 0xE0 → b < 0xE0 → c < 0xF0 → short_after a xs ≡ true → text_after a b c xs ≡ true
+unfolding short_after text_after
 short-after a b c [] p q r e = rw (owed-short a b c q r, lt-leb 0xC0 a (ltb-true a 0xC0 e))
 short-after a b c (x ∷ xs) p q r e =
-    let s : (follows a b c x ≡ true) × (x < 0xE0) = short-step a b c x p q r (and_left (shortFollows a x) (shortAfter x xs) e) in
-    rw s.0 (short-after x a b xs s.1 p (omega arith) (and_right (shortFollows a x) (shortAfter x xs) e))
+    let s : (follows a b c x ≡ true) × (x < 0xE0) = short-step a b c x p q r (and_left (short_follows a x) (short_after x xs) e) in
+    rw s.0 (short-after x a b xs s.1 p (omega arith) (and_right (short_follows a x) (short_after x xs) e))
 
 -- so of a whole word
-pub short-text : (w : List ℕ) → shortAfter 0 w ≡ true → isText w ≡ true
+pub short-text : (w : List ℕ) → short_after 0 w ≡ true → is_text w ≡ true
 short-text w e = sym (text-after w) ∙ short-after 0 0 0 w (omega arith) (omega arith) (omega arith) e
 
 -- ---- the tests and walks as the code makes them ----
@@ -259,28 +259,28 @@ unfolding follows
 follows-tests a b c x lo hi t s e f g h = chosen t (leb lo x && leb x hi) s ∙ rw (e, f, g, h)
 
 -- the same for at most two bytes
-pub short-follows-tests : (a x : ℕ) (s t : Bool) → s ≡ continuation x → t ≡ shortBegins x → leb 0xC0 a && s || not (leb 0xC0 a) && t ≡ shortFollows a x
-unfolding shortFollows
+pub short-follows-tests : (a x : ℕ) (s t : Bool) → s ≡ continuation x → t ≡ short_begins x → leb 0xC0 a && s || not (leb 0xC0 a) && t ≡ short_follows a x
+unfolding short_follows
 short-follows-tests a x s t e f = chosen (leb 0xC0 a) s t ∙ rw (e, f)
 
 -- a byte more
 pub text_at : (w : List ℕ) (i a b c : ℕ) (ok r : Bool) → i < length w → r ≡ follows a b c (get_or w i 0)
-    → ok && r && textAfter (get_or w i 0) a b (drop (i + 1) w) ≡ ok && textAfter a b c (drop i w)
-unfolding textAfter
-text_at w i a b c ok r h e = rw (e, drop-cons w i 0 h, add-one i) (and_assoc ok (follows a b c (get_or w i 0)) (textAfter (get_or w i 0) a b (drop (suc i) w)))
+    → ok && r && text_after (get_or w i 0) a b (drop (i + 1) w) ≡ ok && text_after a b c (drop i w)
+unfolding text_after
+text_at w i a b c ok r h e = rw (e, drop-cons w i 0 h, add-one i) (and_assoc ok (follows a b c (get_or w i 0)) (text_after (get_or w i 0) a b (drop (suc i) w)))
 
 -- the same for at most two bytes
-pub short-at : (w : List ℕ) (i a : ℕ) (ok r : Bool) → i < length w → r ≡ shortFollows a (get_or w i 0)
-    → ok && r && shortAfter (get_or w i 0) (drop (i + 1) w) ≡ ok && shortAfter a (drop i w)
-unfolding shortAfter
-short-at w i a ok r h e = rw (e, drop-cons w i 0 h, add-one i) (and_assoc ok (shortFollows a (get_or w i 0)) (shortAfter (get_or w i 0) (drop (suc i) w)))
+pub short-at : (w : List ℕ) (i a : ℕ) (ok r : Bool) → i < length w → r ≡ short_follows a (get_or w i 0)
+    → ok && r && short_after (get_or w i 0) (drop (i + 1) w) ≡ ok && short_after a (drop i w)
+unfolding short_after
+short-at w i a ok r h e = rw (e, drop-cons w i 0 h, add-one i) (and_assoc ok (short_follows a (get_or w i 0)) (short_after (get_or w i 0) (drop (suc i) w)))
 
 -- the end
-pub text-end : (w : List ℕ) (i a b c : ℕ) (ok r : Bool) → length w ≤ i → r ≡ owed a b c → ok && not r ≡ ok && textAfter a b c (drop i w)
-unfolding textAfter
+pub text-end : (w : List ℕ) (i a b c : ℕ) (ok r : Bool) → length w ≤ i → r ≡ owed a b c → ok && not r ≡ ok && text_after a b c (drop i w)
+unfolding text_after
 text-end w i a b c ok r h e = rw (e, drop_of_length-le w h)
 
 -- the same for at most two bytes
-pub short-end : (w : List ℕ) (i a : ℕ) (ok : Bool) → length w ≤ i → ok && ltb a 0xC0 ≡ ok && shortAfter a (drop i w)
-unfolding shortAfter
+pub short-end : (w : List ℕ) (i a : ℕ) (ok : Bool) → length w ≤ i → ok && ltb a 0xC0 ≡ ok && short_after a (drop i w)
+unfolding short_after
 short-end w i a ok h = rw (drop_of_length-le w h)

@@ -8,12 +8,12 @@ use lib.ListN.{length, drop, take, get_or, take-append-drop, drop_of_length-le}
 use lib.Seq.{drop-drop, drop-cons}
 use lib.Dec.{ltb, leb, eqb}
 use borrow.Author.Tests.{le-leb, leb-true, ltb-true, eqb-true}
-use Rattle.encoding.specs.Validity.{Due, due, refused, next, accepts, isText, table37}
+use Rattle.encoding.specs.Validity.{Due, due, refused, next, accepts, is_text, table37}
 use Rattle.encoding.specs.Encoding.{continuation}
 use Rattle.encoding.specs.Parts.{boundary}
-use Rattle.encoding.specs.PlainRuns.{plainNext, runEnd}
+use Rattle.encoding.specs.PlainRuns.{plain_next, run_end_of}
 use Rattle.encoding.proofs.Laws.Booleans.{and_left, and_right, cond_both, not-eq-false}
-use Rattle.encoding.proofs.Laws.Validity.{next-lead, isText-row}
+use Rattle.encoding.proofs.Laws.Validity.{next-lead, is_text-row}
 use Rattle.encoding.proofs.Laws.Neighbours.{lead-range}
 use Rattle.encoding.proofs.Laws.PlainRuns.{run-from, run-plain}
 
@@ -29,8 +29,8 @@ next-within d b =
     (cond_both Within (leb d.low b && leb b d.high) (due (d.need - 1) 0x80 0xBF) refused (omega arith) (omega arith))
 
 -- where nothing is due the check goes on as from the start
-accepts-none : (d : Due) (w : List ℕ) → d.need ≡ 0 → accepts d w ≡ isText w
-unfolding accepts isText due
+accepts-none : (d : Due) (w : List ℕ) → d.need ≡ 0 → accepts d w ≡ is_text w
+unfolding accepts is_text due
 accepts-none d [] n = rw n
 accepts-none d (b ∷ bs) n = rw (next-lead d b n, next-lead (due 0 0x80 0xBF) b refl)
 
@@ -53,28 +53,28 @@ accepts-some d [] h n b = n
 accepts-some d (x ∷ xs) h n b = rw (n, out_of_range d.low d.high x h.0 h.1 (not-eq-false (continuation x) b))
 
 -- the walk over both parts
-accepts-cut : (d : Due) (xs ys : List ℕ) → Within d → boundary ys ≡ true → accepts d (xs ++ ys) ≡ accepts d xs && isText ys
+accepts-cut : (d : Due) (xs ys : List ℕ) → Within d → boundary ys ≡ true → accepts d (xs ++ ys) ≡ accepts d xs && is_text ys
 unfolding accepts
 accepts-cut d [] ys h b = go (eqb d.need 0) refl
   where
-    go : (t : Bool) → eqb d.need 0 ≡ t → accepts d ys ≡ t && isText ys
+    go : (t : Bool) → eqb d.need 0 ≡ t → accepts d ys ≡ t && is_text ys
     go true e = accepts-none d ys (eqb-true d.need 0 e)
     go false e = accepts-some d ys h e b
-accepts-cut d (x ∷ xs) ys h b = rw (accepts-cut (next d x) xs ys (next-within d x) b) (sym (and_assoc (next d x).ok (accepts (next d x) xs) (isText ys)))
+accepts-cut d (x ∷ xs) ys h b = rw (accepts-cut (next d x) xs ys (next-within d x) b) (sym (and_assoc (next d x).ok (accepts (next d x) xs) (is_text ys)))
 
 -- the check of two parts
-pub text-join : (xs ys : List ℕ) → boundary ys ≡ true → isText (xs ++ ys) ≡ isText xs && isText ys
-unfolding isText due
+pub text-join : (xs ys : List ℕ) → boundary ys ≡ true → is_text (xs ++ ys) ≡ is_text xs && is_text ys
+unfolding is_text due
 text-join xs ys b = accepts-cut (due 0 0x80 0xBF) xs ys (omega arith) b
 
 -- the check from a place on is the check of a part, told here, and the check from its end on
-pub text-cut : (w : List ℕ) (i j : ℕ) {t : Bool} → i ≤ j → boundary (drop j w) ≡ true → isText (take (j - i) (drop i w)) ≡ t
-    → t && isText (drop j w) ≡ isText (drop i w)
+pub text-cut : (w : List ℕ) (i j : ℕ) {t : Bool} → i ≤ j → boundary (drop j w) ≡ true → is_text (take (j - i) (drop i w)) ≡ t
+    → t && is_text (drop j w) ≡ is_text (drop i w)
 text-cut w i j h b e =
     let s : i + (j - i) ≡ j = omega arith in
     let d : drop (j - i) (drop i w) ≡ drop j w = drop-drop (j - i) i w ∙ ap (λ (k : ℕ). drop k w) s in
-    sym (ap (λ (t : Bool). t && isText (drop j w)) e) ∙ sym (text-join (take (j - i) (drop i w)) (drop j w) b)
-    ∙ ap (λ (v : List ℕ). isText (take (j - i) (drop i w) ++ v)) (sym d) ∙ ap isText (take-append-drop (j - i) (drop i w))
+    sym (ap (λ (t : Bool). t && is_text (drop j w)) e) ∙ sym (text-join (take (j - i) (drop i w)) (drop j w) b)
+    ∙ ap (λ (v : List ℕ). is_text (take (j - i) (drop i w) ++ v)) (sym d) ∙ ap is_text (take-append-drop (j - i) (drop i w))
 
 -- the end is a place for a cut
 pub boundary_end : (w : List ℕ) (i : ℕ) → length w ≤ i → boundary (drop i w) ≡ true
@@ -87,25 +87,25 @@ unfolding boundary
 boundary-at w i h e f = rw (drop-cons w i 0 h, sym e, f)
 
 -- past the end there is nothing to refuse
-pub text-over : (w : List ℕ) (i : ℕ) → length w ≤ i → true ≡ isText (drop i w)
-unfolding isText accepts due
+pub text-over : (w : List ℕ) (i : ℕ) → length w ≤ i → true ≡ is_text (drop i w)
+unfolding is_text accepts due
 text-over w i h = rw (drop_of_length-le w h)
 
 -- past a plain byte the check is the same
-pub text-plain : (b : ℕ) (bs : List ℕ) → b < 0x80 → isText (b ∷ bs) ≡ isText bs
-unfolding table37 isText
-text-plain b bs h = isText-row 0 b bs (omega arith, tt, omega arith, omega arith)
+pub text-plain : (b : ℕ) (bs : List ℕ) → b < 0x80 → is_text (b ∷ bs) ≡ is_text bs
+unfolding table37 is_text
+text-plain b bs h = is_text-row 0 b bs (omega arith, tt, omega arith, omega arith)
 
 -- so past n of them
-text-plains : (n : ℕ) (w : List ℕ) → plainNext n w ≡ true → isText (drop n w) ≡ isText w
-unfolding plainNext
+text-plains : (n : ℕ) (w : List ℕ) → plain_next n w ≡ true → is_text (drop n w) ≡ is_text w
+unfolding plain_next
 text-plains zero w e = refl
 text-plains (suc n) [] e = absurd (false≢true e)
 text-plains (suc n) (b ∷ bs) e =
-    text-plains n bs (and_right (ltb b 0x80) (plainNext n bs) e) ∙ sym (text-plain b bs (ltb-true b 0x80 (and_left (ltb b 0x80) (plainNext n bs) e)))
+    text-plains n bs (and_right (ltb b 0x80) (plain_next n bs) e) ∙ sym (text-plain b bs (ltb-true b 0x80 (and_left (ltb b 0x80) (plain_next n bs) e)))
 
 -- so past a run
-pub text-run : (w : List ℕ) (i : ℕ) → isText (drop (runEnd w i) w) ≡ isText (drop i w)
+pub text-run : (w : List ℕ) (i : ℕ) → is_text (drop (run_end_of w i) w) ≡ is_text (drop i w)
 text-run w i =
-    let s : i + (runEnd w i - i) ≡ runEnd w i = omega (arith, run-from w i) in
-    sym (ap (λ (k : ℕ). isText (drop k w)) s) ∙ sym (ap isText (drop-drop (runEnd w i - i) i w)) ∙ text-plains (runEnd w i - i) (drop i w) (run-plain w i)
+    let s : i + (run_end_of w i - i) ≡ run_end_of w i = omega (arith, run-from w i) in
+    sym (ap (λ (k : ℕ). is_text (drop k w)) s) ∙ sym (ap is_text (drop-drop (run_end_of w i - i) i w)) ∙ text-plains (run_end_of w i - i) (drop i w) (run-plain w i)

@@ -11,52 +11,52 @@ use lib.Seq.{drop-cons, drop-drop, get_or-drop}
 use lib.Dec.{ltb, eqb, eqb-suc-zero}
 use lib.Bits.{bit_and, and_block, and_high}
 use borrow.Author.Tests.{lt-ltb, le-ltb, ltb-true, ne_eqb}
-use Rattle.encoding.specs.PlainRuns.{word_bytes, fourWords, plainNext, runIn, runEnd, joined}
+use Rattle.encoding.specs.PlainRuns.{word_bytes, four_words, plain_next, run_in, run_end_of, joined}
 use Rattle.encoding.proofs.Laws.Booleans.{and_left, and_right, and-false, cond_cases, lt-or-le}
 
 -- ---- the next n bytes ----
 
 -- plain bytes are there
-pub plain-there : (n : ℕ) (w : List ℕ) → plainNext n w ≡ true → n ≤ length w
-unfolding plainNext
+pub plain-there : (n : ℕ) (w : List ℕ) → plain_next n w ≡ true → n ≤ length w
+unfolding plain_next
 plain-there zero w e = omega arith
 plain-there (suc n) [] e = absurd (false≢true e)
-plain-there (suc n) (b ∷ bs) e = omega (arith, plain-there n bs (and_right (ltb b 0x80) (plainNext n bs) e))
+plain-there (suc n) (b ∷ bs) e = omega (arith, plain-there n bs (and_right (ltb b 0x80) (plain_next n bs) e))
 
 -- and each is below 0x80
-pub plain-below : (n : ℕ) (w : List ℕ) (j : ℕ) → plainNext n w ≡ true → j < n → get_or w j 0 < 0x80
-unfolding plainNext
+pub plain-below : (n : ℕ) (w : List ℕ) (j : ℕ) → plain_next n w ≡ true → j < n → get_or w j 0 < 0x80
+unfolding plain_next
 plain-below zero w j e h = absurd (omega arith)
 plain-below (suc n) [] j e h = absurd (false≢true e)
-plain-below (suc n) (b ∷ bs) zero e h = ltb-true b 0x80 (and_left (ltb b 0x80) (plainNext n bs) e)
-plain-below (suc n) (b ∷ bs) (suc j) e h = plain-below n bs j (and_right (ltb b 0x80) (plainNext n bs) e) (omega arith)
+plain-below (suc n) (b ∷ bs) zero e h = ltb-true b 0x80 (and_left (ltb b 0x80) (plain_next n bs) e)
+plain-below (suc n) (b ∷ bs) (suc j) e h = plain-below n bs j (and_right (ltb b 0x80) (plain_next n bs) e) (omega arith)
 
 -- where too few are left they are not plain
-plain-short : (n : ℕ) (w : List ℕ) → length w < n → plainNext n w ≡ false
-unfolding plainNext
+plain-short : (n : ℕ) (w : List ℕ) → length w < n → plain_next n w ≡ false
+unfolding plain_next
 plain-short zero w h = absurd (omega arith)
 plain-short (suc n) [] h = refl
 plain-short (suc n) (b ∷ bs) h = rw (plain-short n bs (omega arith)) (and-false (ltb b 0x80))
 
 -- the next m + n are the next m and n more
-pub plain-add : (m n : ℕ) (w : List ℕ) → plainNext (m + n) w ≡ plainNext m w && plainNext n (drop m w)
-unfolding plainNext
-plain-add zero n w = ap (λ (k : ℕ). plainNext k w) (zero-add n)
-plain-add (suc m) n [] = ap (λ (k : ℕ). plainNext k []) (suc-add m n)
+pub plain-add : (m n : ℕ) (w : List ℕ) → plain_next (m + n) w ≡ plain_next m w && plain_next n (drop m w)
+unfolding plain_next
+plain-add zero n w = ap (λ (k : ℕ). plain_next k w) (zero-add n)
+plain-add (suc m) n [] = ap (λ (k : ℕ). plain_next k []) (suc-add m n)
 plain-add (suc m) n (b ∷ bs) =
-    ap (λ (k : ℕ). plainNext k (b ∷ bs)) (suc-add m n) ∙ ap (λ (t : Bool). ltb b 0x80 && t) (plain-add m n bs)
-    ∙ sym (and_assoc (ltb b 0x80) (plainNext m bs) (plainNext n (drop m bs)))
+    ap (λ (k : ℕ). plain_next k (b ∷ bs)) (suc-add m n) ∙ ap (λ (t : Bool). ltb b 0x80 && t) (plain-add m n bs)
+    ∙ sym (and_assoc (ltb b 0x80) (plain_next m bs) (plain_next n (drop m bs)))
 
 -- the next m and n more, from a place on
-plain-on : (m n : ℕ) (w : List ℕ) (i : ℕ) → plainNext (m + n) (drop i w) ≡ plainNext m (drop i w) && plainNext n (drop (i + m) w)
+plain-on : (m n : ℕ) (w : List ℕ) (i : ℕ) → plain_next (m + n) (drop i w) ≡ plain_next m (drop i w) && plain_next n (drop (i + m) w)
 plain-on m n w i = rw (plain-add m n (drop i w), drop-drop m i w)
 
 -- whether the eight from a place on are plain
-abbrev pub plainAt : List ℕ → ℕ → Bool
-plainAt w i = plainNext word_bytes (drop i w)
+abbrev pub plain_from : List ℕ → ℕ → Bool
+plain_from w i = plain_next word_bytes (drop i w)
 
 -- four eights
-pub plain-four : (w : List ℕ) (i : ℕ) → plainNext fourWords (drop i w) ≡ plainAt w i && plainAt w (i + 8) && plainAt w (i + 16) && plainAt w (i + 24)
+pub plain-four : (w : List ℕ) (i : ℕ) → plain_next four_words (drop i w) ≡ plain_from w i && plain_from w (i + 8) && plain_from w (i + 16) && plain_from w (i + 24)
 plain-four w i = plain-on 24 8 w i ∙ rw (plain-on 16 8 w i, plain-on 8 8 w i)
 
 -- ---- a word of bytes, and its top bits ----
@@ -79,8 +79,8 @@ zero-both x (suc y) = ne_eqb (x * 0x100 + suc y) 0 (λ z. omega arith) ∙ sym (
 zero-both (suc x) zero = ne_eqb (suc x * 0x100 + 0) 0 (λ z. omega arith) ∙ sym (eqb-suc-zero x)
 
 -- the top bits of n joined bytes tell whether they are plain
-tops-plain : (n : ℕ) (w : List ℕ) → ((j : ℕ) → get_or w j 0 < 0x100) → n ≤ length w → eqb (bit_and (joined n w) (tops n)) 0 ≡ plainNext n w
-unfolding joined plainNext tops
+tops-plain : (n : ℕ) (w : List ℕ) → ((j : ℕ) → get_or w j 0 < 0x100) → n ≤ length w → eqb (bit_and (joined n w) (tops n)) 0 ≡ plain_next n w
+unfolding joined plain_next tops
 tops-plain zero w f h = refl
 tops-plain (suc n) [] f h = absurd (omega arith)
 tops-plain (suc n) (b ∷ bs) f h =
@@ -90,7 +90,7 @@ tops-plain (suc n) (b ∷ bs) f h =
 
 -- the eight from a place on, tested as one number
 pub word-plain : (w : List ℕ) (i x : ℕ) → ((j : ℕ) → get_or w j 0 < 0x100) → i + word_bytes ≤ length w → x ≡ joined word_bytes (drop i w)
-    → eqb (bit_and x 0x8080808080808080) 0 ≡ plainNext word_bytes (drop i w)
+    → eqb (bit_and x 0x8080808080808080) 0 ≡ plain_next word_bytes (drop i w)
 unfolding tops
 word-plain w i x f h e = rw e (tops-plain word_bytes (drop i w) (λ j. rw (get_or-drop i w j 0) (f (i + j))) (omega (arith, length-drop i w)))
 
@@ -128,87 +128,87 @@ joined_bytes w i h e₀ e₁ e₂ e₃ e₄ e₅ e₆ e₇ = rw (e₀, e₁, e�
 -- ---- a run at the front ----
 
 -- it is plain
-runIn-plain : (k : ℕ) (w : List ℕ) → plainNext (runIn k w) w ≡ true
-unfolding runIn plainNext
-runIn-plain zero w = refl
-runIn-plain (suc k) w =
-    cond_cases (λ (r : ℕ). plainNext r w ≡ true) (plainNext word_bytes w)
-    (λ e. plain-add word_bytes (runIn k (drop word_bytes w)) w ∙ rw (e, runIn-plain k (drop word_bytes w))) (λ e. refl)
+run_in-plain : (k : ℕ) (w : List ℕ) → plain_next (run_in k w) w ≡ true
+unfolding run_in plain_next
+run_in-plain zero w = refl
+run_in-plain (suc k) w =
+    cond_cases (λ (r : ℕ). plain_next r w ≡ true) (plain_next word_bytes w)
+    (λ e. plain-add word_bytes (run_in k (drop word_bytes w)) w ∙ rw (e, run_in-plain k (drop word_bytes w))) (λ e. refl)
 
 -- it has whole eights
-runIn-eights : (k : ℕ) (w : List ℕ) → (m : ℕ) × (runIn k w ≡ m * word_bytes)
-unfolding runIn
-runIn-eights zero w = (0, refl)
-runIn-eights (suc k) w =
-    let n = runIn-eights k (drop word_bytes w) in
-    cond_cases (λ (r : ℕ). (m : ℕ) × (r ≡ m * word_bytes)) (plainNext word_bytes w) (λ e. (suc n.0, omega (arith, n.1))) (λ e. (0, refl))
+run_in-eights : (k : ℕ) (w : List ℕ) → (m : ℕ) × (run_in k w ≡ m * word_bytes)
+unfolding run_in
+run_in-eights zero w = (0, refl)
+run_in-eights (suc k) w =
+    let n = run_in-eights k (drop word_bytes w) in
+    cond_cases (λ (r : ℕ). (m : ℕ) × (r ≡ m * word_bytes)) (plain_next word_bytes w) (λ e. (suc n.0, omega (arith, n.1))) (λ e. (0, refl))
 
 -- the eight after it are not plain
-runIn-stops : (k : ℕ) (w : List ℕ) → length w < suc k * word_bytes → plainNext word_bytes (drop (runIn k w) w) ≡ false
-unfolding runIn
-runIn-stops zero w h = plain-short word_bytes w (omega arith)
-runIn-stops (suc k) w h =
-    cond_cases (λ (r : ℕ). plainNext word_bytes (drop r w) ≡ false) (plainNext word_bytes w)
-    (λ e. rw (← drop-drop (runIn k (drop word_bytes w)) word_bytes w) (runIn-stops k (drop word_bytes w) (omega (arith, length-drop word_bytes w))))
+run_in-stops : (k : ℕ) (w : List ℕ) → length w < suc k * word_bytes → plain_next word_bytes (drop (run_in k w) w) ≡ false
+unfolding run_in
+run_in-stops zero w h = plain-short word_bytes w (omega arith)
+run_in-stops (suc k) w h =
+    cond_cases (λ (r : ℕ). plain_next word_bytes (drop r w) ≡ false) (plain_next word_bytes w)
+    (λ e. rw (← drop-drop (run_in k (drop word_bytes w)) word_bytes w) (run_in-stops k (drop word_bytes w) (omega (arith, length-drop word_bytes w))))
     (λ e. e)
 
 -- where the next eight are not plain there is none
-runIn-none : (k : ℕ) (w : List ℕ) → plainNext word_bytes w ≡ false → runIn k w ≡ 0
-unfolding runIn
-runIn-none zero w e = refl
-runIn-none (suc k) w e = rw e
+run_in-none : (k : ℕ) (w : List ℕ) → plain_next word_bytes w ≡ false → run_in k w ≡ 0
+unfolding run_in
+run_in-none zero w e = refl
+run_in-none (suc k) w e = rw e
 
 -- ---- where the run from a place on ends ----
 
 -- at the place or later
-pub run-from : (w : List ℕ) (i : ℕ) → i ≤ runEnd w i
-unfolding runEnd
+pub run-from : (w : List ℕ) (i : ℕ) → i ≤ run_end_of w i
+unfolding run_end_of
 run-from w i = omega arith
 
 -- what it passes over is plain
-pub run-plain : (w : List ℕ) (i : ℕ) → plainNext (runEnd w i - i) (drop i w) ≡ true
-unfolding runEnd
+pub run-plain : (w : List ℕ) (i : ℕ) → plain_next (run_end_of w i - i) (drop i w) ≡ true
+unfolding run_end_of
 run-plain w i =
-    let k = length (drop i w) / word_bytes in rw (add-sub_cancel_left i (runIn k (drop i w))) (runIn-plain k (drop i w))
+    let k = length (drop i w) / word_bytes in rw (add-sub_cancel_left i (run_in k (drop i w))) (run_in-plain k (drop i w))
 
 -- it ends within the list
-pub run-upto : (w : List ℕ) (i : ℕ) → i ≤ length w → runEnd w i ≤ length w
-run-upto w i h = omega (arith, plain-there (runEnd w i - i) (drop i w) (run-plain w i), length-drop i w)
+pub run-upto : (w : List ℕ) (i : ℕ) → i ≤ length w → run_end_of w i ≤ length w
+run-upto w i h = omega (arith, plain-there (run_end_of w i - i) (drop i w) (run-plain w i), length-drop i w)
 
 -- it passes over whole eights
-pub run-eights : (w : List ℕ) (i : ℕ) → (k : ℕ) × (runEnd w i ≡ i + k * word_bytes)
-unfolding runEnd
-run-eights w i = let n = runIn-eights (length (drop i w) / word_bytes) (drop i w) in (n.0, ap (λ (r : ℕ). i + r) n.1)
+pub run-eights : (w : List ℕ) (i : ℕ) → (k : ℕ) × (run_end_of w i ≡ i + k * word_bytes)
+unfolding run_end_of
+run-eights w i = let n = run_in-eights (length (drop i w) / word_bytes) (drop i w) in (n.0, ap (λ (r : ℕ). i + r) n.1)
 
 -- the eight after its end are not plain
-pub run-stops : (w : List ℕ) (i : ℕ) → plainNext word_bytes (drop (runEnd w i) w) ≡ false
-unfolding runEnd
+pub run-stops : (w : List ℕ) (i : ℕ) → plain_next word_bytes (drop (run_end_of w i) w) ≡ false
+unfolding run_end_of
 run-stops w i =
-    let k = length (drop i w) / word_bytes in rw (← drop-drop (runIn k (drop i w)) i w) (runIn-stops k (drop i w) (omega arith))
+    let k = length (drop i w) / word_bytes in rw (← drop-drop (run_in k (drop i w)) i w) (run_in-stops k (drop i w) (omega arith))
 
 -- where the next eight are not plain it ends at once
-pub run_ends : (w : List ℕ) (i : ℕ) → plainNext word_bytes (drop i w) ≡ false → runEnd w i ≡ i
-unfolding runEnd
-run_ends w i e = omega (arith, runIn-none (length (drop i w) / word_bytes) (drop i w) e)
+pub run_ends : (w : List ℕ) (i : ℕ) → plain_next word_bytes (drop i w) ≡ false → run_end_of w i ≡ i
+unfolding run_end_of
+run_ends w i e = omega (arith, run_in-none (length (drop i w) / word_bytes) (drop i w) e)
 
 -- and where fewer than eight are left
-pub run_short : (w : List ℕ) (i : ℕ) → length w < i + word_bytes → runEnd w i ≡ i
+pub run_short : (w : List ℕ) (i : ℕ) → length w < i + word_bytes → run_end_of w i ≡ i
 run_short w i h = run_ends w i (plain-short word_bytes (drop i w) (omega (arith, length-drop i w)))
 
 -- where they are plain it goes on after them
-pub run_on : (w : List ℕ) (i : ℕ) → plainNext word_bytes (drop i w) ≡ true → runEnd w (i + word_bytes) ≡ runEnd w i
-unfolding runEnd runIn
+pub run_on : (w : List ℕ) (i : ℕ) → plain_next word_bytes (drop i w) ≡ true → run_end_of w (i + word_bytes) ≡ run_end_of w i
+unfolding run_end_of run_in
 run_on w i e =
     let k : length (drop i w) / word_bytes ≡ suc (length (drop (i + word_bytes) w) / word_bytes) =
     omega (arith, plain-there word_bytes (drop i w) e, length-drop i w, length-drop (i + word_bytes) w) in
     rw (k, e, drop-drop word_bytes i w) (omega arith)
 
 -- and after any number of eights
-pub run-on-eights : (k : ℕ) (w : List ℕ) (i : ℕ) → plainNext (k * word_bytes) (drop i w) ≡ true → runEnd w (i + k * word_bytes) ≡ runEnd w i
-run-on-eights zero w i e = ap (runEnd w) (add-zero i)
+pub run-on-eights : (k : ℕ) (w : List ℕ) (i : ℕ) → plain_next (k * word_bytes) (drop i w) ≡ true → run_end_of w (i + k * word_bytes) ≡ run_end_of w i
+run-on-eights zero w i e = ap (run_end_of w) (add-zero i)
 run-on-eights (suc k) w i e =
     let n : suc k * word_bytes ≡ k * word_bytes + word_bytes = omega arith in
     let m : i + suc k * word_bytes ≡ i + k * word_bytes + word_bytes = omega arith in
     let f = sym (plain-on (k * word_bytes) word_bytes w i) ∙ (rw n at e) in
-    ap (runEnd w) m ∙ run_on w (i + k * word_bytes) (and_right (plainNext (k * word_bytes) (drop i w)) _ f)
-    ∙ run-on-eights k w i (and_left (plainNext (k * word_bytes) (drop i w)) _ f)
+    ap (run_end_of w) m ∙ run_on w (i + k * word_bytes) (and_right (plain_next (k * word_bytes) (drop i w)) _ f)
+    ∙ run-on-eights k w i (and_left (plain_next (k * word_bytes) (drop i w)) _ f)

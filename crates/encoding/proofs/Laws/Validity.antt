@@ -7,7 +7,7 @@ use native.Mathlib.Numerals.{sub-one}
 use native.Mathlib.Omega.{arith}
 use lib.Dec.{leb, eqb-suc-zero}
 use borrow.Author.Tests.{le-leb, eq-eqb}
-use Rattle.encoding.specs.Validity.{Due, due, refused, lead, next, accepts, isText, table37}
+use Rattle.encoding.specs.Validity.{Due, due, refused, lead, next, accepts, is_text, table37}
 use Rattle.encoding.proofs.Laws.Table37.{InRow, row_at, asked, lead-in, lead-none}
 
 -- where nothing is due, the byte begins a character
@@ -28,14 +28,14 @@ accepts-next d d' b bs e t = rw (e, t)
 -- ---- the walk as tests ----
 
 -- the first byte finds its row
-pub isText-row : (k b : ℕ) (bs : List ℕ) → InRow k b → isText (b ∷ bs) ≡ accepts (asked (row_at k)) bs
-unfolding isText due
-isText-row k b bs h = accepts-next (due 0 0x80 0xBF) (asked (row_at k)) b bs (next-lead (due 0 0x80 0xBF) b refl ∙ lead-in k b h.0 h.1 h.2 h.3) refl
+pub is_text-row : (k b : ℕ) (bs : List ℕ) → InRow k b → is_text (b ∷ bs) ≡ accepts (asked (row_at k)) bs
+unfolding is_text due
+is_text-row k b bs h = accepts-next (due 0 0x80 0xBF) (asked (row_at k)) b bs (next-lead (due 0 0x80 0xBF) b refl ∙ lead-in k b h.0 h.1 h.2 h.3) refl
 
 -- above the last row's bytes nothing begins
-pub isText-above : (b : ℕ) (bs : List ℕ) → 0xF4 < b → isText (b ∷ bs) ≡ false
-unfolding isText table37 refused due
-isText-above b bs h = accepts-refused (due 0 0x80 0xBF) refused b bs (next-lead (due 0 0x80 0xBF) b refl ∙ lead-none 9 b (omega arith) tt) refl
+pub is_text-above : (b : ℕ) (bs : List ℕ) → 0xF4 < b → is_text (b ∷ bs) ≡ false
+unfolding is_text table37 refused due
+is_text-above b bs h = accepts-refused (due 0 0x80 0xBF) refused b bs (next-lead (due 0 0x80 0xBF) b refl ∙ lead-none 9 b (omega arith) tt) refl
 
 -- a byte that is due lies in its range, and the rest goes on
 pub accepts-due : (n lo hi b : ℕ) (bs : List ℕ) → accepts (due (suc n) lo hi) (b ∷ bs) ≡ leb lo b && leb b hi && accepts (due n 0x80 0xBF) bs

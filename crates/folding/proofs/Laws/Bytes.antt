@@ -8,8 +8,8 @@ use native.Mathlib.Omega.{arith}
 use lib.Dec.{eqb, leb}
 use borrow.Author.Tests.{leb-true, le-leb, eqb-true, eqb-false, ne_eqb}
 use Rattle.encoding.proofs.Laws.Booleans.{and_right, or-either}
-use Rattle.folding.specs.FoldBytes.{one, two, smallByte, alone, second, pair, paired, stepBytes, foldBytes}
-use Rattle.folding.proofs.Laws.Steps.{foldBytes-alone}
+use Rattle.folding.specs.FoldBytes.{one, two, small_byte, alone, second, pair, paired, step_bytes, fold_bytes}
+use Rattle.folding.proofs.Laws.Steps.{fold_bytes-alone}
 
 -- a number that is not from `low` to `high` is told so
 range-not : (low high b : ℕ) → (low ≤ b → b ≤ high → ⊥) → leb low b && leb b high ≡ false
@@ -27,18 +27,18 @@ range-high low high b e = leb-true b high (and_right (leb low b) (leb b high) e)
 -- ---- one byte ----
 
 -- A to Z fold
-pub small-capital : (b : ℕ) → 0x41 ≤ b → b ≤ 0x5A → smallByte b ≡ b + 0x20
-unfolding smallByte
+pub small-capital : (b : ℕ) → 0x41 ≤ b → b ≤ 0x5A → small_byte b ≡ b + 0x20
+unfolding small_byte
 small-capital b h k = rw (le-leb 0x41 b h, le-leb b 0x5A k)
 
 -- all other bytes stay
-pub small-stays : (b : ℕ) → (0x41 ≤ b → b ≤ 0x5A → ⊥) → smallByte b ≡ b
-unfolding smallByte
+pub small-stays : (b : ℕ) → (0x41 ≤ b → b ≤ 0x5A → ⊥) → small_byte b ≡ b
+unfolding small_byte
 small-stays b n = rw (range-not 0x41 0x5A b n)
 
 -- a byte that is not I is given as one
-alone-one : (b : ℕ) → (b ≡ 0x49 → ⊥) → stepBytes (alone b) ≡ smallByte b ∷ []
-unfolding alone one two stepBytes
+alone-one : (b : ℕ) → (b ≡ 0x49 → ⊥) → step_bytes (alone b) ≡ small_byte b ∷ []
+unfolding alone one two step_bytes
 alone-one b n = rw (ne_eqb b 0x49 n)
 
 -- from a byte that begins no letter which folds, one is taken
@@ -47,14 +47,14 @@ unfolding paired
 not-paired b n = range-not 0xC3 0xC5 b n
 
 -- an ASCII byte that is not I is folded where it stands
-pub foldBytes-ascii : (b : ℕ) (bs : List ℕ) → b < 0x80 → (b ≡ 0x49 → ⊥) → foldBytes (b ∷ bs) ≡ smallByte b ∷ foldBytes bs
-foldBytes-ascii b bs h n = foldBytes-alone b bs (not-paired b (λ x y. omega arith)) ∙ rw (alone-one b n)
+pub fold_bytes-ascii : (b : ℕ) (bs : List ℕ) → b < 0x80 → (b ≡ 0x49 → ⊥) → fold_bytes (b ∷ bs) ≡ small_byte b ∷ fold_bytes bs
+fold_bytes-ascii b bs h n = fold_bytes-alone b bs (not-paired b (λ x y. omega arith)) ∙ rw (alone-one b n)
 
 -- and any other that begins no such letter stays
-pub foldBytes-stays : (b : ℕ) (bs : List ℕ) → 0x80 ≤ b → paired b ≡ false → foldBytes (b ∷ bs) ≡ b ∷ foldBytes bs
-foldBytes-stays b bs h p =
+pub fold_bytes-stays : (b : ℕ) (bs : List ℕ) → 0x80 ≤ b → paired b ≡ false → fold_bytes (b ∷ bs) ≡ b ∷ fold_bytes bs
+fold_bytes-stays b bs h p =
     let one = alone-one b (λ e. omega arith) in
-    foldBytes-alone b bs p ∙ rw (one, small-stays b (λ x y. omega arith))
+    fold_bytes-alone b bs p ∙ rw (one, small-stays b (λ x y. omega arith))
 
 -- ---- two bytes ----
 
@@ -97,6 +97,6 @@ not-dotted a b o = go (eqb a 0xC4) refl (eqb b 0xB0) refl
     go false p t q = refl
 
 -- so both stay
-pub pair-stays : (a b : ℕ) → Other a b → stepBytes (pair a b) ≡ a ∷ b ∷ []
-unfolding pair one two stepBytes
+pub pair-stays : (a b : ℕ) → Other a b → step_bytes (pair a b) ≡ a ∷ b ∷ []
+unfolding pair one two step_bytes
 pair-stays a b o = rw (not-dotted a b o, second-stays a b o)

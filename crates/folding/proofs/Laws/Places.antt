@@ -9,32 +9,32 @@ use lib.ListN.{length, drop, get_or}
 use lib.Seq.{drop-cons, drop-length}
 use borrow.Author.Tests.{not-true, not-false}
 use Rattle.folding.specs.declared.step.FoldStep.{FoldStep}
-use Rattle.folding.specs.FoldBytes.{alone, pair, paired, foldStep}
+use Rattle.folding.specs.FoldBytes.{alone, pair, paired, fold_step}
 use Rattle.folding.proofs.Laws.Bytes.{not-paired}
 
 -- from a byte that begins no letter which folds
-foldStep-one : (b : ℕ) (bs : List ℕ) → paired b ≡ false → foldStep (b ∷ bs) ≡ alone b
-unfolding foldStep
-foldStep-one b [] p = refl
-foldStep-one b (c ∷ cs) p = rw p
+fold_step-one : (b : ℕ) (bs : List ℕ) → paired b ≡ false → fold_step (b ∷ bs) ≡ alone b
+unfolding fold_step
+fold_step-one b [] p = refl
+fold_step-one b (c ∷ cs) p = rw p
 
 module _ (w : List ℕ) (i : ℕ) (s : FoldStep) (h : i < length w) where
   -- so from such a byte of the word
-  pub foldStep-alone : (t : Bool) → t ≡ paired (get_or w i 0) → not t ≡ true → s ≡ alone (get_or w i 0) → s ≡ foldStep (drop i w)
-  foldStep-alone t p n e = e ∙ rw (drop-cons w i 0 h) (sym (foldStep-one (get_or w i 0) _ (sym p ∙ not-true t n)))
+  pub fold_step-alone : (t : Bool) → t ≡ paired (get_or w i 0) → not t ≡ true → s ≡ alone (get_or w i 0) → s ≡ fold_step (drop i w)
+  fold_step-alone t p n e = e ∙ rw (drop-cons w i 0 h) (sym (fold_step-one (get_or w i 0) _ (sym p ∙ not-true t n)))
 
   -- and from one of ASCII
-  pub foldStep-ascii : get_or w i 0 < 0x80 → s ≡ alone (get_or w i 0) → s ≡ foldStep (drop i w)
-  foldStep-ascii k e = foldStep-alone false (sym (not-paired (get_or w i 0) (λ x y. omega arith))) refl e
+  pub fold_step-ascii : get_or w i 0 < 0x80 → s ≡ alone (get_or w i 0) → s ≡ fold_step (drop i w)
+  fold_step-ascii k e = fold_step-alone false (sym (not-paired (get_or w i 0) (λ x y. omega arith))) refl e
 
   -- from the last byte
-  pub foldStep-last : length w ≤ i + 1 → s ≡ alone (get_or w i 0) → s ≡ foldStep (drop i w)
-  unfolding foldStep
-  foldStep-last k e =
+  pub fold_step-last : length w ≤ i + 1 → s ≡ alone (get_or w i 0) → s ≡ fold_step (drop i w)
+  unfolding fold_step
+  fold_step-last k e =
       let end : i + 1 ≡ length w = omega arith in
       e ∙ rw (drop-cons w i 0 h, ← add-one i, end, drop-length)
 
   -- from any other that begins a letter which may fold
-  pub foldStep-pair : (t : Bool) → t ≡ paired (get_or w i 0) → not t ≡ false → i + 1 < length w → s ≡ pair (get_or w i 0) (get_or w (i + 1) 0) → s ≡ foldStep (drop i w)
-  unfolding foldStep
-  foldStep-pair t p y k e = e ∙ rw (drop-cons w i 0 h, ← add-one i, drop-cons w (i + 1) 0 k, ← p, not-false t y)
+  pub fold_step-pair : (t : Bool) → t ≡ paired (get_or w i 0) → not t ≡ false → i + 1 < length w → s ≡ pair (get_or w i 0) (get_or w (i + 1) 0) → s ≡ fold_step (drop i w)
+  unfolding fold_step
+  fold_step-pair t p y k e = e ∙ rw (drop-cons w i 0 h, ← add-one i, drop-cons w (i + 1) 0 k, ← p, not-false t y)

@@ -14,8 +14,8 @@ use Rattle.encoding.proofs.Laws.Booleans.{and-each}
 use Rattle.turkish.specs.Calls.{written}
 use Rattle.writing.specs.Put.{put}
 use Rattle.writing.proofs.Laws.Put.{set_next}
-use Rattle.folding.specs.FoldBytes.{smallByte, plain, foldBytes}
-use Rattle.folding.proofs.Laws.Bytes.{foldBytes-ascii}
+use Rattle.folding.specs.FoldBytes.{small_byte, plain, fold_bytes}
+use Rattle.folding.proofs.Laws.Bytes.{fold_bytes-ascii}
 use Rattle.folding.proofs.Laws.Written.{put_written}
 
 -- ---- the test ----
@@ -34,23 +34,23 @@ plain_end w i ok h = rw (drop_of_length-le w h) (sym (and-true ok))
 -- ---- the fold ----
 
 -- each byte of such a word is folded where it stands
-pub foldBytes-plain : (w : List ℕ) → plain w ≡ true → foldBytes w ≡ map smallByte w
-unfolding plain foldBytes
-foldBytes-plain [] p = refl
-foldBytes-plain (b ∷ bs) p =
+pub fold_bytes-plain : (w : List ℕ) → plain w ≡ true → fold_bytes w ≡ map small_byte w
+unfolding plain fold_bytes
+fold_bytes-plain [] p = refl
+fold_bytes-plain (b ∷ bs) p =
     let t = and-each (ltb b 0x80) (not (eqb b 0x49)) (plain bs) p in
-    foldBytes-ascii b bs (ltb-true b 0x80 t.0) (eqb-false b 0x49 (not-true (eqb b 0x49) t.1)) ∙ rw (foldBytes-plain bs t.2)
+    fold_bytes-ascii b bs (ltb-true b 0x80 t.0) (eqb-false b 0x49 (not-true (eqb b 0x49) t.1)) ∙ rw (fold_bytes-plain bs t.2)
 
 -- the byte at place i, folded and stored after those before it
-pub small-stored : (w out o : List ℕ) (i r : ℕ) → i < length w → length w ≤ length out → o ≡ put 0 (take i (map smallByte w)) out
-    → r ≡ smallByte (get_or w i 0) → set o i r ≡ put 0 (take (i + 1) (map smallByte w)) out
-unfolding smallByte
+pub small-stored : (w out o : List ℕ) (i r : ℕ) → i < length w → length w ≤ length out → o ≡ put 0 (take i (map small_byte w)) out
+    → r ≡ small_byte (get_or w i 0) → set o i r ≡ put 0 (take (i + 1) (map small_byte w)) out
+unfolding small_byte
 small-stored w out o i r h k e f =
-    let g : r ≡ get_or (map smallByte w) i 0 = f ∙ sym (get_or-map smallByte w i 0) in
-    rw (zero-add, ← g) at (set_next 0 i (map smallByte w) out o (omega arith) (omega (arith, length-map w smallByte)) e)
+    let g : r ≡ get_or (map small_byte w) i 0 = f ∙ sym (get_or-map small_byte w i 0) in
+    rw (zero-add, ← g) at (set_next 0 i (map small_byte w) out o (omega arith) (omega (arith, length-map w small_byte)) e)
 
 -- all of them stored
-pub small-written : (w out o : List ℕ) (i : ℕ) → i ≡ length w → o ≡ put 0 (take i (map smallByte w)) out → o ≡ written (map smallByte w) out
+pub small-written : (w out o : List ℕ) (i : ℕ) → i ≡ length w → o ≡ put 0 (take i (map small_byte w)) out → o ≡ written (map small_byte w) out
 small-written w out o i e f =
-    let l : i ≡ length (map smallByte w) = e ∙ sym (length-map w smallByte) in
+    let l : i ≡ length (map small_byte w) = e ∙ sym (length-map w small_byte) in
     f ∙ rw (l, take-length, put_written)

@@ -8,55 +8,55 @@ use Rattle.turkish.specs.Calls.{written}
 use Rattle.writing.specs.Put.{put}
 use Rattle.writing.proofs.Laws.Put.{Wrote, wrote_nothing, wrote-text}
 use Rattle.folding.specs.declared.step.FoldStep.{FoldStep}
-use Rattle.folding.specs.FoldBytes.{alone, stepBytes, foldBytes}
+use Rattle.folding.specs.FoldBytes.{alone, step_bytes, fold_bytes}
 use Rattle.folding.proofs.Laws.Steps.{SteppedAt, stepped-at}
-use Rattle.folding.proofs.Laws.Places.{foldStep-ascii}
+use Rattle.folding.proofs.Laws.Places.{fold_step-ascii}
 use Rattle.folding.proofs.Laws.Written.{put_written}
 
 -- at the word's end nothing is left to fold
-pub foldBytes-end : (w : List ℕ) (i : ℕ) → length w ≤ i → foldBytes (drop i w) ≡ []
-unfolding foldBytes
-foldBytes-end w i h = rw (drop_of_length-le w h)
+pub fold_bytes-end : (w : List ℕ) (i : ℕ) → length w ≤ i → fold_bytes (drop i w) ≡ []
+unfolding fold_bytes
+fold_bytes-end w i h = rw (drop_of_length-le w h)
 
 -- a step leaves as much less
 pub length_rest : (w : List ℕ) (i : ℕ) (s : FoldStep) → SteppedAt s w i
-    → length (foldBytes (drop i w)) ≡ s.given + length (foldBytes (drop (i + s.taken) w))
-length_rest w i s z = ap length z.rest ∙ length-append (stepBytes s) (foldBytes (drop (i + s.taken) w)) ∙ rw z.gives
+    → length (fold_bytes (drop i w)) ≡ s.given + length (fold_bytes (drop (i + s.taken) w))
+length_rest w i s z = ap length z.rest ∙ length-append (step_bytes s) (fold_bytes (drop (i + s.taken) w)) ∙ rw z.gives
 
 -- a byte of ASCII makes a step by itself
 pub stepped-ascii : (w : List ℕ) (i : ℕ) (s : FoldStep) → i < length w → get_or w i 0 < 0x80 → s ≡ alone (get_or w i 0) → SteppedAt s w i
-stepped-ascii w i s h k e = stepped-at w i s h (foldStep-ascii w i s h k e)
+stepped-ascii w i s h k e = stepped-at w i s h (fold_step-ascii w i s h k e)
 
 -- the output `out`, of which `o` was made, has the fold of w's first i bytes, which ends at `at`, and room for the rest
 pub record Reached (w out o : List ℕ) (at i : ℕ) : Type 0 where
   pub done : List ℕ
-  pub wrote : Wrote 0 at done out o (length (foldBytes (drop i w)))
-  pub whole : done ++ foldBytes (drop i w) ≡ foldBytes w
+  pub wrote : Wrote 0 at done out o (length (fold_bytes (drop i w)))
+  pub whole : done ++ fold_bytes (drop i w) ≡ fold_bytes w
 
 -- at first it has nothing
-pub reached-start : (w out : List ℕ) → length (foldBytes w) ≤ length out → Reached w out out 0 0
+pub reached-start : (w out : List ℕ) → length (fold_bytes w) ≤ length out → Reached w out out 0 0
 reached-start w out h = record { done = []; wrote = wrote_nothing (omega arith); whole = refl }
 
 module _ (w out o : List ℕ) (at i : ℕ) (r : Reached w out o at i) where
   -- a step
   module _ (s : FoldStep) (z : SteppedAt s w i) where
     -- has room
-    pub reached-room : length o ≡ length out → at + length (stepBytes s) ≤ length o
+    pub reached-room : length o ≡ length out → at + length (step_bytes s) ≤ length o
     reached-room e = omega (arith, r.wrote.room, length_rest w i s z, z.gives)
 
     -- and leads on
-    pub reached-next : (b : ℕ) (p : List ℕ) → (b ≡ at + length (stepBytes s)) × (p ≡ put at (stepBytes s) o) → Reached w out p b (i + s.taken)
+    pub reached-next : (b : ℕ) (p : List ℕ) → (b ≡ at + length (step_bytes s)) × (p ≡ put at (step_bytes s) o) → Reached w out p b (i + s.taken)
     reached-next b p e =
-        let rest = foldBytes (drop (i + s.taken) w) in
-        let room : length (foldBytes (drop i w)) ≡ length (stepBytes s) + length rest = length_rest w i s z ∙ rw z.gives in
+        let rest = fold_bytes (drop (i + s.taken) w) in
+        let room : length (fold_bytes (drop i w)) ≡ length (step_bytes s) + length rest = length_rest w i s z ∙ rw z.gives in
         record {
-          done = r.done ++ stepBytes s;
-          wrote = wrote-text (stepBytes s) (length (stepBytes s)) refl (rw room at r.wrote) e;
-          whole = append_assoc r.done (stepBytes s) rest ∙ rw (← z.rest) r.whole;
+          done = r.done ++ step_bytes s;
+          wrote = wrote-text (step_bytes s) (length (step_bytes s)) refl (rw room at r.wrote) e;
+          whole = append_assoc r.done (step_bytes s) rest ∙ rw (← z.rest) r.whole;
         }
 
   -- at the word's end it has all
-  pub reached-end : length w ≤ i → (at ≡ length (foldBytes w)) × (o ≡ written (foldBytes w) out)
+  pub reached-end : length w ≤ i → (at ≡ length (fold_bytes w)) × (o ≡ written (fold_bytes w) out)
   reached-end h =
-      let all : r.done ≡ foldBytes w = sym (append-nil r.done) ∙ ap (λ (l : List ℕ). r.done ++ l) (sym (foldBytes-end w i h)) ∙ r.whole in
+      let all : r.done ≡ fold_bytes w = sym (append-nil r.done) ∙ ap (λ (l : List ℕ). r.done ++ l) (sym (fold_bytes-end w i h)) ∙ r.whole in
       (omega (arith, r.wrote.place, ap length all), r.wrote.output ∙ rw (all, put_written))

@@ -12,20 +12,20 @@ use lib.Seq.{length-take-le, take-nil, drop-nil}
 use lib.Dec.{leb, eqb}
 use borrow.Author.Tests.{leb-true, eqb-true, eq-eqb, ne_eqb}
 use Rattle.encoding.specs.Scalar.{surrogate, scalar, scalars}
-use Rattle.encoding.specs.Encoding.{encode, encodeAll}
-use Rattle.encoding.specs.Validity.{isText}
-use Rattle.encoding.proofs.CheckExact.{encodes-isText}
+use Rattle.encoding.specs.Encoding.{encode, encode_all}
+use Rattle.encoding.specs.Validity.{is_text}
+use Rattle.encoding.proofs.CheckExact.{encodes-is_text}
 use Rattle.encoding.proofs.Laws.Booleans.{and_left, and_right, and-false, cond_both}
 use Rattle.utf8.specs.Steps.{same}
-use Rattle.utf8.proofs.TextCharacters.{encodeAll-append, before_text}
+use Rattle.utf8.proofs.TextCharacters.{encode_all-append, before_text}
 use Rattle.utf8.proofs.WholeLiterals.{same-equal}
 use Rattle.turkish.specs.declared.summary.Summary.{Summary}
 use Rattle.turkish.specs.Letters.{text, any, has}
-use Rattle.turkish.specs.Vowels.{vowels, vowel, lastVowel, beforeLastVowel}
-use Rattle.theorems.specs.Simple.Harmony.{toFirst}
+use Rattle.turkish.specs.Vowels.{vowels, vowel, last_vowel_of, before_last_vowel}
+use Rattle.theorems.specs.Simple.Harmony.{to_first}
 use Rattle.turkish.specs.Calls.{chars}
 use Rattle.theorems.specs.Fronts.{Alike}
-use Rattle.batches.specs.Summary.{vowelNumber, times, summaryOf}
+use Rattle.batches.specs.Summary.{vowel_number, times, summary_from}
 use Rattle.theorems.proofs.Laws.Members.{every_append}
 use Rattle.theorems.proofs.Laws.Tests.{every, every-at, any-reverse}
 use Rattle.theorems.proofs.Laws.Vowels.{has-member}
@@ -35,9 +35,9 @@ use Rattle.writing.proofs.Laws.Put.{put-nothing, Wrote, wrote-text, wrote-all}
 use Rattle.vowels.specs.declared.vowel.Encoded.{Encoded}
 use Rattle.vowels.specs.declared.vowel.Vowel.{Vowel}
 use Rattle.vowels.specs.declared.vowel.Sound.TheVariants.{AVowel, NoVowel}
-use Rattle.vowels.specs.Sounds.{vowelNumbered, soundNumbered, mostVowelBytes, encodedOf}
-use Rattle.vowels.proofs.Laws.Sounds.{vowelNumbered-every, vowelNumbered-length, soundNumbered-noVowel, soundNumbered-aVowel, encodedOf-bytes, encodedOf-fits}
-use Rattle.fronts.specs.StandIn.{counted, standIn, standInRoom}
+use Rattle.vowels.specs.Sounds.{vowel_numbered, sound_numbered, most_vowel_bytes, encoded_of}
+use Rattle.vowels.proofs.Laws.Sounds.{vowel_numbered-every, vowel_numbered-length, sound_numbered-no_vowel, sound_numbered-a_vowel, encoded_of-bytes, encoded_of-fits}
+use Rattle.fronts.specs.StandIn.{counted, stand_in_of, stand_in_room}
 
 -- ---- the characters of a stand-in are vowels ----
 
@@ -51,8 +51,8 @@ counted-every f (v ∷ vs) (n ∷ ns) h =
     cond_both (λ (xs : List ℕ). every f xs ≡ true) (eqb n 0) (counted vs ns) (v ∷ counted vs ns) r (rw (and_left (f v) (every f vs) h) r)
 
 -- and each character of a stand-in
-letters-every : (f : ℕ → Bool) (ns : List ℕ) (n : ℕ) → every f vowels ≡ true → every f (counted vowels ns ++ vowelNumbered n) ≡ true
-letters-every f ns n h = rw (every_append, counted-every f vowels ns h) (vowelNumbered-every f n h)
+letters-every : (f : ℕ → Bool) (ns : List ℕ) (n : ℕ) → every f vowels ≡ true → every f (counted vowels ns ++ vowel_numbered n) ≡ true
+letters-every f ns n h = rw (every_append, counted-every f vowels ns h) (vowel_numbered-every f n h)
 
 -- ---- it is a text ----
 
@@ -63,34 +63,34 @@ every-scalars [] h = refl
 every-scalars (c ∷ cs) h = rw (and_left (scalar c) (every scalar cs) h) (every-scalars cs (and_right (scalar c) (every scalar cs) h))
 
 -- so the characters of a stand-in are
-letters-scalars : (s : Summary) → scalars (counted vowels s.counts ++ vowelNumbered s.last) ≡ true
+letters-scalars : (s : Summary) → scalars (counted vowels s.counts ++ vowel_numbered s.last) ≡ true
 letters-scalars s =
-    every-scalars (counted vowels s.counts ++ vowelNumbered s.last)
+    every-scalars (counted vowels s.counts ++ vowel_numbered s.last)
     (letters-every scalar s.counts s.last (unfold every vowels text scalar surrogate in refl))
 
 -- a stand-in is a text
-pub standIn-text : (s : Summary) → isText (standIn s) ≡ true
-unfolding standIn
-standIn-text s = encodes-isText (counted vowels s.counts ++ vowelNumbered s.last) (letters-scalars s)
+pub stand_in_of-text : (s : Summary) → is_text (stand_in_of s) ≡ true
+unfolding stand_in_of
+stand_in_of-text s = encodes-is_text (counted vowels s.counts ++ vowel_numbered s.last) (letters-scalars s)
 
 -- ---- it fits ----
 
 -- a character of no more bytes than a vowel has at most
 small : ℕ → Bool
-small c = leb (length (encode c)) mostVowelBytes
+small c = leb (length (encode c)) most_vowel_bytes
 
 -- such characters take no more than that for each
-small-length : (cs : List ℕ) → every small cs ≡ true → length (encodeAll cs) ≤ mostVowelBytes * length cs
-unfolding every encodeAll mostVowelBytes small
+small-length : (cs : List ℕ) → every small cs ≡ true → length (encode_all cs) ≤ most_vowel_bytes * length cs
+unfolding every encode_all most_vowel_bytes small
 small-length [] h = omega arith
 small-length (c ∷ cs) h =
     let p : length (encode c) ≤ 2 = leb-true (length (encode c)) 2 (and_left (small c) (every small cs) h) in
     let r = small-length cs (and_right (small c) (every small cs) h) in
-    omega (arith, length-append (encode c) (encodeAll cs))
+    omega (arith, length-append (encode c) (encode_all cs))
 
 -- the vowels are such
 vowels-small : every small vowels ≡ true
-unfolding every vowels text encode mostVowelBytes small
+unfolding every vowels text encode most_vowel_bytes small
 vowels-small = refl
 
 -- no more vowels are counted than there are
@@ -103,43 +103,43 @@ counted-length (v ∷ vs) (n ∷ ns) =
     cond_both (λ (xs : List ℕ). length xs ≤ length (v ∷ vs)) (eqb n 0) (counted vs ns) (v ∷ counted vs ns) (omega arith) (omega arith)
 
 -- a number's vowel has the bytes of one at most
-vowelNumbered-bytes : (n : ℕ) → length (encodeAll (vowelNumbered n)) ≤ mostVowelBytes
-unfolding mostVowelBytes
-vowelNumbered-bytes n = omega (arith, vowelNumbered-length n, small-length (vowelNumbered n) (vowelNumbered-every small n vowels-small))
+vowel_numbered-bytes : (n : ℕ) → length (encode_all (vowel_numbered n)) ≤ most_vowel_bytes
+unfolding most_vowel_bytes
+vowel_numbered-bytes n = omega (arith, vowel_numbered-length n, small-length (vowel_numbered n) (vowel_numbered-every small n vowels-small))
 
 -- the room of a stand-in, as a number
-pub standInRoom-is : standInRoom ≡ 18
-unfolding standInRoom mostVowelBytes
-standInRoom-is = refl
+pub stand_in_room-is : stand_in_room ≡ 18
+unfolding stand_in_room most_vowel_bytes
+stand_in_room-is = refl
 
 -- a stand-in fits its room
-pub standIn-length : (s : Summary) → length (standIn s) ≤ standInRoom
-unfolding standIn standInRoom mostVowelBytes vowels text
-standIn-length s =
+pub stand_in_of-length : (s : Summary) → length (stand_in_of s) ≤ stand_in_room
+unfolding stand_in_of stand_in_room most_vowel_bytes vowels text
+stand_in_of-length s =
     let l : List ℕ = counted vowels s.counts in
-    let n : List ℕ = vowelNumbered s.last in
+    let n : List ℕ = vowel_numbered s.last in
     omega (
       arith,
       small-length (l ++ n) (letters-every small s.counts s.last vowels-small),
       length-append l n,
       counted-length vowels s.counts,
-      vowelNumbered-length s.last,
+      vowel_numbered-length s.last,
     )
 
 -- ---- it is alike ----
 
 -- the characters of a stand-in, nearest first
-standIn-chars : (s : Summary) → chars (standIn s) ≡ reverse (counted vowels s.counts ++ vowelNumbered s.last)
-unfolding chars standIn
-standIn-chars s = rw append-nil at (before_text (counted vowels s.counts ++ vowelNumbered s.last) [] (letters-scalars s))
+stand_in_of-chars : (s : Summary) → chars (stand_in_of s) ≡ reverse (counted vowels s.counts ++ vowel_numbered s.last)
+unfolding chars stand_in_of
+stand_in_of-chars s = rw append-nil at (before_text (counted vowels s.counts ++ vowel_numbered s.last) [] (letters-scalars s))
 
 -- the vowel of a vowel's number is that vowel
-vowelNumbered-vowel : (v : ℕ) → vowel v ≡ true → vowelNumbered (vowelNumber v) ≡ v ∷ []
+vowel_numbered-vowel : (v : ℕ) → vowel v ≡ true → vowel_numbered (vowel_number v) ≡ v ∷ []
 unfolding vowel
-vowelNumbered-vowel v h =
-    let f : ℕ → Bool = λ w. same (vowelNumbered (vowelNumber w)) (w ∷ []) in
-    let e : every f vowels ≡ true = unfold every vowels vowel text vowelNumbered vowelNumber toFirst has any same in refl in
-    same-equal (vowelNumbered (vowelNumber v)) (v ∷ []) (every-at f e (has-member vowels v h))
+vowel_numbered-vowel v h =
+    let f : ℕ → Bool = λ w. same (vowel_numbered (vowel_number w)) (w ∷ []) in
+    let e : every f vowels ≡ true = unfold every vowels vowel text vowel_numbered vowel_number to_first has any same in refl in
+    same-equal (vowel_numbered (vowel_number v)) (v ∷ []) (every-at f e (has-member vowels v h))
 
 -- one vowel more, which is counted where it stands among the characters
 has-one-more : (w v : ℕ) (r cs : List ℕ) (q : Bool) → has r w ≡ (q && has cs w)
@@ -165,61 +165,61 @@ has-counted (v ∷ vs) cs w =
 module _ (cs : List ℕ) where
   -- the vowels counted before the last one
   earlier : List ℕ
-  earlier = counted vowels (map (λ (v : ℕ). times v (beforeLastVowel cs)) vowels)
+  earlier = counted vowels (map (λ (v : ℕ). times v (before_last_vowel cs)) vowels)
 
   -- where they have a last vowel, the stand-in ends with it
-  chars-last : vowel (lastVowel cs) ≡ true → chars (standIn (summaryOf cs)) ≡ lastVowel cs ∷ reverse earlier
-  unfolding summaryOf earlier
-  chars-last h = standIn-chars (summaryOf cs) ∙ rw (vowelNumbered-vowel (lastVowel cs) h, reverse-append)
+  chars-last : vowel (last_vowel_of cs) ≡ true → chars (stand_in_of (summary_from cs)) ≡ last_vowel_of cs ∷ reverse earlier
+  unfolding summary_from earlier
+  chars-last h = stand_in_of-chars (summary_from cs) ∙ rw (vowel_numbered-vowel (last_vowel_of cs) h, reverse-append)
 
   -- and before it stand those that stand before it there
-  alike-last : vowel (lastVowel cs) ≡ true → Alike (chars (standIn (summaryOf cs))) cs
+  alike-last : vowel (last_vowel_of cs) ≡ true → Alike (chars (stand_in_of (summary_from cs))) cs
   unfolding has vowel earlier
   alike-last h =
       rw (chars-last h)
       (record {
-        last = unfold lastVowel in rw h;
-        others = λ v p. unfold beforeLastVowel in rw (h, any-reverse) (has-counted vowels (beforeLastVowel cs) v ∙ rw p);
+        last = unfold last_vowel_of in rw h;
+        others = λ v p. unfold before_last_vowel in rw (h, any-reverse) (has-counted vowels (before_last_vowel cs) v ∙ rw p);
       })
 
   -- where they have no vowel, it is empty
-  chars-none : (lastVowel cs ≡ 0) × (beforeLastVowel cs ≡ []) → chars (standIn (summaryOf cs)) ≡ []
-  unfolding summaryOf vowelNumber times vowels vowel text has any counted vowelNumbered
-  chars-none h = standIn-chars (summaryOf cs) ∙ rw (h.0, h.1)
+  chars-none : (last_vowel_of cs ≡ 0) × (before_last_vowel cs ≡ []) → chars (stand_in_of (summary_from cs)) ≡ []
+  unfolding summary_from vowel_number times vowels vowel text has any counted vowel_numbered
+  chars-none h = stand_in_of-chars (summary_from cs) ∙ rw (h.0, h.1)
 
   -- and so alike
-  alike-none : (lastVowel cs ≡ 0) × (beforeLastVowel cs ≡ []) → Alike (chars (standIn (summaryOf cs))) cs
-  unfolding lastVowel beforeLastVowel
+  alike-none : (last_vowel_of cs ≡ 0) × (before_last_vowel cs ≡ []) → Alike (chars (stand_in_of (summary_from cs))) cs
+  unfolding last_vowel_of before_last_vowel
   alike-none h = rw (chars-none h) (record { last = sym h.0; others = λ v p. ap (λ (l : List ℕ). has l v) (sym h.1) })
 
 -- the stand-in made of the summary of some characters is alike to them
-pub standIn-alike : (cs : List ℕ) → Alike (chars (standIn (summaryOf cs))) cs
-standIn-alike cs = ⊎_elim (alike-last cs) (alike-none cs) (last-or-none cs)
+pub stand_in_of-alike : (cs : List ℕ) → Alike (chars (stand_in_of (summary_from cs))) cs
+stand_in_of-alike cs = ⊎_elim (alike-last cs) (alike-none cs) (last-or-none cs)
 
 -- ---- it is written vowel by vowel ----
 
 module _ (n : ℕ) where
   -- a number without a vowel writes nothing
-  pub numbered-none : (at : ℕ) (out : List ℕ) → soundNumbered n ≡ NoVowel
-      → (at ≡ at + length (encodeAll (vowelNumbered n))) × (out ≡ put at (encodeAll (vowelNumbered n)) out)
-  unfolding encodeAll
-  numbered-none at out e = rw (soundNumbered-noVowel n e) (omega arith, put-nothing at out)
+  pub numbered-none : (at : ℕ) (out : List ℕ) → sound_numbered n ≡ NoVowel
+      → (at ≡ at + length (encode_all (vowel_numbered n))) × (out ≡ put at (encode_all (vowel_numbered n)) out)
+  unfolding encode_all
+  numbered-none at out e = rw (sound_numbered-no_vowel n e) (omega arith, put-nothing at out)
 
-  module _ (v : Vowel) (e : soundNumbered n ≡ AVowel v) {r : Encoded} (q : r ≡ encodedOf v.ch) where
+  module _ (v : Vowel) (e : sound_numbered n ≡ AVowel v) {r : Encoded} (q : r ≡ encoded_of v.ch) where
     -- any other writes its vowel's bytes
-    pub numbered-written : take r.n r.bytes ≡ encodeAll (vowelNumbered n)
-    unfolding encodeAll
-    numbered-written = rw (soundNumbered-aVowel n v e, append-nil) (encodedOf-bytes v.ch q)
+    pub numbered-written : take r.n r.bytes ≡ encode_all (vowel_numbered n)
+    unfolding encode_all
+    numbered-written = rw (sound_numbered-a_vowel n v e, append-nil) (encoded_of-bytes v.ch q)
 
     -- which fit where the most of a vowel do
-    pub numbered-fit : r.n ≤ mostVowelBytes
+    pub numbered-fit : r.n ≤ most_vowel_bytes
     numbered-fit =
         let size = ap length numbered-written in
-        omega (arith, length-take-le r.n r.bytes (encodedOf-fits v.ch q), vowelNumbered-bytes n)
+        omega (arith, length-take-le r.n r.bytes (encoded_of-fits v.ch q), vowel_numbered-bytes n)
 
 -- the bytes of the counted among the first k vowels
 unfoldable pub so_far : List ℕ → ℕ → List ℕ
-so_far ns k = encodeAll (counted (take k vowels) ns)
+so_far ns k = encode_all (counted (take k vowels) ns)
 
 -- what follows either side of a choice follows the choice
 cond-append : (b : Bool) (xs ys zs : List ℕ) → cond b (xs ++ zs) (ys ++ zs) ≡ cond b xs ys ++ zs
@@ -240,8 +240,8 @@ counted_next (suc k) (v ∷ vs) (n ∷ ns) =
     (cond-append (eqb n 0) (counted (take k vs) ns) (v ∷ counted (take k vs) ns) (cond (eqb (get_or ns k 0) 0) [] (take 1 (drop k vs))))
 
 -- room for the vowels from the k-th on and for the last one
-unfoldable pub roomFrom : ℕ → ℕ
-roomFrom k = mostVowelBytes * (9 - k)
+unfoldable pub room_from : ℕ → ℕ
+room_from k = most_vowel_bytes * (9 - k)
 
 -- where there is room there is less room
 less-room : {at a : ℕ} {s out o : List ℕ} (j : ℕ) {k : ℕ} → j ≤ k → Wrote at a s out o k → Wrote at a s out o j
@@ -249,38 +249,38 @@ less-room j h w = record { place = w.place; output = w.output; room = omega (ari
 
 module _ (ns : List ℕ) (k : ℕ) where
   -- a vowel that is counted is written behind those before it
-  soFar-counted : (get_or ns k 0 ≡ 0 → ⊥) → so_far ns k ++ encodeAll (vowelNumbered (k + 1)) ≡ so_far ns (k + 1)
-  unfolding so_far vowelNumbered
-  soFar-counted h = rw (add-one, counted_next k vowels ns, ne_eqb (get_or ns k 0) 0 h, encodeAll-append)
+  so_far-counted : (get_or ns k 0 ≡ 0 → ⊥) → so_far ns k ++ encode_all (vowel_numbered (k + 1)) ≡ so_far ns (k + 1)
+  unfolding so_far vowel_numbered
+  so_far-counted h = rw (add-one, counted_next k vowels ns, ne_eqb (get_or ns k 0) 0 h, encode_all-append)
 
   -- one that is not leaves them
-  soFar-skipped : get_or ns k 0 ≡ 0 → so_far ns k ≡ so_far ns (k + 1)
+  so_far-skipped : get_or ns k 0 ≡ 0 → so_far ns k ≡ so_far ns (k + 1)
   unfolding so_far
-  soFar-skipped h = rw (add-one, counted_next k vowels ns, eq-eqb (get_or ns k 0) 0 h, append-nil)
+  so_far-skipped h = rw (add-one, counted_next k vowels ns, eq-eqb (get_or ns k 0) 0 h, append-nil)
 
-  module _ {a : ℕ} {out o : List ℕ} (w : Wrote 0 a (so_far ns k) out o (roomFrom k)) (l : k < 8) where
+  module _ {a : ℕ} {out o : List ℕ} (w : Wrote 0 a (so_far ns k) out o (room_from k)) (l : k < 8) where
     -- a turn that writes
     pub turn-counted : {b : ℕ} {p : List ℕ} → (get_or ns k 0 ≡ 0 → ⊥)
-        → (b ≡ a + length (encodeAll (vowelNumbered (k + 1)))) × (p ≡ put a (encodeAll (vowelNumbered (k + 1))) o)
-        → Wrote 0 b (so_far ns (k + 1)) out p (roomFrom (k + 1))
-    unfolding roomFrom mostVowelBytes
+        → (b ≡ a + length (encode_all (vowel_numbered (k + 1)))) × (p ≡ put a (encode_all (vowel_numbered (k + 1))) o)
+        → Wrote 0 b (so_far ns (k + 1)) out p (room_from (k + 1))
+    unfolding room_from most_vowel_bytes
     turn-counted h e =
-        let n : ℕ = length (encodeAll (vowelNumbered (k + 1))) in
-        let r = less-room (n + roomFrom (k + 1)) (omega (arith, vowelNumbered-bytes (k + 1))) w in
-        rw (← soFar-counted h) (wrote-text (encodeAll (vowelNumbered (k + 1))) n refl r e)
+        let n : ℕ = length (encode_all (vowel_numbered (k + 1))) in
+        let r = less-room (n + room_from (k + 1)) (omega (arith, vowel_numbered-bytes (k + 1))) w in
+        rw (← so_far-counted h) (wrote-text (encode_all (vowel_numbered (k + 1))) n refl r e)
 
     -- a turn that does not
-    pub turn-skipped : get_or ns k 0 ≡ 0 → Wrote 0 a (so_far ns (k + 1)) out o (roomFrom (k + 1))
-    unfolding roomFrom mostVowelBytes
-    turn-skipped h = rw (← soFar-skipped h) (less-room (roomFrom (k + 1)) (omega arith) w)
+    pub turn-skipped : get_or ns k 0 ≡ 0 → Wrote 0 a (so_far ns (k + 1)) out o (room_from (k + 1))
+    unfolding room_from most_vowel_bytes
+    turn-skipped h = rw (← so_far-skipped h) (less-room (room_from (k + 1)) (omega arith) w)
 
 -- and behind all that are counted the last one
-pub written_last : (s : Summary) {a b : ℕ} {out o p : List ℕ} → Wrote 0 a (so_far s.counts 8) out o (roomFrom 8)
-    → (b ≡ a + length (encodeAll (vowelNumbered s.last))) × (p ≡ put a (encodeAll (vowelNumbered s.last)) o)
-    → (b ≡ length (standIn s)) × (p ≡ put 0 (standIn s) out)
-unfolding standIn so_far roomFrom mostVowelBytes vowels text
+pub written_last : (s : Summary) {a b : ℕ} {out o p : List ℕ} → Wrote 0 a (so_far s.counts 8) out o (room_from 8)
+    → (b ≡ a + length (encode_all (vowel_numbered s.last))) × (p ≡ put a (encode_all (vowel_numbered s.last)) o)
+    → (b ≡ length (stand_in_of s)) × (p ≡ put 0 (stand_in_of s) out)
+unfolding stand_in_of so_far room_from most_vowel_bytes vowels text
 written_last s w e =
-    let t : List ℕ = encodeAll (vowelNumbered s.last) in
-    let r = less-room (length t + 0) (omega (arith, vowelNumbered-bytes s.last)) w in
-    let all = wrote-all (sym (encodeAll-append (counted vowels s.counts) (vowelNumbered s.last))) (wrote-text t (length t) refl r e) in
+    let t : List ℕ = encode_all (vowel_numbered s.last) in
+    let r = less-room (length t + 0) (omega (arith, vowel_numbered-bytes s.last)) w in
+    let all = wrote-all (sym (encode_all-append (counted vowels s.counts) (vowel_numbered s.last))) (wrote-text t (length t) refl r e) in
     (omega (arith, all.0), all.1)

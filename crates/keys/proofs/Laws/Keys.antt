@@ -8,18 +8,18 @@ use lib.ListN.{length, drop, get_or, length-drop}
 use lib.Seq.{drop-cons, drop-drop}
 use lib.Dec.{leb, eqb}
 use borrow.Author.Tests.{leb-true, le-leb, lt-leb, eq-eqb, ne_eqb}
-use Rattle.keys.specs.Keys.{upToZero, row, rowsWithin, rows}
+use Rattle.keys.specs.Keys.{up_to_zero, row, rows_within, rows}
 
 -- ---- a key ----
 
 -- a key of no letters is nothing
 pub row_zero : (m : ℕ) (flat : List ℕ) → m ≡ 0 → row m flat ≡ []
-unfolding row upToZero
+unfolding row up_to_zero
 row_zero m flat e = rw e
 
 -- a key's first letter, unless it is the 0 that ends it, and the rest of the key
 row_cons : (n c : ℕ) (cs : List ℕ) → row (suc n) (c ∷ cs) ≡ cond (eqb c 0) [] (c ∷ row n cs)
-unfolding row upToZero
+unfolding row up_to_zero
 row_cons n c cs = refl
 
 module _ (keys : List ℕ) (j m : ℕ) (room : 0 < m) (inside : j < length keys) where
@@ -41,34 +41,34 @@ module _ (keys : List ℕ) (j m : ℕ) (room : 0 < m) (inside : j < length keys)
 -- ---- the keys ----
 
 -- fuel that is enough: more of it changes nothing
-rowsWithin-enough : (f g width : ℕ) (flat : List ℕ) → 0 < width → length flat ≤ f → length flat ≤ g → rowsWithin f width flat ≡ rowsWithin g width flat
-unfolding rowsWithin
-rowsWithin-enough zero zero width flat p h k = refl
-rowsWithin-enough zero (suc g) width flat p h k = rw (lt-leb width (length flat) (omega arith))
-rowsWithin-enough (suc f) zero width flat p h k = rw (lt-leb width (length flat) (omega arith))
-rowsWithin-enough (suc f) (suc g) width flat p h k =
+rows_within-enough : (f g width : ℕ) (flat : List ℕ) → 0 < width → length flat ≤ f → length flat ≤ g → rows_within f width flat ≡ rows_within g width flat
+unfolding rows_within
+rows_within-enough zero zero width flat p h k = refl
+rows_within-enough zero (suc g) width flat p h k = rw (lt-leb width (length flat) (omega arith))
+rows_within-enough (suc f) zero width flat p h k = rw (lt-leb width (length flat) (omega arith))
+rows_within-enough (suc f) (suc g) width flat p h k =
     (elim (leb width (length flat)) as
-    (λ b. (b ≡ true → rowsWithin f width (drop width flat) ≡ rowsWithin g width (drop width flat))
-    → cond b (row width flat ∷ rowsWithin f width (drop width flat)) [] ≡ cond b (row width flat ∷ rowsWithin g width (drop width flat)) [])
+    (λ b. (b ≡ true → rows_within f width (drop width flat) ≡ rows_within g width (drop width flat))
+    → cond b (row width flat ∷ rows_within f width (drop width flat)) [] ≡ cond b (row width flat ∷ rows_within g width (drop width flat)) [])
     [ true ↦ λ r. ap (λ (ks : List (List ℕ)). row width flat ∷ ks) (r refl) | false ↦ λ r. refl ])
     (λ e.
     let l : width ≤ length flat = leb-true width (length flat) e in
     let m : length (drop width flat) ≡ length flat - width = length-drop width flat in
-    rowsWithin-enough f g width (drop width flat) p (omega arith) (omega arith))
+    rows_within-enough f g width (drop width flat) p (omega arith) (omega arith))
 
 -- a table with room for a key is that key and the keys of the rest
 rows-cons : (width : ℕ) (flat : List ℕ) → 0 < width → width ≤ length flat → rows width flat ≡ row width flat ∷ rows width (drop width flat)
-unfolding rows rowsWithin
+unfolding rows rows_within
 rows-cons width [] p h = absurd (omega arith)
 rows-cons width (c ∷ cs) p h =
     let m : length (drop width (c ∷ cs)) ≡ length (c ∷ cs) - width = length-drop width (c ∷ cs) in
     rw (le-leb width (length (c ∷ cs)) h)
     (ap (λ (ks : List (List ℕ)). row width (c ∷ cs) ∷ ks)
-    (rowsWithin-enough (length cs) (length (drop width (c ∷ cs))) width (drop width (c ∷ cs)) p (omega arith) (omega arith)))
+    (rows_within-enough (length cs) (length (drop width (c ∷ cs))) width (drop width (c ∷ cs)) p (omega arith) (omega arith)))
 
 -- a table with no room for a key has none
 pub rows-nil : (width : ℕ) (flat : List ℕ) → length flat < width → rows width flat ≡ []
-unfolding rows rowsWithin
+unfolding rows rows_within
 rows-nil width [] h = refl
 rows-nil width (c ∷ cs) h = rw (lt-leb width (length (c ∷ cs)) h)
 

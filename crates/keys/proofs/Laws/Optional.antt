@@ -10,16 +10,16 @@ use lib.Dec.{eqb}
 use Rattle.utf8.specs.declared.cursor.Cursor.{Cursor}
 use Rattle.utf8.specs.declared.characters.Read.{Read}
 use Rattle.utf8.specs.Characters.{before}
-use Rattle.utf8.specs.Behind.{readBack, behind, Open}
+use Rattle.utf8.specs.Behind.{read_back_of, behind, Open}
 use Rattle.utf8.proofs.Laws.Characters.{before-zero, before-step, before_back}
-use Rattle.utf8.proofs.Laws.Behind.{backBy-zero}
+use Rattle.utf8.proofs.Laws.Behind.{back_by-zero}
 use Rattle.turkish.specs.Letters.{text, any, has}
 use Rattle.turkish.specs.Source.{U}
 use Rattle.turkish.specs.Vowels.{vowels, vowel}
 use Rattle.theorems.specs.Simple.Grammar.{fail, took, optional}
-use Rattle.keys.specs.Ends.{isU}
-use Rattle.keys.specs.Passed.{passedTo, notPassed, passes}
-use Rattle.utf8.proofs.Laws.Part.{partFrom}
+use Rattle.keys.specs.Ends.{is_U_of}
+use Rattle.keys.specs.Passed.{passed_to, not_passed_of, passes}
+use Rattle.utf8.proofs.Laws.Part.{part_from}
 use Rattle.keys.proofs.Laws.Reads.{low, at, first-ch, first-at, first-place, second-ch}
 
 -- ---- the letters ----
@@ -39,8 +39,8 @@ four false false true ü = refl
 four false false false ü = sym (or-false ü)
 
 -- the letters of U
-pub has-U : (c : ℕ) → isU c ≡ has (text U) c
-unfolding isU has any text
+pub has-U : (c : ℕ) → is_U_of c ≡ has (text U) c
+unfolding is_U_of has any text
 has-U c = four (eqb c 0x69) (eqb c 0x75) (eqb c 0x131) (eqb c 0xFC)
 
 -- ---- by the characters ----
@@ -69,11 +69,11 @@ module _ (letters : List ℕ) (vowelled : Bool) where
   optional-right (c ∷ d ∷ cs) n e = rw e
 
 -- one letter behind a vowel
-pub optional-getD : (l : ℕ) (cs : List ℕ) → optional (l ∷ []) true cs ≡ cond (vowel (get_or cs 1 0)) (took (cond (eqb (get_or cs 0 0) l) 1 0) true) fail
+pub optional-get_or : (l : ℕ) (cs : List ℕ) → optional (l ∷ []) true cs ≡ cond (vowel (get_or cs 1 0)) (took (cond (eqb (get_or cs 0 0) l) 1 0) true) fail
 unfolding optional vowel vowels has any text
-optional-getD l [] = refl
-optional-getD l (c ∷ []) = refl
-optional-getD l (c ∷ v ∷ cs) = rw (or-false (eqb c l))
+optional-get_or l [] = refl
+optional-get_or l (c ∷ []) = refl
+optional-get_or l (c ∷ v ∷ cs) = rw (or-false (eqb c l))
 
 -- 0 is no vowel, so a second character that is one is there
 vowel-there : (cs : List ℕ) → vowel (get_or cs 1 0) ≡ true → drop 1 cs ≡ [] → ⊥
@@ -84,7 +84,7 @@ vowel-there (c ∷ d ∷ cs) v e = let z : ◌≡◌ {A = ℕ} 0 1 = cc in omega
 
 -- ---- as the code reads the two characters ----
 
-module _ (w : List ℕ) (c : Cursor) {a : Read} (a-is : a ≡ readBack (partFrom w (low w c)) (at w c)) where
+module _ (w : List ℕ) (c : Cursor) {a : Read} (a-is : a ≡ read_back_of (part_from w (low w c)) (at w c)) where
   -- before the first stands all but that
   before-first : before (drop (low w c) w) a.at ≡ drop 1 (behind w c)
   unfolding behind
@@ -102,18 +102,18 @@ module _ (w : List ℕ) (c : Cursor) {a : Read} (a-is : a ≡ readBack (partFrom
       let z : ◌≡◌ {A = ℕ} 0 1 = cc in omega arith
 
   -- with nothing before the first character an optional letter fails
-  pub passes-short : (letters : List ℕ) (vowelled : Bool) → a.at ≡ 0 → notPassed ≡ passes w c (optional letters vowelled (behind w c))
+  pub passes-short : (letters : List ℕ) (vowelled : Bool) → a.at ≡ 0 → not_passed_of ≡ passes w c (optional letters vowelled (behind w c))
   unfolding passes
   passes-short letters vowelled e = sym (ap (passes w c) (optional-short letters vowelled (behind w c) (first_alone e)))
 
-  module _ {b : Read} (b-is : b ≡ readBack (partFrom w (low w c)) a.at) where
+  module _ {b : Read} (b-is : b ≡ read_back_of (part_from w (low w c)) a.at) where
     -- a second character that is a vowel is there
     pub second-vowel : vowel b.ch ≡ true → drop 1 (behind w c) ≡ [] → ⊥
     second-vowel v = vowel-there (behind w c) (ap vowel (sym (second-ch w c a-is b-is)) ∙ v)
 
     module _ (letters : List ℕ) (vowelled : Bool) where
       -- with a second of the wrong kind it fails
-      pub passes-wrong : cond vowelled (vowel b.ch) (not (vowel b.ch)) ≡ false → notPassed ≡ passes w c (optional letters vowelled (behind w c))
+      pub passes-wrong : cond vowelled (vowel b.ch) (not (vowel b.ch)) ≡ false → not_passed_of ≡ passes w c (optional letters vowelled (behind w c))
       unfolding passes
       passes-wrong e = sym (ap (passes w c) (optional-wrong letters vowelled (behind w c) (rw (second-ch w c a-is b-is) at e)))
 
@@ -123,17 +123,17 @@ module _ (w : List ℕ) (c : Cursor) {a : Read} (a-is : a ≡ readBack (partFrom
         takes = optional-right letters vowelled (behind w c) there (rw (second-ch w c a-is b-is) at right)
 
         -- the letter joins
-        pub passes-joined : has letters a.ch ≡ true → passedTo (low w c + a.at) ≡ passes w c (optional letters vowelled (behind w c))
+        pub passes-joined : has letters a.ch ≡ true → passed_to (low w c + a.at) ≡ passes w c (optional letters vowelled (behind w c))
         unfolding passes
         passes-joined s =
             let stands = rw (first-ch w c a-is) at s in
             let one : took (cond (has letters (get_or (behind w c) 0 0)) 1 0) true ≡ took 1 true = rw stands in
-            ap passedTo (first-place w c a-is) ∙ sym (ap (passes w c) (takes ∙ one))
+            ap passed_to (first-place w c a-is) ∙ sym (ap (passes w c) (takes ∙ one))
 
         -- and without it the record stays
-        pub passes-free : Open w c → has letters a.ch ≡ false → passedTo c.cursor ≡ passes w c (optional letters vowelled (behind w c))
+        pub passes-free : Open w c → has letters a.ch ≡ false → passed_to c.cursor ≡ passes w c (optional letters vowelled (behind w c))
         unfolding passes
         passes-free o n =
             let stands-not = rw (first-ch w c a-is) at n in
             let none : took (cond (has letters (get_or (behind w c) 0 0)) 1 0) true ≡ took 0 true = rw stands-not in
-            ap (λ (r : Cursor). passedTo r.cursor) (sym (backBy-zero w c o)) ∙ sym (ap (passes w c) (takes ∙ none))
+            ap (λ (r : Cursor). passed_to r.cursor) (sym (back_by-zero w c o)) ∙ sym (ap (passes w c) (takes ∙ none))

@@ -8,7 +8,7 @@ use lib.ListN.{length, take, get_or, set, length-map}
 use lib.Seq.{length-take-le, sets-eq}
 use Rattle.turkish.specs.declared.endings.Piece.{Piece}
 use Rattle.turkish.specs.Calls.{written}
-use Rattle.turkish.specs.PieceCalls.{Span, told, kindNumber, buffer}
+use Rattle.turkish.specs.PieceCalls.{Span, told, kind_number, buffer}
 use Rattle.writing.specs.Put.{put}
 use Rattle.kinds.proofs.Laws.Written.{put_written, told-next}
 
@@ -38,12 +38,12 @@ module _ (kept : ℕ) (ps : List Piece) (i : ℕ) (d : Piece) (h : i < length ps
 
   -- one more piece adds its kind and the distances of its first and last byte
   buffer-next : buffer kept (map told (take (i + 1) ps))
-      ≡ buffer kept (map told (take i ps)) ++ (kindNumber (get_or ps i d).kind ∷ ((get_or ps i d).first - kept) ∷ ((get_or ps i d).last - kept) ∷ [])
+      ≡ buffer kept (map told (take i ps)) ++ (kind_number (get_or ps i d).kind ∷ ((get_or ps i d).first - kept) ∷ ((get_or ps i d).last - kept) ∷ [])
   unfolding buffer told
   buffer-next = rw (told-next ps i d h) (buffer-append kept (map told (take i ps)) (told (get_or ps i d) ∷ []))
 
   -- so stored behind the others it is written with them
-  pub set-entry : (k : ℕ) (out o : List ℕ) → k ≡ kindNumber (get_or ps i d).kind → 3 * i + 3 ≤ length o → o ≡ written (buffer kept (map told (take i ps))) out
+  pub set-entry : (k : ℕ) (out o : List ℕ) → k ≡ kind_number (get_or ps i d).kind → 3 * i + 3 ≤ length o → o ≡ written (buffer kept (map told (take i ps))) out
       → set (set (set o (3 * i) k) (3 * i + 1) ((get_or ps i d).first - kept)) (3 * i + 2) ((get_or ps i d).last - kept)
       ≡ written (buffer kept (map told (take (i + 1) ps))) out
   set-entry k out o e r w =

@@ -11,9 +11,9 @@ use borrow.Author.Tests.{eqb-true, eqb-false}
 use Rattle.encoding.proofs.Laws.Booleans.{cond_cases}
 use Rattle.turkish.specs.declared.endings.Kind.{Kind}
 use Rattle.turkish.specs.Letters.{text}
-use Rattle.turkish.specs.Pieces.{kindName}
+use Rattle.turkish.specs.Pieces.{kind_name}
 use Rattle.turkish.specs.Calls.{written}
-use Rattle.turkish.specs.PieceCalls.{kindNumber}
+use Rattle.turkish.specs.PieceCalls.{kind_number}
 use Rattle.kinds.specs.declared.kind.Name.{Name}
 use Rattle.kinds.specs.Kinds.{kind_at, name_of}
 
@@ -22,10 +22,10 @@ pub from-here : {A : Type 0} (P : A → Type 0) (n k : ℕ) {x y : A} → k ≤ 
 from-here P n k h f g = cond_cases P (eqb n k) (λ e. f (eqb-true n k e)) (λ e. g (let d = eqb-false n k e in omega arith))
 
 -- the kind of a mark's number has that number
-pub kindNumber-kindAt : (n : ℕ) (y : Bool) → 0 < n → n ≤ 12 → kindNumber (kind_at n y) ≡ n
-unfolding kindNumber kind_at
-kindNumber-kindAt n y l h =
-    let P : Kind → Type 0 = λ k. kindNumber k ≡ n in
+pub kind_number-kind_at : (n : ℕ) (y : Bool) → 0 < n → n ≤ 12 → kind_number (kind_at n y) ≡ n
+unfolding kind_number kind_at
+kind_number-kind_at n y l h =
+    let P : Kind → Type 0 = λ k. kind_number k ≡ n in
     from-here P n 1 l sym (λ l2.
     from-here P n 2 l2 sym (λ l3.
     from-here P n 3 l3 sym (λ l4.
@@ -40,11 +40,11 @@ kindNumber-kindAt n y l h =
 
 module _ (k : Kind) {r : Name} (e : r ≡ name_of k) where
   -- the letters of a kind's name stand before the dots
-  pub nameOf-letters : take r.n r.letters ≡ kindName (kindNumber k)
+  pub name_of-letters : take r.n r.letters ≡ kind_name (kind_number k)
   unfolding name_of written
-  nameOf-letters = rw e (take-append_seam (kindName (kindNumber k)) (drop (length (kindName (kindNumber k))) (text "......")))
+  name_of-letters = rw e (take-append_seam (kind_name (kind_number k)) (drop (length (kind_name (kind_number k))) (text "......")))
 
   -- and there are as many as it has
-  pub nameOf-fits : r.n ≤ length r.letters
+  pub name_of-fits : r.n ≤ length r.letters
   unfolding name_of written
-  nameOf-fits = rw (e, length-append) (omega arith)
+  name_of-fits = rw (e, length-append) (omega arith)

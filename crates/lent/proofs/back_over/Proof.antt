@@ -60,7 +60,7 @@ use denote.Triple.Table.{entered, cited}
 use denote.Triple.Walked.{says, Stays, stay_none, stay_none_slice, walk_of, Goes-none, Goes-none_slice, Walks, ends_at, walked, walk_Meets}
 use denote.Triple.Clauses.{ensured, lasts}
 use denote.Exit.{yes}
-use Rattle.utf8.specs.Steps.{previousChar, eqSB}
+use Rattle.utf8.specs.Steps.{previous_char_of, eq_s_b_of}
 use Rattle.utf8.specs.declared.cursor.Cursor.{Cursor}
 use Rattle.utf8.specs.declared.literal.Literal.{Literal}
 use Rattle.utf8.specs.declared.step.Step.{Step}
@@ -93,10 +93,10 @@ stayed = (
 
 -- what each callee says: of the word and the record that it is passed, its answer and the record that it leaves
 abbrev LiteralSays : List ℕ → List ℕ → Cursor → Bool → Cursor → Type 0
-LiteralSays w s h x k = (x ≡ (eqSB w s h).moved) × (k ≡ (eqSB w s h).next)
+LiteralSays w s h x k = (x ≡ (eq_s_b_of w s h).moved) × (k ≡ (eq_s_b_of w s h).next)
 
 abbrev StepSays : List ℕ → Cursor → Bool → Cursor → Type 0
-StepSays w h x k = (x ≡ (previousChar w h).moved) × (k ≡ (previousChar w h).next)
+StepSays w h x k = (x ≡ (previous_char_of w h).moved) × (k ≡ (previous_char_of w h).next)
 
 -- the answer, that its numbers fit where its records' do, and that it is `over` by what the callees said
 abbrev answer : Bool → Bool → Bool → Cursor → Cursor → Over
@@ -111,13 +111,13 @@ answer-is x z v i k i-is k-is = LL.owes S.the_type S'.the_laws (answer x z v i k
 over-of : (w s y : List ℕ) (r h i k : Cursor) (x z v : Bool) → LiteralSays w s r x h → LiteralSays w y h z i → StepSays w i v k → answer x z v i k ≡ over w s y r
 unfolding over
 over-of w s y r h i k x z v e e₁ e₂ j =
-    let at : i ≡ (eqSB w y (eqSB w s r).next).next = e₁.1 ∙ ap (λ (c : Cursor). (eqSB w y c).next) e.1 in
+    let at : i ≡ (eq_s_b_of w y (eq_s_b_of w s r).next).next = e₁.1 ∙ ap (λ (c : Cursor). (eq_s_b_of w y c).next) e.1 in
     record {
       literal = e.0 j;
-      joined = (e₁.0 ∙ ap (λ (c : Cursor). (eqSB w y c).moved) e.1) j;
-      character = (e₂.0 ∙ ap (λ (c : Cursor). (previousChar w c).moved) at) j;
+      joined = (e₁.0 ∙ ap (λ (c : Cursor). (eq_s_b_of w y c).moved) e.1) j;
+      character = (e₂.0 ∙ ap (λ (c : Cursor). (previous_char_of w c).moved) at) j;
       here = at j;
-      next = (e₂.1 ∙ ap (λ (c : Cursor). (previousChar w c).next) at) j;
+      next = (e₂.1 ∙ ap (λ (c : Cursor). (previous_char_of w c).next) at) j;
     }
 
 module _ {M : Type 1} {𝓤 : Ura M} (𝓛 : Logic 𝓤) (mem : Memory → SProp 𝓤) (run : Routine → Fun 𝓤) where
@@ -165,7 +165,7 @@ module _ {M : Type 1} {𝓤 : Ura M} (𝓛 : Logic 𝓤) (mem : Memory → SProp
     literal-left : (ν : ℕ) (γ : GName) (u : Val) → ent 𝓤 ((LiteralBack 𝓛 mem run).post (to-literal ν γ) u) (mean 𝓛 (later (Left T.the_type ν γ LiteralGiven (LiteralSays w.now s.now h) u)))
     literal-left ν γ u =
         let Tokens : Item 𝓤 = ‵ (flft κ q) ⊛ ‵ (flft κ₁ q₁) ⊛ ‵ (flft (ν ∷ []) full_share) ⊛ ‵ ftrue in
-        let found : Literal = eqSB w.now s.now h in
+        let found : Literal = eq_s_b_of w.now s.now h in
         let Ensured : Bool → SProp 𝓤 = λ x. ensured 𝓛 literal.ended (literal.clauses 𝓛 mem run) (κ, (κ₁, (ν ∷ [], tt))) (w, (s, (to-local b γ h, tt))) tt x in
         qed 𝓛 (raw ((LiteralBack 𝓛 mem run).post (to-literal ν γ) u) ∷ []) ∵ updating ! $
         use1 𝓛 (later (some (λ (x : Bool). (Tokens ⊛ ‵ (bool.own_val x (u ∷ []))) ⊛ raw (Ensured x)))) (id⊢ 𝓤 _) $ await ! tt $ pick ! (λ x. split ! $ move ! (1 ∷ []) $
@@ -211,7 +211,7 @@ module _ {M : Type 1} {𝓤 : Ura M} (𝓛 : Logic 𝓤) (mem : Memory → SProp
   step_left : (ν : ℕ) (γ : GName) (u : Val) → ent 𝓤 ((StepBack 𝓛 mem run).post (to_step ν γ) u) (mean 𝓛 (later (Left T.the_type ν γ StepGiven (StepSays w.now h) u)))
   step_left ν γ u =
       let Tokens : Item 𝓤 = ‵ (flft κ q) ⊛ ‵ (flft (ν ∷ []) full_share) ⊛ ‵ ftrue in
-      let found : Step = previousChar w.now h in
+      let found : Step = previous_char_of w.now h in
       let Ensured : Bool → SProp 𝓤 = λ x. ensured 𝓛 step.ended (step.clauses 𝓛 mem run) (κ, (ν ∷ [], tt)) (w, (to-local b γ h, tt)) tt x in
       qed 𝓛 (raw ((StepBack 𝓛 mem run).post (to_step ν γ) u) ∷ []) ∵ updating ! $
       use1 𝓛 (later (some (λ (x : Bool). (Tokens ⊛ ‵ (bool.own_val x (u ∷ []))) ⊛ raw (Ensured x)))) (id⊢ 𝓤 _) $ await ! tt $ pick ! (λ x. split ! $ move ! (1 ∷ []) $

@@ -10,7 +10,7 @@
 --     opened             c's borrow is opened for c's token. It gives the record's cell
 --     _5 = *_3           the whole record is read from the cell, through the pointer in _3
 --     _4 = call          `eq_s_b` is handed the tokens of w and s, a copy of each slice and what the record owns (`goes`). The tokens come
---                        back, with an answer r that is `eqSB` of the word, the literal and the record (`said`), and r's machine value
+--                        back, with an answer r that is `eq_s_b_of` of the word, the literal and the record (`said`), and r's machine value
 --                        lands in _4
 --     *_3 = _4.next      the whole record is stored in the cell
 --     _0 = _4.moved      the answer
@@ -54,7 +54,7 @@ use denote.Triple.Table.{entered, cited}
 use denote.Triple.Walked.{Stays, stay_ref, stay_none_slice, walk_of, Goes-ref, Goes-none_slice, Walks, ends_at, walked, walk_Meets}
 use denote.Triple.Clauses.{ensured, lasts}
 use denote.Exit.{yes}
-use Rattle.utf8.specs.Steps.{eqSB}
+use Rattle.utf8.specs.Steps.{eq_s_b_of}
 use Rattle.utf8.specs.declared.cursor.Cursor.{Cursor}
 use Rattle.utf8.specs.declared.literal.Literal.{Literal}
 use Rattle.utf8.specs.contracts.cursor.Cursor as T
@@ -103,7 +103,7 @@ module _ {M : Type 1} {𝓤 : Ura M} (𝓛 : Logic 𝓤) (mem : Memory → SProp
 
   -- what the step by value answers
   abbrev found : Literal
-  found = eqSB w.now s.now c.now
+  found = eq_s_b_of w.now s.now c.now
 
   abbrev Word : Fml
   Word = Shared κ u8 w

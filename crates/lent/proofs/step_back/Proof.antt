@@ -12,7 +12,7 @@
 --     opened             c's borrow is opened for c's token. It gives the record's cell
 --     _4 = *_2           the whole record is read from the cell, through the pointer in _2
 --     _3 = call          `previous_char` is handed w's token, one copy of w and what the record owns (`goes`). The token comes back, with
---                        a step r that is `previousChar` of the word and the record (`said`), and r's machine value lands in _3
+--                        a step r that is `previous_char_of` of the word and the record (`said`), and r's machine value lands in _3
 --     *_2 = _3.next      the whole record is stored in the cell
 --     _0 = _3.moved      the answer
 --     closed             the borrow is closed at the record stored, and c's token is back
@@ -56,7 +56,7 @@ use denote.Triple.Table.{entered, cited}
 use denote.Triple.Walked.{Stays, stay_ref, stay_none_slice, walk_of, Goes-ref, Goes-none_slice, Walks, ends_at, walked, walk_Meets}
 use denote.Triple.Clauses.{ensured, lasts}
 use denote.Exit.{yes}
-use Rattle.utf8.specs.Steps.{previousChar}
+use Rattle.utf8.specs.Steps.{previous_char_of}
 use Rattle.utf8.specs.declared.cursor.Cursor.{Cursor}
 use Rattle.utf8.specs.declared.step.Step.{Step}
 use Rattle.utf8.specs.contracts.cursor.Cursor as T
@@ -99,7 +99,7 @@ module _ {M : Type 1} {𝓤 : Ura M} (𝓛 : Logic 𝓤) (mem : Memory → SProp
 
   -- what the step by value answers
   abbrev found : Step
-  found = previousChar w.now c.now
+  found = previous_char_of w.now c.now
 
   abbrev Word : Fml
   Word = Shared κ u8 w

@@ -8,35 +8,35 @@ use native.Mathlib.Omega.{arith}
 use lib.ListN.{length}
 use lib.Dec.{eqb, ltb, eqb-suc-zero}
 use borrow.Author.Tests.{eq-eqb, ne_eqb}
-use Rattle.encoding.specs.Validity.{isText}
+use Rattle.encoding.specs.Validity.{is_text}
 use Rattle.turkish.specs.Letters.{tab, has}
 use Rattle.turkish.specs.Calls.{limit, refusal, accepted}
-use Rattle.lines.specs.Line.{lineRefusal, fields, refusedLine, listLine}
+use Rattle.lines.specs.Line.{line_refusal_of, fields, refused_line, list_line}
 
 -- ---- the number, by the tests ----
 
 module _ (w : List ℕ) (n : ℕ) (e : n ≡ refusal w) where
   -- the number that the word has comes first
-  pub lineRefusal-word : (n ≡ 0 → ⊥) → n ≡ lineRefusal w
-  unfolding lineRefusal
-  lineRefusal-word h = rw (← e, ne_eqb n 0 h)
+  pub line_refusal_of-word : (n ≡ 0 → ⊥) → n ≡ line_refusal_of w
+  unfolding line_refusal_of
+  line_refusal_of-word h = rw (← e, ne_eqb n 0 h)
 
   -- then number 4, where a tab stands in it
-  pub lineRefusal-tab : n ≡ 0 → true ≡ has w tab → 4 ≡ lineRefusal w
-  unfolding lineRefusal
-  lineRefusal-tab z t = rw (← e, z, ← t)
+  pub line_refusal_of-tab : n ≡ 0 → true ≡ has w tab → 4 ≡ line_refusal_of w
+  unfolding line_refusal_of
+  line_refusal_of-tab z t = rw (← e, z, ← t)
 
   -- then none
-  pub lineRefusal-none : n ≡ 0 → false ≡ has w tab → 0 ≡ lineRefusal w
-  unfolding lineRefusal
-  lineRefusal-none z t = rw (← e, z, ← t)
+  pub line_refusal_of-none : n ≡ 0 → false ≡ has w tab → 0 ≡ line_refusal_of w
+  unfolding line_refusal_of
+  line_refusal_of-none z t = rw (← e, z, ← t)
 
 -- ---- what the number says ----
 
 -- no number is more than 4
-pub lineRefusal-most : (w : List ℕ) → lineRefusal w ≤ 4
-unfolding lineRefusal refusal
-lineRefusal-most w = go (ltb limit (length w)) (isText w) (has w tab)
+pub line_refusal_of-most : (w : List ℕ) → line_refusal_of w ≤ 4
+unfolding line_refusal_of refusal
+line_refusal_of-most w = go (ltb limit (length w)) (is_text w) (has w tab)
   where
     go : (over valid t : Bool) → cond (eqb (cond over 1 (cond valid 0 2)) 0) (cond t 4 0) (cond over 1 (cond valid 0 2)) ≤ 4
     go true valid t = omega arith
@@ -44,22 +44,22 @@ lineRefusal-most w = go (ltb limit (length w)) (isText w) (has w tab)
     go false true false = omega arith
     go false false t = omega arith
 
-module _ (w : List ℕ) (n : ℕ) (e : n ≡ lineRefusal w) where
+module _ (w : List ℕ) (n : ℕ) (e : n ≡ line_refusal_of w) where
   -- a line with no number is an accepted word
-  pub lineRefusal-accepted : n ≡ 0 → accepted w ≡ true
-  unfolding lineRefusal accepted
-  lineRefusal-accepted z = eq-eqb (refusal w) 0 (go (refusal w) (has w tab) (sym e ∙ z))
+  pub line_refusal_of-accepted : n ≡ 0 → accepted w ≡ true
+  unfolding line_refusal_of accepted
+  line_refusal_of-accepted z = eq-eqb (refusal w) 0 (go (refusal w) (has w tab) (sym e ∙ z))
     where
       go : (m : ℕ) (t : Bool) → cond (eqb m 0) (cond t 4 0) m ≡ 0 → m ≡ 0
       go zero t q = refl
       go (suc m) t q = rw (eqb-suc-zero m) at q
 
   -- and it has its fields
-  pub listLine-fields : n ≡ 0 → fields w ≡ listLine w
-  unfolding listLine
-  listLine-fields z = rw (← e, z)
+  pub list_line-fields : n ≡ 0 → fields w ≡ list_line w
+  unfolding list_line
+  list_line-fields z = rw (← e, z)
 
   -- one with a number has that
-  pub listLine-refused : (n ≡ 0 → ⊥) → refusedLine n ≡ listLine w
-  unfolding listLine
-  listLine-refused h = rw (← e, ne_eqb n 0 h)
+  pub list_line-refused : (n ≡ 0 → ⊥) → refused_line n ≡ list_line w
+  unfolding list_line
+  list_line-refused h = rw (← e, ne_eqb n 0 h)

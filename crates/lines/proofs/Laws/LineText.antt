@@ -7,69 +7,69 @@ use mathlib.Core.List.{List, [], ◌∷◌, ◌++◌, append_assoc, append-nil}
 use native.Mathlib.Omega.{arith}
 use lib.ListN.{length, take, length-append, length-take}
 use Rattle.turkish.specs.Letters.{tab, lf}
-use Rattle.theorems.specs.Simple.Harmony.{moreThanOneSyllable}
-use Rattle.theorems.specs.Simple.Stage.{stage, keptLength}
-use Rattle.turkish.specs.Calls.{chars, limit, accepted, passText, wholeText}
+use Rattle.theorems.specs.Simple.Harmony.{more_than_one_syllable}
+use Rattle.theorems.specs.Simple.Stage.{stage, kept_length}
+use Rattle.turkish.specs.Calls.{chars, limit, accepted, pass_text, whole_text}
 use Rattle.theorems.proofs.Laws.Accepted.{accepted-iff}
-use Rattle.theorems.proofs.Sizes.{passText-size, wholeText-size, stageText-kept}
-use Rattle.theorems.proofs.Source.Syllables.{syllableCheck-simple}
-use Rattle.theorems.proofs.Source.Calls.{suffixStage-yes, suffixStage-flag}
+use Rattle.theorems.proofs.Sizes.{pass_text-size, whole_text-size, stage_text-kept}
+use Rattle.theorems.proofs.Source.Syllables.{syllable_check-simple}
+use Rattle.theorems.proofs.Source.Calls.{suffix_stage-yes, suffix_stage-flag}
 use Rattle.stages.specs.declared.stage.Outcome.{Outcome}
 use Rattle.repairs.specs.declared.postlude.Repair.{Repair}
-use Rattle.stages.specs.Outcome.{outcomeOf}
-use Rattle.repairs.specs.Repairs.{repairText, repairOf}
+use Rattle.stages.specs.Outcome.{outcome_of}
+use Rattle.repairs.specs.Repairs.{repair_text, repair_of}
 use Rattle.stages.proofs.Laws.Kept.{kept-le}
 use Rattle.outputs.specs.declared.run.Run.{Run}
-use Rattle.outputs.specs.Runs.{runText, wholeRunOf}
+use Rattle.outputs.specs.Runs.{run_text, whole_run_of}
 use Rattle.outputs.proofs.Laws.RepairCalls.{pass-short, pass_kept, pass-repaired}
-use Rattle.outputs.proofs.Laws.Runs.{wholeText-short, wholeRunOf-text}
-use Rattle.lines.specs.Line.{yesNo, oneZero, answers, fields, lineRefusal, refusedLine, listLine}
-use Rattle.lines.specs.Room.{lineRoom}
-use Rattle.lines.proofs.Laws.LineRefusals.{lineRefusal-accepted, listLine-fields, listLine-refused}
+use Rattle.outputs.proofs.Laws.Runs.{whole_text-short, whole_run_of-text}
+use Rattle.lines.specs.Line.{yes_no, one_zero, answers, fields, line_refusal_of, refused_line, list_line}
+use Rattle.lines.specs.Room.{line_room}
+use Rattle.lines.proofs.Laws.LineRefusals.{line_refusal_of-accepted, list_line-fields, list_line-refused}
 
 -- ---- the text of a repair ----
 
 module _ (w : List ℕ) (r : Repair) where
   -- where nothing follows, it is the bytes kept
-  pub repair-none : r.more ≡ 0 → take r.keep w ≡ repairText w r
-  unfolding repairText
+  pub repair-none : r.more ≡ 0 → take r.keep w ≡ repair_text w r
+  unfolding repair_text
   repair-none e = rw (e, append-nil)
 
   -- where one byte follows
-  pub repair-one : r.more ≡ 1 → take r.keep w ++ (r.a ∷ []) ≡ repairText w r
-  unfolding repairText
+  pub repair-one : r.more ≡ 1 → take r.keep w ++ (r.a ∷ []) ≡ repair_text w r
+  unfolding repair_text
   repair-one e = rw e
 
   -- where two do
-  pub repair-two : r.more ≡ 2 → (take r.keep w ++ (r.a ∷ [])) ++ (r.b ∷ []) ≡ repairText w r
-  unfolding repairText
+  pub repair-two : r.more ≡ 2 → (take r.keep w ++ (r.a ∷ [])) ++ (r.b ∷ []) ≡ repair_text w r
+  unfolding repair_text
   repair-two e = rw (e, append_assoc)
 
 -- ---- the texts of the pass and of the whole run ----
 
-module _ (w : List ℕ) (ok : accepted w ≡ true) (syllable : Bool) (y : syllable ≡ moreThanOneSyllable (chars w)) where
+module _ (w : List ℕ) (ok : accepted w ≡ true) (syllable : Bool) (y : syllable ≡ more_than_one_syllable (chars w)) where
   -- of a word of one syllable the pass's is the word
-  pub passText-short : syllable ≡ false → w ≡ passText w
-  passText-short n = sym (pass-short w ok (sym y ∙ n))
+  pub pass_text-short : syllable ≡ false → w ≡ pass_text w
+  pass_text-short n = sym (pass-short w ok (sym y ∙ n))
 
-  module _ (s : Outcome) (q : s ≡ outcomeOf w) (yes : syllable ≡ true) where
+  module _ (s : Outcome) (q : s ≡ outcome_of w) (yes : syllable ≡ true) where
     -- of one whose flag is false the text kept
-    pub passText-cut : s.flag ≡ false → take s.kept w ≡ passText w
-    unfolding outcomeOf
-    passText-cut f = rw q (sym (pass_kept w ok (sym y ∙ yes) (sym (ap (λ (x : Outcome). x.flag) q) ∙ f)))
+    pub pass_text-cut : s.flag ≡ false → take s.kept w ≡ pass_text w
+    unfolding outcome_of
+    pass_text-cut f = rw q (sym (pass_kept w ok (sym y ∙ yes) (sym (ap (λ (x : Outcome). x.flag) q) ∙ f)))
 
     -- of any other the repair of that
-    pub passText-repaired : s.flag ≡ true → (r : Repair) → r ≡ repairOf w s.kept → repairText w r ≡ passText w
-    unfolding outcomeOf
-    passText-repaired f r p = rw (p, q) (sym (pass-repaired w ok (sym y ∙ yes) (sym (ap (λ (x : Outcome). x.flag) q) ∙ f)))
+    pub pass_text-repaired : s.flag ≡ true → (r : Repair) → r ≡ repair_of w s.kept → repair_text w r ≡ pass_text w
+    unfolding outcome_of
+    pass_text-repaired f r p = rw (p, q) (sym (pass-repaired w ok (sym y ∙ yes) (sym (ap (λ (x : Outcome). x.flag) q) ∙ f)))
 
   -- the whole run's of a word of one syllable is the word
-  pub wholeText-one : syllable ≡ false → w ≡ wholeText w
-  wholeText-one n = sym (wholeText-short w ok (sym y ∙ n))
+  pub whole_text-one : syllable ≡ false → w ≡ whole_text w
+  whole_text-one n = sym (whole_text-short w ok (sym y ∙ n))
 
   -- of any other that of its run
-  pub wholeText-run : syllable ≡ true → (r : Run) → r ≡ wholeRunOf w → runText w r ≡ wholeText w
-  wholeText-run t = wholeRunOf-text w ok (sym y ∙ t)
+  pub whole_text-run : syllable ≡ true → (r : Run) → r ≡ whole_run_of w → run_text w r ≡ whole_text w
+  whole_text-run t = whole_run_of-text w ok (sym y ∙ t)
 
 -- ---- the fields ----
 
@@ -79,48 +79,48 @@ unfolding answers
 length-answers syllable stages flag = refl
 
 -- and byte by byte they are what the calls gave, between tabs
-pub answers-bytes : (syllable stages flag : Bool) {a b c : ℕ} → a ≡ yesNo syllable → b ≡ yesNo stages → c ≡ oneZero flag
+pub answers-bytes : (syllable stages flag : Bool) {a b c : ℕ} → a ≡ yes_no syllable → b ≡ yes_no stages → c ≡ one_zero flag
     → tab ∷ a ∷ tab ∷ b ∷ tab ∷ c ∷ tab ∷ [] ≡ answers syllable stages flag
 unfolding answers
 answers-bytes syllable stages flag p q r = rw (p, q, r)
 
 -- the fields of an accepted word in the words of the simple forms
 fields-simple : (w : List ℕ) → accepted w ≡ true → fields w
-    ≡ w ++ (answers (moreThanOneSyllable (chars w)) (stage (chars w)).yes (stage (chars w)).flag
-    ++ (take (keptLength w) w ++ (tab ∷ (passText w ++ (tab ∷ (wholeText w ++ (lf ∷ [])))))))
+    ≡ w ++ (answers (more_than_one_syllable (chars w)) (stage (chars w)).yes (stage (chars w)).flag
+    ++ (take (kept_length w) w ++ (tab ∷ (pass_text w ++ (tab ∷ (whole_text w ++ (lf ∷ [])))))))
 unfolding fields
-fields-simple w ok = rw (syllableCheck-simple (chars w), suffixStage-yes (chars w), suffixStage-flag (chars w), stageText-kept w ok)
+fields-simple w ok = rw (syllable_check-simple (chars w), suffix_stage-yes (chars w), suffix_stage-flag (chars w), stage_text-kept w ok)
 
 -- the parts one after the other are the fields
-pub fields-parts : (w : List ℕ) (syllable : Bool) (s : Outcome) → accepted w ≡ true → syllable ≡ moreThanOneSyllable (chars w) → s ≡ outcomeOf w
-    → ((((((w ++ answers syllable s.yes s.flag) ++ take s.kept w) ++ (tab ∷ [])) ++ passText w) ++ (tab ∷ [])) ++ wholeText w) ++ (lf ∷ []) ≡ fields w
-unfolding outcomeOf
+pub fields-parts : (w : List ℕ) (syllable : Bool) (s : Outcome) → accepted w ≡ true → syllable ≡ more_than_one_syllable (chars w) → s ≡ outcome_of w
+    → ((((((w ++ answers syllable s.yes s.flag) ++ take s.kept w) ++ (tab ∷ [])) ++ pass_text w) ++ (tab ∷ [])) ++ whole_text w) ++ (lf ∷ []) ≡ fields w
+unfolding outcome_of
 fields-parts w syllable s ok y q = rw (fields-simple w ok, y, q) (simp append_assoc)
 
 -- an accepted word, the text kept and the texts of the pass and of the whole run are short enough that the fields fit a line's room
-pub fields-sizes : (w : List ℕ) (s : Outcome) → accepted w ≡ true → s ≡ outcomeOf w
-    → (length w ≤ limit) × (s.kept ≤ length w) × (length (passText w) ≤ length w + 2) × (length (wholeText w) ≤ length w + 2)
+pub fields-sizes : (w : List ℕ) (s : Outcome) → accepted w ≡ true → s ≡ outcome_of w
+    → (length w ≤ limit) × (s.kept ≤ length w) × (length (pass_text w) ≤ length w + 2) × (length (whole_text w) ≤ length w + 2)
 unfolding limit
-fields-sizes w s ok q = (((accepted-iff w).0 ok).0, kept-le w s q, passText-size w ok, wholeText-size w ok)
+fields-sizes w s ok q = (((accepted-iff w).0 ok).0, kept-le w s q, pass_text-size w ok, whole_text-size w ok)
 
 -- ---- the whole line ----
 
 -- the fields of an accepted word have room for a line
-fields-size : (w : List ℕ) → accepted w ≡ true → length (fields w) ≤ lineRoom
-unfolding lineRoom outcomeOf
+fields-size : (w : List ℕ) → accepted w ≡ true → length (fields w) ≤ line_room
+unfolding line_room outcome_of
 fields-size w ok =
-    let sizes = fields-sizes w (outcomeOf w) ok refl in
+    let sizes = fields-sizes w (outcome_of w) ok refl in
     rw (fields-simple w ok) (simp (length-append, length-answers, length-take) (omega arith))
 
 -- so have the four bytes of a refused line
-refusedLine-size : (n : ℕ) → length (refusedLine n) ≤ lineRoom
-unfolding refusedLine lineRoom
-refusedLine-size n = omega arith
+refused_line-size : (n : ℕ) → length (refused_line n) ≤ line_room
+unfolding refused_line line_room
+refused_line-size n = omega arith
 
 -- and any line has
-pub listLine-size : (w : List ℕ) → length (listLine w) ≤ lineRoom
-listLine-size w = go (lineRefusal w) refl
+pub list_line-size : (w : List ℕ) → length (list_line w) ≤ line_room
+list_line-size w = go (line_refusal_of w) refl
   where
-    go : (n : ℕ) → n ≡ lineRefusal w → length (listLine w) ≤ lineRoom
-    go zero e = rw (← listLine-fields w zero e refl) (fields-size w (lineRefusal-accepted w zero e refl))
-    go (suc n) e = rw (← listLine-refused w (suc n) e (λ z. omega arith)) (refusedLine-size (suc n))
+    go : (n : ℕ) → n ≡ line_refusal_of w → length (list_line w) ≤ line_room
+    go zero e = rw (← list_line-fields w zero e refl) (fields-size w (line_refusal_of-accepted w zero e refl))
+    go (suc n) e = rw (← list_line-refused w (suc n) e (λ z. omega arith)) (refused_line-size (suc n))

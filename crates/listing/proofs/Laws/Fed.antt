@@ -1,5 +1,5 @@
 -- Feeding byte by byte: the steps as the code takes them, and that what is fed leaves the line and the output from which the listing is
--- made (`fedLine`, `fedOut`). Assumes nothing.
+-- made (`fed_line`, `fed_out`). Assumes nothing.
 use Prim.Native.Nat.{ℕ, ◌+◌, ◌-◌, ◌≤◌, ◌<◌}
 use mathlib.Core.Path.{◌≡◌, refl, sym, ap, ◌∙◌}
 use mathlib.Core.Bool.{Bool, true, false}
@@ -12,56 +12,56 @@ use lib.Dec.{eqb}
 use borrow.Author.Tests.{eq-eqb, ne_eqb, lt-ltb, le-ltb}
 use Rattle.turkish.specs.Letters.{lf}
 use Rattle.writing.specs.Put.{put}
-use Rattle.lines.specs.Line.{listLine}
+use Rattle.lines.specs.Line.{list_line}
 use Rattle.lines.specs.Listed.{listed}
-use Rattle.lines.specs.Room.{lineRoom}
-use Rattle.listing.specs.Feed.{most, fedOut, fedLine}
-use Rattle.listing.specs.Fed.{Fed, standing, endLine, holdByte, feedByte, feedBytes}
-use Rattle.listing.proofs.Blocks.{fedLine-append, fedOut-append}
+use Rattle.lines.specs.Room.{line_room}
+use Rattle.listing.specs.Feed.{most, fed_out, fed_line}
+use Rattle.listing.specs.Fed.{Fed, standing, end_line, hold_byte_of, feed_byte_of, feed_bytes}
+use Rattle.listing.proofs.Blocks.{fed_line-append, fed_out-append}
 use Rattle.encoding.proofs.Laws.Booleans.{lt-or-le}
-use Rattle.listing.proofs.Laws.Held.{lf-or-other, heldNext-le, take-heldNext}
+use Rattle.listing.proofs.Laws.Held.{lf-or-other, held_next-le, take-held_next}
 use Rattle.writing.proofs.Laws.Put.{put-nothing, put-put, length-put, put-end}
-use Rattle.lines.proofs.Laws.LineText.{listLine-size}
+use Rattle.lines.proofs.Laws.LineText.{list_line-size}
 
 -- ---- the steps ----
 
 module _ (folded : Bool) (b : ℕ) (s : Fed) where
   -- a line feed ends the line
-  pub feedByte-lf : b ≡ 0x0A → feedByte folded b s ≡ endLine folded s
-  unfolding feedByte lf
-  feedByte-lf e = rw (eq-eqb b lf e)
+  pub feed_byte_of-lf : b ≡ 0x0A → feed_byte_of folded b s ≡ end_line folded s
+  unfolding feed_byte_of lf
+  feed_byte_of-lf e = rw (eq-eqb b lf e)
 
   -- another byte is held
-  pub feedByte-other : (b ≡ 0x0A → ⊥) → feedByte folded b s ≡ holdByte b s
-  unfolding feedByte lf
-  feedByte-other h = rw (ne_eqb b lf h)
+  pub feed_byte_of-other : (b ≡ 0x0A → ⊥) → feed_byte_of folded b s ≡ hold_byte_of b s
+  unfolding feed_byte_of lf
+  feed_byte_of-other h = rw (ne_eqb b lf h)
 
 -- how much was taken before changes nothing else
-feedByte-standing : (folded : Bool) (b i : ℕ) (line : List ℕ) (h : ℕ) (out : List ℕ) (o : ℕ)
-    → let f = feedByte folded b (standing 0 line h out o) in standing (i + 1) f.line f.held f.out f.written ≡ feedByte folded b (standing i line h out o)
-unfolding feedByte endLine holdByte
-feedByte-standing folded b i line h out o = lf-or-other b (λ e. rw e) (λ e. rw e)
+feed_byte_of-standing : (folded : Bool) (b i : ℕ) (line : List ℕ) (h : ℕ) (out : List ℕ) (o : ℕ)
+    → let f = feed_byte_of folded b (standing 0 line h out o) in standing (i + 1) f.line f.held f.out f.written ≡ feed_byte_of folded b (standing i line h out o)
+unfolding feed_byte_of end_line hold_byte_of
+feed_byte_of-standing folded b i line h out o = lf-or-other b (λ e. rw e) (λ e. rw e)
 
 module _ (folded : Bool) (block : List ℕ) (i : ℕ) (s : Fed) where
   -- where a line has no room nothing more is fed
-  pub feedBytes-full : length s.out - s.written < lineRoom → feedBytes folded (drop i block) s ≡ s
-  unfolding feedBytes
-  feedBytes-full h = go (drop i block)
+  pub feed_bytes-full : length s.out - s.written < line_room → feed_bytes folded (drop i block) s ≡ s
+  unfolding feed_bytes
+  feed_bytes-full h = go (drop i block)
     where
-      go : (bs : List ℕ) → feedBytes folded bs s ≡ s
+      go : (bs : List ℕ) → feed_bytes folded bs s ≡ s
       go [] = refl
-      go (b ∷ bs) = rw (lt-ltb (length s.out - s.written) lineRoom h)
+      go (b ∷ bs) = rw (lt-ltb (length s.out - s.written) line_room h)
 
   -- nor past the block's end
-  pub feedBytes-end : length block ≤ i → feedBytes folded (drop i block) s ≡ s
-  unfolding feedBytes
-  feedBytes-end h = rw (drop_of_length-le block h)
+  pub feed_bytes-end : length block ≤ i → feed_bytes folded (drop i block) s ≡ s
+  unfolding feed_bytes
+  feed_bytes-end h = rw (drop_of_length-le block h)
 
   -- else the byte at the place is fed, and then those after it
-  feedBytes-next : i < length block → lineRoom ≤ length s.out - s.written
-      → feedBytes folded (drop i block) s ≡ feedBytes folded (drop (i + 1) block) (feedByte folded (get_or block i 0) s)
-  unfolding feedBytes
-  feedBytes-next k h = rw (drop-cons block i 0 k, add-one, le-ltb (length s.out - s.written) lineRoom h)
+  feed_bytes-next : i < length block → line_room ≤ length s.out - s.written
+      → feed_bytes folded (drop i block) s ≡ feed_bytes folded (drop (i + 1) block) (feed_byte_of folded (get_or block i 0) s)
+  unfolding feed_bytes
+  feed_bytes-next k h = rw (drop-cons block i 0 k, add-one, le-ltb (length s.out - s.written) line_room h)
 
 -- what a step leaves, part by part, as the contracts give it
 abbrev pub Left : ℕ → ℕ → List ℕ → List ℕ → Fed → Type 0
@@ -72,14 +72,14 @@ pub left-parts : {s t : Fed} → s ≡ t → (s.used ≡ t.used) × (Left s.held
 left-parts e = rw e (refl, (refl, (refl, (refl, refl))))
 
 -- a turn of the loop: what is to be fed after it leaves what was to be fed before it
-pub feedBytes-turn : (folded : Bool) (block : List ℕ) (i : ℕ) (line : List ℕ) (h : ℕ) (out : List ℕ) (o : ℕ) {line' out' : List ℕ} {h' o' : ℕ} {all : Fed}
-    → i < length block → lineRoom ≤ length out - o
-    → Left h' o' line' out' (feedByte folded (get_or block i 0) (standing 0 line h out o))
-    → feedBytes folded (drop i block) (standing i line h out o) ≡ all
-    → feedBytes folded (drop (i + 1) block) (standing (i + 1) line' h' out' o') ≡ all
-feedBytes-turn folded block i line h out o k r e t =
-    rw (e.0, e.1.0, e.1.1.0, e.1.1.1, feedByte-standing folded (get_or block i 0) i line h out o)
-    (sym (feedBytes-next folded block i (standing i line h out o) k r) ∙ t)
+pub feed_bytes-turn : (folded : Bool) (block : List ℕ) (i : ℕ) (line : List ℕ) (h : ℕ) (out : List ℕ) (o : ℕ) {line' out' : List ℕ} {h' o' : ℕ} {all : Fed}
+    → i < length block → line_room ≤ length out - o
+    → Left h' o' line' out' (feed_byte_of folded (get_or block i 0) (standing 0 line h out o))
+    → feed_bytes folded (drop i block) (standing i line h out o) ≡ all
+    → feed_bytes folded (drop (i + 1) block) (standing (i + 1) line' h' out' o') ≡ all
+feed_bytes-turn folded block i line h out o k r e t =
+    rw (e.0, e.1.0, e.1.1.0, e.1.1.1, feed_byte_of-standing folded (get_or block i 0) i line h out o)
+    (sym (feed_bytes-next folded block i (standing i line h out o) k r) ∙ t)
 
 -- ---- within the bytes lent ----
 
@@ -90,77 +90,77 @@ pub record Within (s : Fed) : Type 0 where
   pub written-le : s.written ≤ length s.out
 
 -- a byte more leaves it so
-pub feedByte-within : (folded : Bool) (b : ℕ) (s : Fed) → Within s → Within (feedByte folded b s)
-unfolding feedByte endLine holdByte
-feedByte-within folded b s h =
-    let text = listLine (listed folded (take s.held s.line)) in
+pub feed_byte_of-within : (folded : Bool) (b : ℕ) (s : Fed) → Within s → Within (feed_byte_of folded b s)
+unfolding feed_byte_of end_line hold_byte_of
+feed_byte_of-within folded b s h =
+    let text = list_line (listed folded (take s.held s.line)) in
     lf-or-other b
     (λ e. rw e (record { line-length = h.line-length; held-le = omega arith; written-le = put-end s.written text s.out h.written-le }))
-    (λ e. rw e (record { line-length = length-set s.line s.held b ∙ h.line-length; held-le = heldNext-le s.held h.held-le; written-le = h.written-le }))
+    (λ e. rw e (record { line-length = length-set s.line s.held b ∙ h.line-length; held-le = held_next-le s.held h.held-le; written-le = h.written-le }))
 
 -- so does a turn of the loop
 pub within-turn : (folded : Bool) (b i : ℕ) (line : List ℕ) (h : ℕ) (out : List ℕ) (o : ℕ) {line' out' : List ℕ} {h' o' : ℕ}
-    → Left h' o' line' out' (feedByte folded b (standing 0 line h out o))
+    → Left h' o' line' out' (feed_byte_of folded b (standing 0 line h out o))
     → Within (standing i line h out o) → Within (standing (i + 1) line' h' out' o')
 within-turn folded b i line h out o e k =
-    rw (e.0, e.1.0, e.1.1.0, e.1.1.1, feedByte-standing folded b i line h out o) (feedByte-within folded b (standing i line h out o) k)
+    rw (e.0, e.1.0, e.1.1.0, e.1.1.1, feed_byte_of-standing folded b i line h out o) (feed_byte_of-within folded b (standing i line h out o) k)
 
 -- ---- what was fed ----
 
 -- the bytes `input` were fed, which made s' of s
 pub record Feeds (folded : Bool) (input : List ℕ) (s s' : Fed) : Type 0 where
   pub used-is : s'.used ≡ s.used + length input
-  pub held-is : take s'.held s'.line ≡ fedLine (take s.held s.line) input
-  pub written_is : s'.written ≡ s.written + length (fedOut folded (take s.held s.line) input)
-  pub out-is : s'.out ≡ put s.written (fedOut folded (take s.held s.line) input) s.out
+  pub held-is : take s'.held s'.line ≡ fed_line (take s.held s.line) input
+  pub written_is : s'.written ≡ s.written + length (fed_out folded (take s.held s.line) input)
+  pub out-is : s'.out ≡ put s.written (fed_out folded (take s.held s.line) input) s.out
   pub out-length : length s'.out ≡ length s.out
   pub within : Within s'
 
 -- where no byte is fed all stays
 feeds-nothing : (folded : Bool) (s : Fed) → Within s → Feeds folded [] s s
-unfolding fedOut fedLine
+unfolding fed_out fed_line
 feeds-nothing folded s h =
     record { used-is = omega arith; held-is = refl; written_is = omega arith; out-is = put-nothing s.written s.out; out-length = refl; within = h }
 
 -- a line feed fed writes the line held
-endLine-feeds : (folded : Bool) (b : ℕ) (s : Fed) → eqb b lf ≡ true → Within s → s.written + lineRoom ≤ length s.out
-    → Feeds folded (b ∷ []) s (feedByte folded b s)
-unfolding fedOut fedLine feedByte endLine
-endLine-feeds folded b s e h r =
+end_line-feeds : (folded : Bool) (b : ℕ) (s : Fed) → eqb b lf ≡ true → Within s → s.written + line_room ≤ length s.out
+    → Feeds folded (b ∷ []) s (feed_byte_of folded b s)
+unfolding fed_out fed_line feed_byte_of end_line
+end_line-feeds folded b s e h r =
     let word = listed folded (take s.held s.line) in
-    let text : fedOut folded (take s.held s.line) (b ∷ []) ≡ listLine word = rw e (append-nil _) in
+    let text : fed_out folded (take s.held s.line) (b ∷ []) ≡ list_line word = rw e (append-nil _) in
     record {
       used-is = rw e;
       held-is = rw e;
       written_is = rw (text, e);
       out-is = rw (text, e);
-      out-length = rw e (length-put s.written (listLine word) s.out (omega (arith, listLine-size word)));
-      within = feedByte-within folded b s h;
+      out-length = rw e (length-put s.written (list_line word) s.out (omega (arith, list_line-size word)));
+      within = feed_byte_of-within folded b s h;
     }
 
 -- another byte fed is held
-holdByte-feeds : (folded : Bool) (b : ℕ) (s : Fed) → eqb b lf ≡ false → Within s → Feeds folded (b ∷ []) s (feedByte folded b s)
-unfolding fedOut fedLine feedByte holdByte
-holdByte-feeds folded b s e h =
+hold_byte_of-feeds : (folded : Bool) (b : ℕ) (s : Fed) → eqb b lf ≡ false → Within s → Feeds folded (b ∷ []) s (feed_byte_of folded b s)
+unfolding fed_out fed_line feed_byte_of hold_byte_of
+hold_byte_of-feeds folded b s e h =
     record {
       used-is = rw e;
-      held-is = rw e (take-heldNext s.line s.held b h.line-length h.held-le);
+      held-is = rw e (take-held_next s.line s.held b h.line-length h.held-le);
       written_is = rw e (omega arith);
       out-is = rw e (put-nothing s.written s.out);
       out-length = rw e;
-      within = feedByte-within folded b s h;
+      within = feed_byte_of-within folded b s h;
     }
 
 -- one part of an input fed after another is both fed
 feeds-append : {folded : Bool} {a b : List ℕ} {s t u : Fed} → Feeds folded a s t → Feeds folded b t u → Feeds folded (a ++ b) s u
 feeds-append {folded} {a} {b} {s} {t} f g =
     let line = take s.held s.line in
-    let first = fedOut folded line a in
-    let second = fedOut folded (take t.held t.line) b in
-    let text : fedOut folded line (a ++ b) ≡ first ++ second = rw f.held-is (fedOut-append folded line a b) in
+    let first = fed_out folded line a in
+    let second = fed_out folded (take t.held t.line) b in
+    let text : fed_out folded line (a ++ b) ≡ first ++ second = rw f.held-is (fed_out-append folded line a b) in
     record {
       used-is = omega (arith, f.used-is, g.used-is, length-append a b);
-      held-is = g.held-is ∙ rw f.held-is (sym (fedLine-append line a b));
+      held-is = g.held-is ∙ rw f.held-is (sym (fed_line-append line a b));
       written_is = rw text (omega (arith, f.written_is, g.written_is, length-append first second));
       out-is = g.out-is ∙ rw (text, f.written_is, f.out-is)
           (put-put s.written first second s.out (omega (arith, f.written_is, f.within.written-le, f.out-length)));
@@ -174,21 +174,21 @@ pub record Part (folded : Bool) (input : List ℕ) (s s' : Fed) : Type 0 where
   pub left : List ℕ
   pub parts : input ≡ taken ++ left
   pub feeds : Feeds folded taken s s'
-  pub some : lineRoom ≤ length s.out - s.written → 0 < length input → 0 < length taken
+  pub some : line_room ≤ length s.out - s.written → 0 < length input → 0 < length taken
 
 -- bytes fed as long as a line has room leave such a part
-pub feedBytes-part : (folded : Bool) (input : List ℕ) (s : Fed) → Within s → Part folded input s (feedBytes folded input s)
-unfolding feedBytes
-feedBytes-part folded [] s h = record { taken = []; left = []; parts = refl; feeds = feeds-nothing folded s h; some = λ r k. k }
-feedBytes-part folded (b ∷ bs) s h =
-    lt-or-le (length s.out - s.written) lineRoom
-    (λ k. rw (lt-ltb (length s.out - s.written) lineRoom k)
+pub feed_bytes-part : (folded : Bool) (input : List ℕ) (s : Fed) → Within s → Part folded input s (feed_bytes folded input s)
+unfolding feed_bytes
+feed_bytes-part folded [] s h = record { taken = []; left = []; parts = refl; feeds = feeds-nothing folded s h; some = λ r k. k }
+feed_bytes-part folded (b ∷ bs) s h =
+    lt-or-le (length s.out - s.written) line_room
+    (λ k. rw (lt-ltb (length s.out - s.written) line_room k)
     (record { taken = []; left = b ∷ bs; parts = refl; feeds = feeds-nothing folded s h; some = λ r _. absurd (omega arith) }))
     (λ k.
-    let one : Feeds folded (b ∷ []) s (feedByte folded b s) =
-    lf-or-other b (λ e. endLine-feeds folded b s e h (omega (arith, h.written-le))) (λ e. holdByte-feeds folded b s e h) in
-    let rest = feedBytes-part folded bs (feedByte folded b s) one.within in
-    rw (le-ltb (length s.out - s.written) lineRoom k)
+    let one : Feeds folded (b ∷ []) s (feed_byte_of folded b s) =
+    lf-or-other b (λ e. end_line-feeds folded b s e h (omega (arith, h.written-le))) (λ e. hold_byte_of-feeds folded b s e h) in
+    let rest = feed_bytes-part folded bs (feed_byte_of folded b s) one.within in
+    rw (le-ltb (length s.out - s.written) line_room k)
     (record {
       taken = b ∷ rest.taken;
       left = rest.left;

@@ -14,13 +14,13 @@ use Rattle.encoding.proofs.Laws.Booleans.{lt-or-le}
 use Rattle.turkish.specs.Letters.{lf}
 use Rattle.turkish.specs.Calls.{limit, refusal, accepted}
 use Rattle.theorems.proofs.Laws.Accepted.{refusal-long}
-use Rattle.lines.specs.Line.{lineRefusal, refusedLine, listLine}
+use Rattle.lines.specs.Line.{line_refusal_of, refused_line, list_line}
 use Rattle.lines.specs.Listed.{listed}
 use Rattle.lines.proofs.Laws.Listed.{listed-refused}
 use Rattle.turkish.specs.Lines.{unclosed}
-use Rattle.listing.specs.Listing.{listAll}
-use Rattle.listing.specs.Feed.{most, hold, lastOut}
-use Rattle.listing.specs.Fed.{heldNext}
+use Rattle.listing.specs.Listing.{list_all}
+use Rattle.listing.specs.Feed.{most, hold, last_out}
+use Rattle.listing.specs.Fed.{held_next}
 
 -- a byte is a line feed, or it is not
 pub lf-or-other : {P : Type 0} (b : ℕ) → (eqb b lf ≡ true → P) → (eqb b lf ≡ false → P) → P
@@ -44,9 +44,9 @@ unfolding hold
 hold-held line b = take-take-append most line (b ∷ [])
 
 -- a line over the limit is refused whatever it is
-pub listLine-long : (w : List ℕ) → limit < length w → listLine w ≡ refusedLine 1
-unfolding listLine lineRefusal refusal
-listLine-long w h = rw (lt-ltb limit (length w) h)
+pub list_line-long : (w : List ℕ) → limit < length w → list_line w ≡ refused_line 1
+unfolding list_line line_refusal_of refusal
+list_line-long w h = rw (lt-ltb limit (length w) h)
 
 -- and is not folded
 listed-long : (folded : Bool) (w : List ℕ) → limit < length w → listed folded w ≡ w
@@ -54,66 +54,66 @@ unfolding accepted
 listed-long folded w h = listed-refused folded w (rw (← refusal-long w h))
 
 -- so the part held of a line gives the line's output
-pub listLine-held : (folded : Bool) (line : List ℕ) → listLine (listed folded (take most line)) ≡ listLine (listed folded line)
+pub list_line-held : (folded : Bool) (line : List ℕ) → list_line (listed folded (take most line)) ≡ list_line (listed folded line)
 unfolding most
-listLine-held folded line =
+list_line-held folded line =
     lt-or-le limit (length line)
     (λ h.
     let long : limit < length (take most line) = omega (arith, length-take most line) in
-    rw (listed-long folded (take most line) long, listed-long folded line h) (listLine-long (take most line) long ∙ sym (listLine-long line h)))
+    rw (listed-long folded (take most line) long, listed-long folded line h) (list_line-long (take most line) long ∙ sym (list_line-long line h)))
     (λ h. rw (take_all most line (omega arith)))
 
 -- the end of the input writes the line held, if it is not empty
-pub lastOut-line : (folded : Bool) (line : List ℕ) → 0 < length line → lastOut folded line ≡ listLine (listed folded line)
-unfolding lastOut unclosed listAll
-lastOut-line folded [] h = absurd (omega arith)
-lastOut-line folded (b ∷ bs) h = append-nil _
+pub last_out-line : (folded : Bool) (line : List ℕ) → 0 < length line → last_out folded line ≡ list_line (listed folded line)
+unfolding last_out unclosed list_all
+last_out-line folded [] h = absurd (omega arith)
+last_out-line folded (b ∷ bs) h = append-nil _
 
 -- there too the part held gives the line's output
-pub lastOut-held : (folded : Bool) (line : List ℕ) → lastOut folded (take most line) ≡ lastOut folded line
+pub last_out-held : (folded : Bool) (line : List ℕ) → last_out folded (take most line) ≡ last_out folded line
 unfolding most limit
-lastOut-held folded [] = refl
-lastOut-held folded (b ∷ bs) =
-    lastOut-line folded (take most (b ∷ bs)) (omega (arith, length-take most (b ∷ bs))) ∙ listLine-held folded (b ∷ bs)
-    ∙ sym (lastOut-line folded (b ∷ bs) (omega arith))
+last_out-held folded [] = refl
+last_out-held folded (b ∷ bs) =
+    last_out-line folded (take most (b ∷ bs)) (omega (arith, length-take most (b ∷ bs))) ∙ list_line-held folded (b ∷ bs)
+    ∙ sym (last_out-line folded (b ∷ bs) (omega arith))
 
 -- where none is held of a line nothing is written at the end
-pub lastOut-none : (folded : Bool) (line : List ℕ) (held : ℕ) → held ≡ 0 → lastOut folded (take held line) ≡ []
-unfolding lastOut unclosed listAll
-lastOut-none folded line held e = rw e
+pub last_out-none : (folded : Bool) (line : List ℕ) (held : ℕ) → held ≡ 0 → last_out folded (take held line) ≡ []
+unfolding last_out unclosed list_all
+last_out-none folded line held e = rw e
 
 -- and where some is held, that
-pub lastOut-some : (folded : Bool) (line : List ℕ) (held : ℕ) → 0 < held → held ≤ length line
-    → lastOut folded (take held line) ≡ listLine (listed folded (take held line))
-lastOut-some folded line held h l = lastOut-line folded (take held line) (omega (arith, length-take held line))
+pub last_out-some : (folded : Bool) (line : List ℕ) (held : ℕ) → 0 < held → held ≤ length line
+    → last_out folded (take held line) ≡ list_line (listed folded (take held line))
+last_out-some folded line held h l = last_out-line folded (take held line) (omega (arith, length-take held line))
 
 -- ---- the bytes that hold a line ----
 
 -- a byte is held after those held as long as they are fewer than the most that are
-pub heldNext-more : (held : ℕ) → held < most → held + 1 ≡ heldNext held
-unfolding heldNext
-heldNext-more held h = rw (lt-ltb held most h)
+pub held_next-more : (held : ℕ) → held < most → held + 1 ≡ held_next held
+unfolding held_next
+held_next-more held h = rw (lt-ltb held most h)
 
 -- and where all are held, no more
-pub heldNext-full : (held : ℕ) → most ≤ held → held ≡ heldNext held
-unfolding heldNext
-heldNext-full held h = rw (le-ltb held most h)
+pub held_next-full : (held : ℕ) → most ≤ held → held ≡ held_next held
+unfolding held_next
+held_next-full held h = rw (le-ltb held most h)
 
 -- so no more than the most are held
-pub heldNext-le : (held : ℕ) → held ≤ most → heldNext held ≤ most
-heldNext-le held h = lt-or-le held most (λ k. rw (← heldNext-more held k) (omega arith)) (λ k. rw (← heldNext-full held k) h)
+pub held_next-le : (held : ℕ) → held ≤ most → held_next held ≤ most
+held_next-le held h = lt-or-le held most (λ k. rw (← held_next-more held k) (omega arith)) (λ k. rw (← held_next-full held k) h)
 
 -- a byte stored after those held is held with them, where the line has a place for it
-pub take-heldNext : (line : List ℕ) (held b : ℕ) → length line ≡ most → held ≤ most → take (heldNext held) (set line held b) ≡ hold (take held line) b
+pub take-held_next : (line : List ℕ) (held b : ℕ) → length line ≡ most → held ≤ most → take (held_next held) (set line held b) ≡ hold (take held line) b
 unfolding hold
-take-heldNext line held b l h = lt-or-le held most more full
+take-held_next line held b l h = lt-or-le held most more full
   where
-    more : held < most → take (heldNext held) (set line held b) ≡ take most (take held line ++ (b ∷ []))
+    more : held < most → take (held_next held) (set line held b) ≡ take most (take held line ++ (b ∷ []))
     more k =
-        rw (← heldNext-more held k, add-one held, take-suc-set line held b (omega arith))
+        rw (← held_next-more held k, add-one held, take-suc-set line held b (omega arith))
         (sym (take_all most (take held line ++ (b ∷ [])) (omega (arith, length-append (take held line) (b ∷ []), length-take held line))))
 
-    full : most ≤ held → take (heldNext held) (set line held b) ≡ take most (take held line ++ (b ∷ []))
+    full : most ≤ held → take (held_next held) (set line held b) ≡ take most (take held line ++ (b ∷ []))
     full k =
-        rw (← heldNext-full held k, set_out line held b (omega arith), take_all held line (omega arith), take-append-le most line (b ∷ []) (omega arith))
+        rw (← held_next-full held k, set_out line held b (omega arith), take_all held line (omega arith), take-append-le most line (b ∷ []) (omega arith))
         (sym (take_all most line (omega arith)))

@@ -9,19 +9,19 @@ use native.Mathlib.Nat.{zero-add}
 use lib.ListN.{length, take, drop, length-append, length-drop, drop_of_length-le}
 use lib.Seq.{take-append_seam, drop-append_seam, drop-drop}
 use Rattle.writing.specs.Put.{put}
-use Rattle.lines.specs.Room.{lineRoom}
-use Rattle.listing.specs.Feed.{most, fedOut, fedLine}
+use Rattle.lines.specs.Room.{line_room}
+use Rattle.listing.specs.Feed.{most, fed_out, fed_line}
 use Rattle.listing.specs.Fed.{Fed, standing, feeding}
-use Rattle.listing.proofs.Blocks.{fedLine-append}
-use Rattle.listing.proofs.Laws.Fed.{Within, feedBytes-part}
+use Rattle.listing.proofs.Blocks.{fed_line-append}
+use Rattle.listing.proofs.Laws.Fed.{Within, feed_bytes-part}
 
 -- s is left of the block from place `from` on, with the first `held` bytes of `line` held and the whole of `out` free
 pub record OneCall (folded : Bool) (block : List ℕ) (from : ℕ) (line : List ℕ) (held : ℕ) (out : List ℕ) (s : Fed) : Type 0 where
   pub used_le : from ≤ length block → s.used ≤ length block
-  pub used-more : from < length block → lineRoom ≤ length out → from < s.used
+  pub used-more : from < length block → line_room ≤ length out → from < s.used
   pub parts : drop from block ≡ take (s.used - from) (drop from block) ++ drop s.used block
-  pub held-is : take s.held s.line ≡ fedLine (take held line) (take (s.used - from) (drop from block))
-  pub text-is : take s.written s.out ≡ fedOut folded (take held line) (take (s.used - from) (drop from block))
+  pub held-is : take s.held s.line ≡ fed_line (take held line) (take (s.used - from) (drop from block))
+  pub text-is : take s.written s.out ≡ fed_out folded (take held line) (take (s.used - from) (drop from block))
   pub out-length : length s.out ≡ length out
   pub within : Within s
 
@@ -42,7 +42,7 @@ pub feeding-call : (folded : Bool) (block : List ℕ) (from : ℕ) (line : List 
     → OneCall folded block from line held out (feeding folded block from line held out)
 unfolding feeding
 feeding-call folded block from line held out l h =
-    let p = feedBytes-part folded (drop from block) (standing from line held out 0) (record { line-length = l; held-le = h; written-le = omega arith }) in
+    let p = feed_bytes-part folded (drop from block) (standing from line held out 0) (record { line-length = l; held-le = h; written-le = omega arith }) in
     let f = p.feeds in
     let q = parts-of block from _ p.taken p.left p.parts f.used-is in
     record {
@@ -50,7 +50,7 @@ feeding-call folded block from line held out l h =
       used-more = λ k r. omega (arith, f.used-is, p.some (omega arith) (omega (arith, length-drop from block)));
       parts = rw (q.0, q.1) p.parts;
       held-is = rw q.0 f.held-is;
-      text-is = rw (q.0, f.out-is, f.written_is) (take_put (fedOut folded (take held line) p.taken) out);
+      text-is = rw (q.0, f.out-is, f.written_is) (take_put (fed_out folded (take held line) p.taken) out);
       out-length = f.out-length;
       within = f.within;
     }
@@ -58,12 +58,12 @@ feeding-call folded block from line held out l h =
 -- and what it leaves of the block gives the same line held as all of it
 pub call-turn : {folded : Bool} {block : List ℕ} {from : ℕ} {line : List ℕ} {held : ℕ} {out : List ℕ} {s : Fed} {used held' : ℕ} {line' : List ℕ}
     → OneCall folded block from line held out s → used ≡ s.used → held' ≡ s.held → line' ≡ s.line
-    → fedLine (take held' line') (drop used block) ≡ fedLine (take held line) (drop from block)
+    → fed_line (take held' line') (drop used block) ≡ fed_line (take held line) (drop from block)
 call-turn {block = block} {from} {line} {held} {s = s} c u h l =
-    rw (u, h, l, c.held-is) (sym (fedLine-append (take held line) (take (s.used - from) (drop from block)) (drop s.used block)))
-    ∙ ap (fedLine (take held line)) (sym c.parts)
+    rw (u, h, l, c.held-is) (sym (fed_line-append (take held line) (take (s.used - from) (drop from block)) (drop s.used block)))
+    ∙ ap (fed_line (take held line)) (sym c.parts)
 
 -- nothing is left past the block's end
-pub fedLine-end : (line block : List ℕ) (i : ℕ) → length block ≤ i → fedLine line (drop i block) ≡ line
-unfolding fedLine
-fedLine-end line block i h = rw (drop_of_length-le block h)
+pub fed_line-end : (line block : List ℕ) (i : ℕ) → length block ≤ i → fed_line line (drop i block) ≡ line
+unfolding fed_line
+fed_line-end line block i h = rw (drop_of_length-le block h)

@@ -12,24 +12,24 @@ use lib.Dec.{ltb, eqb}
 use borrow.Author.Tests.{ltb-true, ltb-false, eqb-true, eqb-false, eq-eqb, ne_eqb}
 use Rattle.utf8.specs.declared.cursor.Cursor.{Cursor}
 use Rattle.utf8.specs.declared.step.Step.{Step}
-use Rattle.utf8.specs.Characters.{lastWidth, lastChar, char_at, before, back}
-use Rattle.utf8.specs.Steps.{moveTo, previousChar, eqSB}
+use Rattle.utf8.specs.Characters.{last_width_of, last_char, char_at, before, back}
+use Rattle.utf8.specs.Steps.{move_to, previous_char_of, eq_s_b_of}
 use Rattle.utf8.specs.Behind.{behind, back_by, Open}
 use Rattle.encoding.proofs.Laws.Booleans.{and_left, and_right}
 use Rattle.utf8.proofs.Laws.Characters.{before-zero, before-step}
-use Rattle.utf8.proofs.Laws.Steps.{stands-within, eqSB-moved}
-use Rattle.utf8.proofs.Laws.Behind.{behind-backBy, backBy-add, backBy-zero, open-backBy}
-use Rattle.utf8.proofs.Laws.BehindSteps.{stepBehind, previousChar-behind, previousChar-moved, eqSB-behind, eqSB-stays}
+use Rattle.utf8.proofs.Laws.Steps.{stands-within, eq_s_b_of-moved}
+use Rattle.utf8.proofs.Laws.Behind.{behind-back_by, back_by-add, back_by-zero, open-back_by}
+use Rattle.utf8.proofs.Laws.BehindSteps.{step_behind, previous_char_of-behind, previous_char_of-moved, eq_s_b_of-behind, eq_s_b_of-stays}
 use Rattle.lent.specs.declared.Over.{Over}
 use Rattle.lent.specs.Over.{over}
-use Rattle.turkish.specs.Letters.{text, fromEnd, any, has, starts}
+use Rattle.turkish.specs.Letters.{text, from_end, any, has, starts}
 use Rattle.turkish.specs.Vowels.{vowels, vowel}
 use Rattle.theorems.specs.Simple.Grammar.{fail, took, more, after, asking, among, optional, joining, mark_of}
-use Rattle.theorems.specs.Simple.Marks.{byY, marked, yken}
+use Rattle.theorems.specs.Simple.Marks.{by_y, marked, yken}
 use Rattle.keys.specs.declared.passed.Passed.{Passed}
-use Rattle.keys.specs.Passed.{passedTo, notPassed, passes}
-use Rattle.keys.proofs.Laws.Optional.{optional-getD}
-use Rattle.keys.proofs.Laws.Literal.{ascii, ascii-reverseAux, lastWidth-char, literal-chars}
+use Rattle.keys.specs.Passed.{passed_to, not_passed_of, passes}
+use Rattle.keys.proofs.Laws.Optional.{optional-get_or}
+use Rattle.keys.proofs.Laws.Literal.{ascii, ascii-reverse_aux, last_width_of-char, literal-chars}
 
 -- ---- an ASCII literal behind an open record ----
 
@@ -39,14 +39,14 @@ unfolding ascii starts back
 back-ascii w [] c a l e = sym (sub-zero c)
 back-ascii w (b ∷ r) zero a l e = absurd (false≢true (rw (before-zero w) at e))
 back-ascii w (b ∷ r) (suc c) a l e =
-    let d : ℕ = suc c - lastWidth w (suc c) in
-    let f : eqb b (lastChar w (suc c)) && starts r (before w d) ≡ true = rw (before-step w (suc c) (omega arith)) at e in
-    let char : b ≡ lastChar w (suc c) = eqb-true b (lastChar w (suc c)) (and_left (eqb b (lastChar w (suc c))) (starts r (before w d)) f) in
+    let d : ℕ = suc c - last_width_of w (suc c) in
+    let f : eqb b (last_char w (suc c)) && starts r (before w d) ≡ true = rw (before-step w (suc c) (omega arith)) at e in
+    let char : b ≡ last_char w (suc c) = eqb-true b (last_char w (suc c)) (and_left (eqb b (last_char w (suc c))) (starts r (before w d)) f) in
     let small : b < 0x80 = ltb-true b 0x80 (and_left (ltb b 0x80) (ascii r) a) in
-    let one : lastWidth w (suc c) ≡ 1 = lastWidth-char w c (omega arith) (omega arith) in
+    let one : last_width_of w (suc c) ≡ 1 = last_width_of-char w c (omega arith) (omega arith) in
     let place : d ≡ c = omega arith in
     let rest : starts r (before w c) ≡ true =
-    ap (λ (i : ℕ). starts r (before w i)) (sym place) ∙ and_right (eqb b (lastChar w (suc c))) (starts r (before w d)) f in
+    ap (λ (i : ℕ). starts r (before w i)) (sym place) ∙ and_right (eqb b (last_char w (suc c))) (starts r (before w d)) f in
     let same : c - length r ≡ suc c - suc (length r) = omega arith in
     ap (λ (i : ℕ). back w i (length r)) place ∙ back-ascii w r c (and_right (ltb b 0x80) (ascii r) a) (omega arith) rest ∙ same
 
@@ -58,28 +58,28 @@ module _ (w s : List ℕ) (r : Cursor) (o : Open w r) (a : ascii s ≡ true) whe
       omega (arith, length-drop r.limit_backward w, within.low, within.high, within.end)
 
   -- the step back past it moves exactly where the characters behind the record begin with it, from its end
-  pub eqSB-starts : (eqSB w s r).moved ≡ starts (reverse s) (behind w r)
+  pub eq_s_b_of-starts : (eq_s_b_of w s r).moved ≡ starts (reverse s) (behind w r)
   unfolding behind
-  eqSB-starts = eqSB-behind w s r o ∙ literal-chars (drop r.limit_backward w) s (r.cursor - r.limit_backward) a within-part
+  eq_s_b_of-starts = eq_s_b_of-behind w s r o ∙ literal-chars (drop r.limit_backward w) s (r.cursor - r.limit_backward) a within-part
 
   -- where it moves it comes as many characters back as the literal has bytes
-  pub eqSB-backBy : (eqSB w s r).moved ≡ true → (eqSB w s r).next ≡ back_by w r (length s)
+  pub eq_s_b_of-back_by : (eq_s_b_of w s r).moved ≡ true → (eq_s_b_of w s r).next ≡ back_by w r (length s)
   unfolding back_by behind ascii
-  eqSB-backBy m =
+  eq_s_b_of-back_by m =
       let low = r.limit_backward in
-      let b = eqSB-moved w s r m in
+      let b = eq_s_b_of-moved w s r m in
       let far : back (drop low w) (r.cursor - low) (length s) ≡ r.cursor - low - length s =
-      rw length-reverse at (back-ascii (drop low w) (reverse s) (r.cursor - low) (ascii-reverseAux s [] a refl) within-part (sym eqSB-starts ∙ m)) in
+      rw length-reverse at (back-ascii (drop low w) (reverse s) (r.cursor - low) (ascii-reverse_aux s [] a refl) within-part (sym eq_s_b_of-starts ∙ m)) in
       let place : r.cursor - length s ≡ low + back (drop low w) (r.cursor - low) (length s) = omega (arith, b.room) in
-      b.lands ∙ ap (moveTo r) place
+      b.lands ∙ ap (move_to r) place
 
   -- so much, or nothing
-  pub eqSB-tried : (eqSB w s r).next ≡ back_by w r (cond (eqSB w s r).moved (length s) 0)
-  eqSB-tried = go (eqSB w s r).moved refl
+  pub eq_s_b_of-tried : (eq_s_b_of w s r).next ≡ back_by w r (cond (eq_s_b_of w s r).moved (length s) 0)
+  eq_s_b_of-tried = go (eq_s_b_of w s r).moved refl
     where
-      go : (t : Bool) → (eqSB w s r).moved ≡ t → (eqSB w s r).next ≡ back_by w r (cond t (length s) 0)
-      go true e = eqSB-backBy e
-      go false e = eqSB-stays w s r e ∙ sym (backBy-zero w r o)
+      go : (t : Bool) → (eq_s_b_of w s r).moved ≡ t → (eq_s_b_of w s r).next ≡ back_by w r (cond t (length s) 0)
+      go true e = eq_s_b_of-back_by e
+      go false e = eq_s_b_of-stays w s r e ∙ sym (back_by-zero w r o)
 
 -- ---- the mark ----
 
@@ -101,9 +101,9 @@ starts-y (c ∷ cs) = go (eqb c 0x79) refl
     go false e = rw (ne_eqb 0x79 c (λ f. eqb-false c 0x79 e (sym f))) (sym e)
 
 -- yken is `ken` and then an optional y
-markOf-yken : (cs : List ℕ) → mark_of yken cs ≡ cond (starts (reverse ken) cs) (more 3 true (optional y true (drop 3 cs))) fail
-unfolding mark_of joining byY yken marked fromEnd text asking among after
-markOf-yken cs = go (starts (reverse ken) cs)
+mark_of-yken : (cs : List ℕ) → mark_of yken cs ≡ cond (starts (reverse ken) cs) (more 3 true (optional y true (drop 3 cs))) fail
+unfolding mark_of joining by_y yken marked from_end text asking among after
+mark_of-yken cs = go (starts (reverse ken) cs)
   where
     go : (t : Bool) → after (cond t (took 3 true) fail) (λ k. optional y true (drop k cs)) ≡ cond t (more 3 true (optional y true (drop 3 cs))) fail
     go true = refl
@@ -112,94 +112,94 @@ markOf-yken cs = go (starts (reverse ken) cs)
 -- the steps' answers k from an open record
 module _ (w : List ℕ) (c : Cursor) (o : Open w c) (k : Over) (is : k ≡ over w ken y c) where
   -- each by its own definition
-  literal-is : k.literal ≡ (eqSB w ken c).moved
+  literal-is : k.literal ≡ (eq_s_b_of w ken c).moved
   unfolding over
   literal-is = ap (λ (x : Over). x.literal) is
 
   -- the second from where the first leaves the record
-  joined_is : k.joined ≡ (eqSB w y (eqSB w ken c).next).moved
+  joined_is : k.joined ≡ (eq_s_b_of w y (eq_s_b_of w ken c).next).moved
   unfolding over
   joined_is = ap (λ (x : Over). x.joined) is
 
   -- which it leaves here
-  here-is : k.here ≡ (eqSB w y (eqSB w ken c).next).next
+  here-is : k.here ≡ (eq_s_b_of w y (eq_s_b_of w ken c).next).next
   unfolding over
   here-is = ap (λ (x : Over). x.here) is
 
   -- the third from here
-  character-is : k.character ≡ (previousChar w k.here).moved
+  character-is : k.character ≡ (previous_char_of w k.here).moved
   unfolding over
   character-is = rw here-is (ap (λ (x : Over). x.character) is)
 
   -- and what it leaves
-  next-is : k.next ≡ (previousChar w k.here).next
+  next-is : k.next ≡ (previous_char_of w k.here).next
   unfolding over
   next-is = rw here-is (ap (λ (x : Over). x.next) is)
 
   -- without `ken` the mark fails
-  pub yken-keyless : k.literal ≡ false → notPassed ≡ passes w c (mark_of yken (behind w c))
+  pub yken-keyless : k.literal ≡ false → not_passed_of ≡ passes w c (mark_of yken (behind w c))
   unfolding ascii passes
   yken-keyless e =
-      let none : starts (reverse ken) (behind w c) ≡ false = sym (literal-is ∙ eqSB-starts w ken c o refl) ∙ e in
-      rw (markOf-yken (behind w c), none)
+      let none : starts (reverse ken) (behind w c) ≡ false = sym (literal-is ∙ eq_s_b_of-starts w ken c o refl) ∙ e in
+      rw (mark_of-yken (behind w c), none)
 
   -- the character passed has one to four bytes, within the word
   pub yken-bytes : k.character ≡ true
       → (0 < k.here.cursor - k.next.cursor) × (k.here.cursor - k.next.cursor ≤ 4)
       × (k.next.cursor + (k.here.cursor - k.next.cursor) ≤ length w)
-  yken-bytes f = let p = previousChar-moved w k.here (sym character-is ∙ f) in rw next-is (p.some, p.four, p.end)
+  yken-bytes f = let p = previous_char_of-moved w k.here (sym character-is ∙ f) in rw next-is (p.some, p.four, p.end)
 
   module _ (e : k.literal ≡ true) where
     -- `ken` stands behind the record
     ken-starts : starts (reverse ken) (behind w c) ≡ true
     unfolding ascii
-    ken-starts = sym (literal-is ∙ eqSB-starts w ken c o refl) ∙ e
+    ken-starts = sym (literal-is ∙ eq_s_b_of-starts w ken c o refl) ∙ e
 
     -- and is three characters
-    after-ken : (eqSB w ken c).next ≡ back_by w c 3
+    after-ken : (eq_s_b_of w ken c).next ≡ back_by w c 3
     unfolding ascii
-    after-ken = eqSB-backBy w ken c o refl (sym literal-is ∙ e)
+    after-ken = eq_s_b_of-back_by w ken c o refl (sym literal-is ∙ e)
 
     -- a y stands before it where the second step moves
     y-starts : k.joined ≡ starts y (drop 3 (behind w c))
     unfolding ascii
     y-starts =
-        joined_is ∙ rw after-ken (eqSB-starts w y (back_by w c 3) (open-backBy w c 3 o) refl ∙ ap (starts y) (behind-backBy w c 3))
+        joined_is ∙ rw after-ken (eq_s_b_of-starts w y (back_by w c 3) (open-back_by w c 3 o) refl ∙ ap (starts y) (behind-back_by w c 3))
 
     -- the record before the last step stands before `ken` and that y
-    here-backBy : k.here ≡ back_by w c (3 + cond k.joined 1 0)
+    here-back_by : k.here ≡ back_by w c (3 + cond k.joined 1 0)
     unfolding ascii
-    here-backBy =
+    here-back_by =
         rw (here-is, joined_is, after-ken)
-        (eqSB-tried w y (back_by w c 3) (open-backBy w c 3 o) refl ∙ backBy-add w c 3 (cond (eqSB w y (back_by w c 3)).moved 1 0))
+        (eq_s_b_of-tried w y (back_by w c 3) (open-back_by w c 3 o) refl ∙ back_by-add w c 3 (cond (eq_s_b_of w y (back_by w c 3)).moved 1 0))
 
     -- with a y
     here-joined : k.joined ≡ true → k.here ≡ back_by w c 4
-    here-joined j = here-backBy ∙ ap (λ (t : Bool). back_by w c (3 + cond t 1 0)) j
+    here-joined j = here-back_by ∙ ap (λ (t : Bool). back_by w c (3 + cond t 1 0)) j
 
     -- and without
     here-apart : k.joined ≡ false → k.here ≡ back_by w c 3
-    here-apart j = here-backBy ∙ ap (λ (t : Bool). back_by w c (3 + cond t 1 0)) j
+    here-apart j = here-back_by ∙ ap (λ (t : Bool). back_by w c (3 + cond t 1 0)) j
 
     -- the last step by what stands behind that record
-    last_step : previousChar w k.here ≡ stepBehind w k.here
-    last_step = previousChar-behind w k.here (rw here-backBy (open-backBy w c (3 + cond k.joined 1 0) o))
+    last_step : previous_char_of w k.here ≡ step_behind w k.here
+    last_step = previous_char_of-behind w k.here (rw here-back_by (open-back_by w c (3 + cond k.joined 1 0) o))
 
     -- the mark by the fifth character and that record
-    yken-key : passes w c (mark_of yken (behind w c)) ≡ cond (vowel (get_or (behind w c) 4 0)) (passedTo k.here.cursor) notPassed
+    yken-key : passes w c (mark_of yken (behind w c)) ≡ cond (vowel (get_or (behind w c) 4 0)) (passed_to k.here.cursor) not_passed_of
     unfolding more passes
     yken-key =
-        rw (markOf-yken (behind w c), ken-starts, optional-getD 0x79 (drop 3 (behind w c)), ← starts-y, ← y-starts, get_or-drop 3 (behind w c) 1 0, here-backBy)
+        rw (mark_of-yken (behind w c), ken-starts, optional-get_or 0x79 (drop 3 (behind w c)), ← starts-y, ← y-starts, get_or-drop 3 (behind w c) 1 0, here-back_by)
         (go (vowel (get_or (behind w c) 4 0)) (cond k.joined 1 0))
       where
-        go : (t : Bool) (n : ℕ) → passes w c (more 3 true (cond t (took n true) fail)) ≡ cond t (passedTo (back_by w c (3 + n)).cursor) notPassed
+        go : (t : Bool) (n : ℕ) → passes w c (more 3 true (cond t (took n true) fail)) ≡ cond t (passed_to (back_by w c (3 + n)).cursor) not_passed_of
         go true n = refl
         go false n = refl
 
     -- where no character stands before `ken` and the y, there is no fifth, and the mark fails
-    pub yken-short : k.character ≡ false → notPassed ≡ passes w c (mark_of yken (behind w c))
+    pub yken-short : k.character ≡ false → not_passed_of ≡ passes w c (mark_of yken (behind w c))
     unfolding vowel vowels has any text
-    yken-short f = sym (yken-key ∙ rw (none (3 + cond k.joined 1 0) (far k.joined) here-backBy))
+    yken-short f = sym (yken-key ∙ rw (none (3 + cond k.joined 1 0) (far k.joined) here-back_by))
       where
         far : (t : Bool) → 3 + cond t 1 0 ≤ 4
         far true = omega arith
@@ -209,29 +209,29 @@ module _ (w : List ℕ) (c : Cursor) (o : Open w c) (k : Over) (is : k ≡ over 
         none n l h =
             let nothing : length (behind w k.here) ≤ 0 =
             ltb-false 0 (length (behind w k.here)) (sym (character-is ∙ ap (λ (s : Step). s.moved) last_step) ∙ f) in
-            let left : length (behind w k.here) ≡ length (behind w c) - n = ap length (ap (behind w) h ∙ behind-backBy w c n) ∙ length-drop n (behind w c) in
+            let left : length (behind w k.here) ≡ length (behind w c) - n = ap length (ap (behind w) h ∙ behind-back_by w c n) ∙ length-drop n (behind w c) in
             get_or-eq_default (behind w c) 0 {n = 4} (omega arith)
 
     -- after a y the fifth character is the one passed
     fifth-joined : k.joined ≡ true → k.character ≡ true → char_at w k.next.cursor (k.here.cursor - k.next.cursor) ≡ get_or (behind w c) 4 0
     fifth-joined j f =
-        rw next-is (sym (previousChar-moved w k.here (sym character-is ∙ f)).char) ∙ ap (λ (s : Step). s.ch) last_step
-        ∙ ap (λ (cs : List ℕ). get_or cs 0 0) (ap (behind w) (here-joined j) ∙ behind-backBy w c 4) ∙ get_or-drop 4 (behind w c) 0 0
+        rw next-is (sym (previous_char_of-moved w k.here (sym character-is ∙ f)).char) ∙ ap (λ (s : Step). s.ch) last_step
+        ∙ ap (λ (cs : List ℕ). get_or cs 0 0) (ap (behind w) (here-joined j) ∙ behind-back_by w c 4) ∙ get_or-drop 4 (behind w c) 0 0
 
     -- without one it is the next
-    fifth-apart : k.joined ≡ false → (previousChar w k.next).ch ≡ get_or (behind w c) 4 0
+    fifth-apart : k.joined ≡ false → (previous_char_of w k.next).ch ≡ get_or (behind w c) 4 0
     fifth-apart j =
         let next : k.next ≡ back_by w c 4 =
-        next-is ∙ ap (λ (s : Step). s.next) last_step ∙ ap (λ (r : Cursor). back_by w r 1) (here-apart j) ∙ backBy-add w c 3 1 in
-        ap (λ (r : Cursor). (previousChar w r).ch) next ∙ ap (λ (s : Step). s.ch) (previousChar-behind w (back_by w c 4) (open-backBy w c 4 o))
-        ∙ ap (λ (cs : List ℕ). get_or cs 0 0) (behind-backBy w c 4) ∙ get_or-drop 4 (behind w c) 0 0
+        next-is ∙ ap (λ (s : Step). s.next) last_step ∙ ap (λ (r : Cursor). back_by w r 1) (here-apart j) ∙ back_by-add w c 3 1 in
+        ap (λ (r : Cursor). (previous_char_of w r).ch) next ∙ ap (λ (s : Step). s.ch) (previous_char_of-behind w (back_by w c 4) (open-back_by w c 4 o))
+        ∙ ap (λ (cs : List ℕ). get_or cs 0 0) (behind-back_by w c 4) ∙ get_or-drop 4 (behind w c) 0 0
 
     -- the mark after a y, by whether the character passed, v, is a vowel
     pub yken-joined : k.joined ≡ true → k.character ≡ true → {v : ℕ} → v ≡ char_at w k.next.cursor (k.here.cursor - k.next.cursor)
-        → (t : Bool) → vowel v ≡ t → cond t (passedTo k.here.cursor) notPassed ≡ passes w c (mark_of yken (behind w c))
+        → (t : Bool) → vowel v ≡ t → cond t (passed_to k.here.cursor) not_passed_of ≡ passes w c (mark_of yken (behind w c))
     yken-joined j f d t h = sym (yken-key ∙ rw (← fifth-joined j f, ← d, h))
 
     -- and without one, by whether the next, v, is
-    pub yken-apart : k.joined ≡ false → {v : ℕ} → v ≡ (previousChar w k.next).ch
-        → (t : Bool) → vowel v ≡ t → cond t (passedTo k.here.cursor) notPassed ≡ passes w c (mark_of yken (behind w c))
+    pub yken-apart : k.joined ≡ false → {v : ℕ} → v ≡ (previous_char_of w k.next).ch
+        → (t : Bool) → vowel v ≡ t → cond t (passed_to k.here.cursor) not_passed_of ≡ passes w c (mark_of yken (behind w c))
     yken-apart j d t h = sym (yken-key ∙ rw (← fifth-apart j, ← d, h))

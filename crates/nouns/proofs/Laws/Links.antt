@@ -7,17 +7,17 @@ use mathlib.Core.List.{List}
 use native.Mathlib.Omega.{arith}
 use lib.ListN.{drop}
 use Rattle.utf8.specs.declared.cursor.Cursor.{Cursor}
-use Rattle.utf8.specs.Steps.{moveTo}
+use Rattle.utf8.specs.Steps.{move_to}
 use Rattle.utf8.specs.Behind.{behind, back_by, Open}
-use Rattle.utf8.proofs.Laws.Behind.{behind-backBy, backBy-add, backBy-zero, backBy-less, moveTo-backBy, open-backBy}
+use Rattle.utf8.proofs.Laws.Behind.{behind-back_by, back_by-add, back_by-zero, back_by-less, move_to-back_by, open-back_by}
 use Rattle.theorems.specs.Simple.Grammar.{Out, fail, took, more, first}
 use Rattle.theorems.specs.Simple.Nouns.{Taking, perhaps, chain}
 use Rattle.keys.specs.declared.passed.Passed.{Passed}
 use Rattle.keys.specs.Passed.{passes}
 use Rattle.nouns.specs.declared.link.Link.{Link}
 use Rattle.nouns.specs.declared.link.Link.TheVariants.{Unfit, Ends, Calls}
-use Rattle.nouns.specs.Places.{placeAfter}
-use Rattle.nouns.specs.Link.{Turn, unfit, ends, calls, later, orTurn, link_of, closed, linked}
+use Rattle.nouns.specs.Places.{place_after}
+use Rattle.nouns.specs.Link.{Turn, unfit, ends, calls, later, or_turn, link_of, closed, linked}
 use Rattle.nouns.proofs.Laws.Passing.{Leads, leads-moved, leads-behind, not-moved, more-place}
 use Rattle.nouns.proofs.Laws.Turns.{chain-closed, calls-some, calls-within}
 
@@ -28,49 +28,49 @@ module _ (w : List ℕ) (c : Cursor) where
   linked-later : (k : ℕ) (t : Turn) → linked w (back_by w c k) t ≡ linked w c (later k t)
   unfolding linked later
   linked-later k unfit = refl
-  linked-later k (ends j) = ap (λ (x : Cursor). Ends x.cursor) (backBy-add w c k j)
-  linked-later k (calls j) = ap (λ (x : Cursor). Calls x.cursor) (backBy-add w c k j)
+  linked-later k (ends j) = ap (λ (x : Cursor). Ends x.cursor) (back_by-add w c k j)
+  linked-later k (calls j) = ap (λ (x : Cursor). Calls x.cursor) (back_by-add w c k j)
 
   -- a turn that takes nothing leads to the record's own place
   pub ends-here : Open w c → Ends c.cursor ≡ linked w c (ends 0)
   unfolding linked
-  ends-here h = sym (ap (λ (x : Cursor). Ends x.cursor) (backBy-zero w c h))
+  ends-here h = sym (ap (λ (x : Cursor). Ends x.cursor) (back_by-zero w c h))
 
   pub calls-here : Open w c → Calls c.cursor ≡ linked w c (calls 0)
   unfolding linked
-  calls-here h = sym (ap (λ (x : Cursor). Calls x.cursor) (backBy-zero w c h))
+  calls-here h = sym (ap (λ (x : Cursor). Calls x.cursor) (back_by-zero w c h))
 
 module _ (w : List ℕ) (c : Cursor) (f : Taking) (r : Turn) where
   -- past a mark that does not fit
   pub or-none : {p : Passed} (q : ℕ → Turn) {l : Link} → p ≡ passes w c (f (behind w c)) → p.moved ≡ false → l ≡ linked w c r
-      → l ≡ linked w c (orTurn (f (behind w c)) q r)
-  unfolding orTurn
-  or-none q is stays e = e ∙ sym (ap (λ (o : Out). linked w c (orTurn o q r)) (not-moved w c (f (behind w c)) is stays))
+      → l ≡ linked w c (or_turn (f (behind w c)) q r)
+  unfolding or_turn
+  or-none q is stays e = e ∙ sym (ap (λ (o : Out). linked w c (or_turn o q r)) (not-moved w c (f (behind w c)) is stays))
 
   -- behind a mark that leads to a record
   module _ {d : Cursor} (to : Leads w c (f (behind w c)) d) where
-    or_later : (q : ℕ → Turn) → linked w (back_by w c to.taken) (q to.taken) ≡ linked w c (orTurn (f (behind w c)) q r)
-    unfolding orTurn
-    or_later q = linked-later w c to.taken (q to.taken) ∙ sym (ap (λ (o : Out). linked w c (orTurn o q r)) to.is)
+    or_later : (q : ℕ → Turn) → linked w (back_by w c to.taken) (q to.taken) ≡ linked w c (or_turn (f (behind w c)) q r)
+    unfolding or_turn
+    or_later q = linked-later w c to.taken (q to.taken) ∙ sym (ap (λ (o : Out). linked w c (or_turn o q r)) to.is)
 
-    pub or-then : (q : List ℕ → Turn) {l : Link} → l ≡ linked w d (q (behind w d)) → l ≡ linked w c (orTurn (f (behind w c)) (λ k. q (drop k (behind w c))) r)
+    pub or-then : (q : List ℕ → Turn) {l : Link} → l ≡ linked w d (q (behind w d)) → l ≡ linked w c (or_turn (f (behind w c)) (λ k. q (drop k (behind w c))) r)
     or-then q e = e ∙ ap₂ (λ (x : Cursor) (ds : List ℕ). linked w x (q ds)) to.there (leads-behind w c to) ∙ or_later (λ k. q (drop k (behind w c)))
 
   module _ {p : Passed} (is : p ≡ passes w c (f (behind w c))) (moves : p.moved ≡ true) (h : Open w c) where
-    there : Leads w c (f (behind w c)) (moveTo c p.at)
+    there : Leads w c (f (behind w c)) (move_to c p.at)
     there = leads-moved w c (f (behind w c)) is moves refl
 
     -- where a turn ends behind it, or calls
-    pub or-ends : Ends p.at ≡ linked w c (orTurn (f (behind w c)) (λ k. ends 0) r)
-    unfolding moveTo
+    pub or-ends : Ends p.at ≡ linked w c (or_turn (f (behind w c)) (λ k. ends 0) r)
+    unfolding move_to
     or-ends =
-        ap (λ (x : Cursor). Ends x.cursor) there.there ∙ ends-here w (back_by w c there.taken) (open-backBy w c there.taken h)
+        ap (λ (x : Cursor). Ends x.cursor) there.there ∙ ends-here w (back_by w c there.taken) (open-back_by w c there.taken h)
         ∙ or_later there (λ k. ends 0)
 
-    pub or-calls : Calls p.at ≡ linked w c (orTurn (f (behind w c)) (λ k. calls 0) r)
-    unfolding moveTo
+    pub or-calls : Calls p.at ≡ linked w c (or_turn (f (behind w c)) (λ k. calls 0) r)
+    unfolding move_to
     or-calls =
-        ap (λ (x : Cursor). Calls x.cursor) there.there ∙ calls-here w (back_by w c there.taken) (open-backBy w c there.taken h)
+        ap (λ (x : Cursor). Calls x.cursor) there.there ∙ calls-here w (back_by w c there.taken) (open-back_by w c there.taken h)
         ∙ or_later there (λ k. calls 0)
 
 -- ---- the chain ----
@@ -85,14 +85,14 @@ more-first k (took j f) = refl
 pub record Called (w : List ℕ) (d e : Cursor) : Type 0 where
   pub less : e.cursor < d.cursor
   pub opens : Open w e
-  pub same : placeAfter w e (perhaps chain (behind w e)) ≡ placeAfter w d (perhaps chain (behind w d))
+  pub same : place_after w e (perhaps chain (behind w e)) ≡ place_after w d (perhaps chain (behind w d))
 
 module _ (w : List ℕ) (d : Cursor) (h : Open w d) where
   -- the place that the chain comes to, by its first turn
-  place-closed : (t : Turn) → link_of (behind w d) ≡ t → placeAfter w d (perhaps chain (behind w d)) ≡ placeAfter w d (first (closed t (behind w d)) (took 0 true))
+  place-closed : (t : Turn) → link_of (behind w d) ≡ t → place_after w d (perhaps chain (behind w d)) ≡ place_after w d (first (closed t (behind w d)) (took 0 true))
   unfolding perhaps
   place-closed t e =
-      ap (λ (o : Out). placeAfter w d (first o (took 0 true))) (chain-closed (behind w d) ∙ ap (λ (x : Turn). closed x (behind w d)) e)
+      ap (λ (o : Out). place_after w d (first o (took 0 true))) (chain-closed (behind w d) ∙ ap (λ (x : Turn). closed x (behind w d)) e)
 
   -- a turn that calls goes on so many characters back
   called : (k : ℕ) → link_of (behind w d) ≡ calls k → {e : Cursor} → e ≡ back_by w d k → Called w d e
@@ -100,13 +100,13 @@ module _ (w : List ℕ) (d : Cursor) (h : Open w d) where
   called k t to =
       let cs = behind w d in
       record {
-        less = rw to (backBy-less w d k (calls-some cs k t) (calls-within cs k t));
-        opens = rw to (open-backBy w d k h);
+        less = rw to (back_by-less w d k (calls-some cs k t) (calls-within cs k t));
+        opens = rw to (open-back_by w d k h);
         same =
-            ap (λ (x : Cursor). placeAfter w x (perhaps chain (behind w x))) to
-            ∙ ap (λ (ds : List ℕ). placeAfter w (back_by w d k) (perhaps chain ds)) (behind-backBy w d k)
+            ap (λ (x : Cursor). place_after w x (perhaps chain (behind w x))) to
+            ∙ ap (λ (ds : List ℕ). place_after w (back_by w d k) (perhaps chain ds)) (behind-back_by w d k)
             ∙ more-place w d k true (chain (drop k cs))
-            ∙ sym (place-closed (calls k) t ∙ ap (placeAfter w d) (more-first k (chain (drop k cs))));
+            ∙ sym (place-closed (calls k) t ∙ ap (place_after w d) (more-first k (chain (drop k cs))));
       }
 
   -- what a turn's answer says of the turn
@@ -123,27 +123,27 @@ module _ (w : List ℕ) (d : Cursor) (h : Open w d) where
         go (calls k) e i = c k e i
 
     -- it does not fit
-    pub chain-unfit : l ≡ Unfit → d.cursor ≡ placeAfter w d (perhaps chain (behind w d))
-    unfolding closed first placeAfter
+    pub chain-unfit : l ≡ Unfit → d.cursor ≡ place_after w d (perhaps chain (behind w d))
+    unfolding closed first place_after
     chain-unfit e =
-        turn (λ (t : Turn). d.cursor ≡ placeAfter w d (perhaps chain (behind w d)))
-        (λ t i. sym (ap (λ (x : Cursor). x.cursor) (backBy-zero w d h)) ∙ sym (place-closed unfit t))
+        turn (λ (t : Turn). d.cursor ≡ place_after w d (perhaps chain (behind w d)))
+        (λ t i. sym (ap (λ (x : Cursor). x.cursor) (back_by-zero w d h)) ∙ sym (place-closed unfit t))
         (λ k t i. let z : ◌≡◌ {A = ℕ} 0 1 = cc in absurd (omega arith))
         (λ k t i. let z : ◌≡◌ {A = ℕ} 0 1 = cc in absurd (omega arith))
 
     -- it ends at a place
-    pub chain-ends : {p : ℕ} → l ≡ Ends p → p ≡ placeAfter w d (perhaps chain (behind w d))
-    unfolding closed first placeAfter
+    pub chain-ends : {p : ℕ} → l ≡ Ends p → p ≡ place_after w d (perhaps chain (behind w d))
+    unfolding closed first place_after
     chain-ends {p} e =
-        turn (λ (t : Turn). p ≡ placeAfter w d (perhaps chain (behind w d)))
+        turn (λ (t : Turn). p ≡ place_after w d (perhaps chain (behind w d)))
         (λ t i. let z : ◌≡◌ {A = ℕ} 0 1 = cc in absurd (omega arith))
         (λ k t i. let there : p ≡ (back_by w d k).cursor = cc in there ∙ sym (place-closed (ends k) t))
         (λ k t i. let z : ◌≡◌ {A = ℕ} 0 1 = cc in absurd (omega arith))
 
     -- it is called at a place
-    pub chain-calls : {p : ℕ} {e : Cursor} → l ≡ Calls p → e ≡ moveTo d p → Called w d e
+    pub chain-calls : {p : ℕ} {e : Cursor} → l ≡ Calls p → e ≡ move_to d p → Called w d e
     chain-calls {p} {e} call to =
         turn (λ (t : Turn). Called w d e)
         (λ t i. let z : ◌≡◌ {A = ℕ} 0 1 = cc in absurd (omega arith))
         (λ k t i. let z : ◌≡◌ {A = ℕ} 0 1 = cc in absurd (omega arith))
-        (λ k t i. let at : p ≡ (back_by w d k).cursor = cc in called k t (to ∙ ap (moveTo d) at ∙ moveTo-backBy w d k))
+        (λ k t i. let at : p ≡ (back_by w d k).cursor = cc in called k t (to ∙ ap (move_to d) at ∙ move_to-back_by w d k))

@@ -14,57 +14,57 @@ use Rattle.encoding.specs.Text.{TextOf}
 use Rattle.utf8.specs.Characters.{before, back}
 use Rattle.utf8.specs.Steps.{same}
 use Rattle.utf8.proofs.Laws.Characters.{back-le, back-less, back-add, before_back}
-use Rattle.utf8.proofs.Laws.Behind.{backBy-back}
+use Rattle.utf8.proofs.Laws.Behind.{back_by-back}
 use Rattle.utf8.proofs.TextCharacters.{take_back}
-use Rattle.turkish.specs.Letters.{text, fromEnd, any}
+use Rattle.turkish.specs.Letters.{text, from_end, any}
 use Rattle.theorems.specs.Fronts.{one_of}
-use Rattle.theorems.specs.Simple.Harmony.{moreThanOneSyllable}
-use Rattle.theorems.specs.Simple.Stage.{stage, kept, keptLength}
+use Rattle.theorems.specs.Simple.Harmony.{more_than_one_syllable}
+use Rattle.theorems.specs.Simple.Stage.{stage, kept, kept_length}
 use Rattle.theorems.specs.Simple.Postlude.{postlude}
 use Rattle.theorems.specs.Simple.Nouns as nouns
-use Rattle.theorems.specs.Simple.Nouns.{Rest, whole, cut, parted, nounRest, restText, isCut, nounYes}
+use Rattle.theorems.specs.Simple.Nouns.{Rest, whole, cut, parted, noun_rest, rest_text, is_cut, noun_yes}
 use Rattle.theorems.specs.Simple.WholeRun as runs
-use Rattle.turkish.specs.Answers.{nounStage}
-use Rattle.turkish.specs.Calls.{chars, bytes, accepted, nounText, wholeText}
+use Rattle.turkish.specs.Answers.{noun_stage}
+use Rattle.turkish.specs.Calls.{chars, bytes, accepted, noun_text, whole_text}
 use Rattle.theorems.proofs.Laws.Accepted.{accepted-text, bytes-chars}
 use Rattle.theorems.proofs.Laws.Words.{bytes-append, text-back}
 use Rattle.theorems.proofs.Sizes.{kept-bytes}
-use Rattle.theorems.proofs.Laws.NounText.{staying, Rests, all, shorter, closer, nounRest-rests}
+use Rattle.theorems.proofs.Laws.NounText.{staying, Rests, all, shorter, closer, noun_rest-rests}
 use Rattle.theorems.proofs.PostludeRules.{parted-postlude}
-use Rattle.theorems.proofs.Source.Calls.{nounStage-yes, nounText-simple, wholeText-simple}
+use Rattle.theorems.proofs.Source.Calls.{noun_stage-yes, noun_text-simple, whole_text-simple}
 use Rattle.stages.specs.declared.stage.Outcome.{Outcome}
 use Rattle.repairs.specs.declared.postlude.Repair.{Repair}
-use Rattle.stages.specs.Outcome.{outcomeOf}
-use Rattle.repairs.specs.Repairs.{ending, repairText, unchanged, repairOf}
+use Rattle.stages.specs.Outcome.{outcome_of}
+use Rattle.repairs.specs.Repairs.{ending, repair_text, unchanged, repair_of}
 use Rattle.repairs.proofs.RepairText.{repair-text, repair-size}
 use Rattle.nouns.specs.declared.stage.Uninflected.{Uninflected}
-use Rattle.nouns.specs.Stage.{wholeLeft, cutLeft, left_at, uninflectedOf}
+use Rattle.nouns.specs.Stage.{whole_left, cut_left, left_at, uninflected_of}
 use Rattle.outputs.specs.declared.run.Run.{Run}
-use Rattle.outputs.specs.Runs.{runText, frontRun, leftRun, nounRun, repairedRun, wholeRunOf}
-use Rattle.outputs.proofs.Laws.RepairCalls.{before-keptLength}
+use Rattle.outputs.specs.Runs.{run_text, front_run, left_run, noun_run, repaired_run, whole_run_of}
+use Rattle.outputs.proofs.Laws.RepairCalls.{before-kept_length}
 
 -- ---- the text of a run ----
 
 -- a repair with nothing behind it has its own text
-repaired-text : (w : List ℕ) (r : Run) → r.from ≡ r.upto → runText w r ≡ repairText w r.repair
-unfolding runText
-repaired-text w r e = rw (e, sub_self r.upto) (append-nil (repairText w r.repair))
+repaired-text : (w : List ℕ) (r : Run) → r.from ≡ r.upto → run_text w r ≡ repair_text w r.repair
+unfolding run_text
+repaired-text w r e = rw (e, sub_self r.upto) (append-nil (repair_text w r.repair))
 
 module _ (w : List ℕ) (front from n : ℕ) where
   -- a front part and the bytes from a place on
-  parts-text : runText w (record { repair = unchanged front true; from = from; upto = n }) ≡ take front w ++ take (n - from) (drop from w)
-  unfolding runText repairText unchanged
+  parts-text : run_text w (record { repair = unchanged front true; from = from; upto = n }) ≡ take front w ++ take (n - from) (drop from w)
+  unfolding run_text repair_text unchanged
   parts-text = ap (λ (s : List ℕ). s ++ take (n - from) (drop from w)) (append-nil (take front w))
 
   -- a front part alone
-  front-text : from ≡ n → runText w (record { repair = unchanged front true; from = from; upto = n }) ≡ take front w
+  front-text : from ≡ n → run_text w (record { repair = unchanged front true; from = from; upto = n }) ≡ take front w
   front-text e = parts-text ∙ rw (e, sub_self n) (append-nil (take front w))
 
 -- ---- what is left of the bytes before a place ----
 
 -- na, ne, nda or nde has a letter
 staying-some : (j : ℕ) (cs : List ℕ) → one_of staying (take j cs) ≡ true → 0 < j
-unfolding one_of any staying same fromEnd text
+unfolding one_of any staying same from_end text
 staying-some zero cs o = absurd (false≢true o)
 staying-some (suc j) cs o = omega arith
 
@@ -95,101 +95,101 @@ module _ (w : List ℕ) (t : TextOf w) (m n : ℕ) (e : n ≡ back w (length w) 
       append_cancel_left (take k w) _ _ parts
 
   -- what the noun stage leaves of the first n bytes has its text
-  left-text : (r : Rest) → runText w (leftRun (left_at w (ending n) r) n) ≡ bytes (restText r (before w n))
-  unfolding ending left_at wholeLeft cutLeft leftRun restText back
+  left-text : (r : Rest) → run_text w (left_run (left_at w (ending n) r) n) ≡ bytes (rest_text r (before w n))
+  unfolding ending left_at whole_left cut_left left_run rest_text back
   left-text whole = front-text w _ _ n refl ∙ bytes-front 0
-  left-text (cut k) = front-text w _ _ n refl ∙ rw (backBy-back w n n k) (bytes-front k)
+  left-text (cut k) = front-text w _ _ n refl ∙ rw (back_by-back w n n k) (bytes-front k)
   left-text (parted j k) =
-      parts-text w _ _ n ∙ rw (backBy-back w n n (j + k), backBy-back w n n j, bytes-front (j + k), bytes-between j, ← bytes-append)
+      parts-text w _ _ n ∙ rw (back_by-back w n n (j + k), back_by-back w n n j, bytes-front (j + k), bytes-between j, ← bytes-append)
 
   -- so its run has the simple form's text
-  noun-leaves : runText w (nounRun w n) ≡ bytes (nouns.nounLeaves (before w n))
-  unfolding nounRun uninflectedOf ending nouns.nounLeaves
-  noun-leaves = left-text (nounRest (before w n))
+  noun-leaves : run_text w (noun_run w n) ≡ bytes (nouns.noun_leaves (before w n))
+  unfolding noun_run uninflected_of ending nouns.noun_leaves
+  noun-leaves = left-text (noun_rest (before w n))
 
   -- the postlude of what stands before a place
-  repair-before : (k : ℕ) → repairText w (repairOf w (back w n k)) ≡ bytes (postlude (drop k (before w n)))
+  repair-before : (k : ℕ) → repair_text w (repair_of w (back w n k)) ≡ bytes (postlude (drop k (before w n)))
   repair-before k =
       repair-text w (back w n k) (text-before k) (omega (arith, back-le w n k, place-le))
       ∙ ap (λ (cs : List ℕ). bytes (postlude cs)) (before_back w n k)
 
   -- what the noun stage leaves after the postlude: letters that stay begin before the place, and the postlude leaves them
-  repaired-left : {r : Rest} → nounRest (before w n) ≡ r → Rests (before w n) r
-      → runText w (repairedRun w (left_at w (ending n) r) n) ≡ bytes (postlude (restText r (before w n)))
-  unfolding repairedRun ending left_at wholeLeft cutLeft restText back nouns.nounLeaves
+  repaired-left : {r : Rest} → noun_rest (before w n) ≡ r → Rests (before w n) r
+      → run_text w (repaired_run w (left_at w (ending n) r) n) ≡ bytes (postlude (rest_text r (before w n)))
+  unfolding repaired_run ending left_at whole_left cut_left rest_text back nouns.noun_leaves
   repaired-left e all = rw (le-ltb n n (omega arith)) (repaired-text w _ refl ∙ repair-before 0)
-  repaired-left e (shorter k p q) = rw (le-ltb n n (omega arith), backBy-back w n n k) (repaired-text w _ refl ∙ repair-before k)
+  repaired-left e (shorter k p q) = rw (le-ltb n n (omega arith), back_by-back w n n k) (repaired-text w _ refl ∙ repair-before k)
   repaired-left e (closer j k o p q) =
       let less : back w n j < n = back-less w n j (staying-some j (before w n) o) (omega arith) in
       let stays : postlude (take j (before w n) ++ drop (j + k) (before w n)) ≡ take j (before w n) ++ drop (j + k) (before w n) =
       rw e at (parted-postlude (before w n) j k e) in
-      rw (stays, backBy-back w n n j, lt-ltb (back w n j) n less) (rw (backBy-back w n n j) at (left-text (parted j k)))
+      rw (stays, back_by-back w n n j, lt-ltb (back w n j) n less) (rw (back_by-back w n n j) at (left-text (parted j k)))
 
   -- so its run has the text of the postlude of the simple form's
-  repaired-leaves : runText w (repairedRun w (uninflectedOf w n) n) ≡ bytes (postlude (nouns.nounLeaves (before w n)))
-  unfolding uninflectedOf ending nouns.nounLeaves
-  repaired-leaves = repaired-left refl (nounRest-rests (before w n))
+  repaired-leaves : run_text w (repaired_run w (uninflected_of w n) n) ≡ bytes (postlude (nouns.noun_leaves (before w n)))
+  unfolding uninflected_of ending nouns.noun_leaves
+  repaired-leaves = repaired-left refl (noun_rest-rests (before w n))
 
 -- ---- of a word ----
 
 -- the code's yes is the noun stage's
-pub uninflectedOf-yes : (w : List ℕ) → (uninflectedOf w (length w)).yes ≡ (nounStage (chars w)).yes
-unfolding uninflectedOf left_at wholeLeft cutLeft nounYes isCut chars
-uninflectedOf-yes w = go (nounRest (chars w)) ∙ sym (nounStage-yes (chars w))
+pub uninflected_of-yes : (w : List ℕ) → (uninflected_of w (length w)).yes ≡ (noun_stage (chars w)).yes
+unfolding uninflected_of left_at whole_left cut_left noun_yes is_cut chars
+uninflected_of-yes w = go (noun_rest (chars w)) ∙ sym (noun_stage-yes (chars w))
   where
-    go : (r : Rest) → (left_at w (record { cursor = length w; limit = length w; limit_backward = 0 }) r).yes ≡ isCut r
+    go : (r : Rest) → (left_at w (record { cursor = length w; limit = length w; limit_backward = 0 }) r).yes ≡ is_cut r
     go whole = refl
     go (cut k) = refl
     go (parted j k) = refl
 
 module _ (w : List ℕ) (a : accepted w ≡ true) where
   -- the noun stage's run of an accepted word has the noun stage's text
-  pub nounRun-text : runText w (nounRun w (length w)) ≡ nounText w
+  pub noun_run-text : run_text w (noun_run w (length w)) ≡ noun_text w
   unfolding back chars
-  nounRun-text = noun-leaves w (accepted-text w a) 0 (length w) refl ∙ sym (nounText-simple w)
+  noun_run-text = noun-leaves w (accepted-text w a) 0 (length w) refl ∙ sym (noun_text-simple w)
 
   -- the whole run's text of a word of one syllable is the word
-  pub wholeText-short : moreThanOneSyllable (chars w) ≡ false → wholeText w ≡ w
-  unfolding runs.wholeLeaves
-  wholeText-short s = rw (wholeText-simple w, s) (bytes-chars w a)
+  pub whole_text-short : more_than_one_syllable (chars w) ≡ false → whole_text w ≡ w
+  unfolding runs.whole_leaves
+  whole_text-short s = rw (whole_text-simple w, s) (bytes-chars w a)
 
   -- of any other it is the text of the whole run's run
-  pub wholeRunOf-text : moreThanOneSyllable (chars w) ≡ true → (r : Run) → r ≡ wholeRunOf w → runText w r ≡ wholeText w
-  unfolding wholeRunOf frontRun keptLength runs.wholeLeaves
-  wholeRunOf-text s r e = rw (wholeText-simple w, s, e) (go (stage (chars w)).flag)
+  pub whole_run_of-text : more_than_one_syllable (chars w) ≡ true → (r : Run) → r ≡ whole_run_of w → run_text w r ≡ whole_text w
+  unfolding whole_run_of front_run kept_length runs.whole_leaves
+  whole_run_of-text s r e = rw (whole_text-simple w, s, e) (go (stage (chars w)).flag)
     where
       n : ℕ
-      n = keptLength w
+      n = kept_length w
 
-      go : (f : Bool) → runText w (cond f (repairedRun w (uninflectedOf w n) n) (frontRun n))
-          ≡ bytes (cond f (postlude (nouns.nounLeaves (kept (chars w)))) (kept (chars w)))
+      go : (f : Bool) → run_text w (cond f (repaired_run w (uninflected_of w n) n) (front_run n))
+          ≡ bytes (cond f (postlude (nouns.noun_leaves (kept (chars w)))) (kept (chars w)))
       go true =
           repaired-leaves w (accepted-text w a) (stage (chars w)).removed n refl
-          ∙ ap (λ (cs : List ℕ). bytes (postlude (nouns.nounLeaves cs))) (before-keptLength w)
+          ∙ ap (λ (cs : List ℕ). bytes (postlude (nouns.noun_leaves cs))) (before-kept_length w)
       go false = front-text w n n n refl ∙ kept-bytes w a
 
 -- the whole run's run, where what the suffix stage leaves is known
-module _ (w : List ℕ) (s : Outcome) (q : s ≡ outcomeOf w) where
+module _ (w : List ℕ) (s : Outcome) (q : s ≡ outcome_of w) where
   -- it goes by the flag and the text kept
-  wholeRunOf-outcome : wholeRunOf w ≡ cond s.flag (repairedRun w (uninflectedOf w s.kept) s.kept) (frontRun s.kept)
-  unfolding wholeRunOf outcomeOf
-  wholeRunOf-outcome = rw q
+  whole_run_of-outcome : whole_run_of w ≡ cond s.flag (repaired_run w (uninflected_of w s.kept) s.kept) (front_run s.kept)
+  unfolding whole_run_of outcome_of
+  whole_run_of-outcome = rw q
 
   -- where the flag is false it is the text kept
-  pub wholeRunOf-front : s.flag ≡ false → (r : Run) → r ≡ frontRun s.kept → r ≡ wholeRunOf w
-  wholeRunOf-front f r e = e ∙ rw (wholeRunOf-outcome, f)
+  pub whole_run_of-front : s.flag ≡ false → (r : Run) → r ≡ front_run s.kept → r ≡ whole_run_of w
+  whole_run_of-front f r e = e ∙ rw (whole_run_of-outcome, f)
 
-  module _ (f : s.flag ≡ true) (u : Uninflected) (p : u ≡ uninflectedOf w s.kept) where
+  module _ (f : s.flag ≡ true) (u : Uninflected) (p : u ≡ uninflected_of w s.kept) where
     -- else what the noun stage leaves, where letters stay behind a cut
-    pub wholeRunOf-left : u.from < s.kept → (r : Run) → r ≡ leftRun u s.kept → r ≡ wholeRunOf w
-    unfolding repairedRun
-    wholeRunOf-left l r e = e ∙ rw (wholeRunOf-outcome, f, ← p, lt-ltb u.from s.kept l)
+    pub whole_run_of-left : u.from < s.kept → (r : Run) → r ≡ left_run u s.kept → r ≡ whole_run_of w
+    unfolding repaired_run
+    whole_run_of-left l r e = e ∙ rw (whole_run_of-outcome, f, ← p, lt-ltb u.from s.kept l)
 
     -- or the postlude of that
-    pub wholeRunOf-repaired : s.kept ≤ u.from → (r : Repair) → r ≡ repairOf w u.front
-        → ◌≡◌ {A = Run} (record { repair = r; from = s.kept; upto = s.kept }) (wholeRunOf w)
-    unfolding repairedRun
-    wholeRunOf-repaired l r e = rw (wholeRunOf-outcome, f, ← p, le-ltb u.from s.kept l, e)
+    pub whole_run_of-repaired : s.kept ≤ u.from → (r : Repair) → r ≡ repair_of w u.front
+        → ◌≡◌ {A = Run} (record { repair = r; from = s.kept; upto = s.kept }) (whole_run_of w)
+    unfolding repaired_run
+    whole_run_of-repaired l r e = rw (whole_run_of-outcome, f, ← p, le-ltb u.from s.kept l, e)
 
 -- ---- the room ----
 
@@ -205,52 +205,52 @@ fits_more w r n room h (k, (m, (f, (u, l)))) = (k, (m, (f, (u, omega arith))))
 
 module _ (w : List ℕ) (n : ℕ) (h : n ≤ length w) where
   -- what the noun stage leaves of the first n bytes takes no more
-  left-fits : (r : Rest) → Fits w (leftRun (left_at w (ending n) r) n) n
-  unfolding ending left_at wholeLeft cutLeft leftRun unchanged
+  left-fits : (r : Rest) → Fits w (left_run (left_at w (ending n) r) n) n
+  unfolding ending left_at whole_left cut_left left_run unchanged
   left-fits whole = omega arith
-  left-fits (cut k) = rw (backBy-back w n n k) (omega (arith, back-le w n k))
+  left-fits (cut k) = rw (back_by-back w n n k) (omega (arith, back-le w n k))
   left-fits (parted j k) =
-      rw (backBy-back w n n (j + k), backBy-back w n n j, ← back-add w n j k) (omega (arith, back-le w n j, back-le w (back w n j) k))
+      rw (back_by-back w n n (j + k), back_by-back w n n j, ← back-add w n j k) (omega (arith, back-le w n j, back-le w (back w n j) k))
 
   -- so its run takes none
-  noun-fits : Fits w (nounRun w n) n
-  unfolding nounRun uninflectedOf ending
-  noun-fits = left-fits (nounRest (before w n))
+  noun-fits : Fits w (noun_run w n) n
+  unfolding noun_run uninflected_of ending
+  noun-fits = left-fits (noun_rest (before w n))
 
   -- and two more after the postlude
-  repaired-fits : Fits w (repairedRun w (uninflectedOf w n) n) (n + 2)
-  unfolding repairedRun nounRun leftRun unchanged
+  repaired-fits : Fits w (repaired_run w (uninflected_of w n) n) (n + 2)
+  unfolding repaired_run noun_run left_run unchanged
   repaired-fits = go (ltb u.from n)
     where
       u : Uninflected
-      u = uninflectedOf w n
+      u = uninflected_of w n
 
-      go : (t : Bool) → Fits w (cond t (leftRun u n) (record { repair = repairOf w u.front; from = n; upto = n })) (n + 2)
-      go true = fits_more w (leftRun u n) n (n + 2) (omega arith) noun-fits
+      go : (t : Bool) → Fits w (cond t (left_run u n) (record { repair = repair_of w u.front; from = n; upto = n })) (n + 2)
+      go true = fits_more w (left_run u n) n (n + 2) (omega arith) noun-fits
       go false = let s = repair-size w u.front noun-fits.0 in omega (arith, s.keeps, s.adds, noun-fits.1.1.1.1)
 
 -- what stands before the cut lies within the word
-pub uninflectedOf-front : (w : List ℕ) (n : ℕ) → n ≤ length w → (u : Uninflected) → u ≡ uninflectedOf w n → u.front ≤ length w
-unfolding nounRun leftRun unchanged
-uninflectedOf-front w n h u p = rw p (noun-fits w n h).0
+pub uninflected_of-front : (w : List ℕ) (n : ℕ) → n ≤ length w → (u : Uninflected) → u ≡ uninflected_of w n → u.front ≤ length w
+unfolding noun_run left_run unchanged
+uninflected_of-front w n h u p = rw p (noun-fits w n h).0
 
 -- an output of n bytes has room for what the noun stage leaves of a word
-pub leftRun-fits : (w : List ℕ) (room : ℕ) → length w ≤ room → (u : Uninflected) → u ≡ uninflectedOf w (length w)
-    → (r : Run) → r ≡ leftRun u (length w) → Fits w r room
-unfolding nounRun
-leftRun-fits w room l u p r q = rw (q, p) (fits_more w (nounRun w (length w)) (length w) room l (noun-fits w (length w) (omega arith)))
+pub left_run-fits : (w : List ℕ) (room : ℕ) → length w ≤ room → (u : Uninflected) → u ≡ uninflected_of w (length w)
+    → (r : Run) → r ≡ left_run u (length w) → Fits w r room
+unfolding noun_run
+left_run-fits w room l u p r q = rw (q, p) (fits_more w (noun_run w (length w)) (length w) room l (noun-fits w (length w) (omega arith)))
 
 -- and one of n + 2 for what the whole run leaves
-pub wholeRunOf-fits : (w : List ℕ) (room : ℕ) → length w + 2 ≤ room → (r : Run) → r ≡ wholeRunOf w → Fits w r room
-unfolding wholeRunOf keptLength frontRun unchanged
-wholeRunOf-fits w room l r q = rw q (go (stage (chars w)).flag)
+pub whole_run_of-fits : (w : List ℕ) (room : ℕ) → length w + 2 ≤ room → (r : Run) → r ≡ whole_run_of w → Fits w r room
+unfolding whole_run_of kept_length front_run unchanged
+whole_run_of-fits w room l r q = rw q (go (stage (chars w)).flag)
   where
     n : ℕ
-    n = keptLength w
+    n = kept_length w
 
     k : n ≤ length w
     k = back-le w (length w) (stage (chars w)).removed
 
-    go : (f : Bool) → Fits w (cond f (repairedRun w (uninflectedOf w n) n) (frontRun n)) room
-    go true = fits_more w (repairedRun w (uninflectedOf w n) n) (n + 2) room (omega (arith, k)) (repaired-fits w n k)
+    go : (f : Bool) → Fits w (cond f (repaired_run w (uninflected_of w n) n) (front_run n)) room
+    go true = fits_more w (repaired_run w (uninflected_of w n) n) (n + 2) room (omega (arith, k)) (repaired-fits w n k)
     go false = omega (arith, k)

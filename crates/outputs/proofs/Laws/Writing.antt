@@ -9,10 +9,10 @@ use lib.ListN.{length, take, drop, set, length-append, length-drop}
 use lib.Seq.{length-take-le, take_all, take-length, take-append_seam, drop-append-add, drop-drop, sets, sets-eq}
 use Rattle.writing.specs.Put.{put}
 use Rattle.repairs.specs.declared.postlude.Repair.{Repair}
-use Rattle.repairs.specs.Repairs.{repairText}
+use Rattle.repairs.specs.Repairs.{repair_text}
 use Rattle.turkish.specs.Calls.{written}
 use Rattle.outputs.specs.declared.run.Run.{Run}
-use Rattle.outputs.specs.Runs.{runText}
+use Rattle.outputs.specs.Runs.{run_text}
 
 -- ---- up to two bytes at a place ----
 
@@ -55,15 +55,15 @@ module _ (w : List ℕ) (r : Repair) (h : r.keep ≤ length w) (k : r.more ≤ 2
   length_more = length-take-le r.more (r.a ∷ r.b ∷ []) k
 
   -- and all
-  pub length-repair : r.keep + r.more ≡ length (repairText w r)
-  unfolding repairText
+  pub length-repair : r.keep + r.more ≡ length (repair_text w r)
+  unfolding repair_text
   length-repair = rw (length-append, length-kept, length_more)
 
   -- the bytes kept copied and the others stored after them, the text is written
   pub written-repair : (out copied last : List ℕ) → copied ≡ take (length (take r.keep w)) (take r.keep w) ++ drop (length (take r.keep w)) out
       → last ≡ take r.keep copied ++ (take r.more (r.a ∷ r.b ∷ []) ++ drop (r.keep + r.more) copied)
-      → last ≡ written (repairText w r) out
-  unfolding repairText
+      → last ≡ written (repair_text w r) out
+  unfolding repair_text
   written-repair out copied last c e = e ∙ written-append (take r.keep w) (take r.more (r.a ∷ r.b ∷ [])) out copied r.keep r.more length-kept length_more c
 
 -- a copy of s is s written
@@ -84,17 +84,17 @@ module _ (w : List ℕ) (r : Run) (h : r.from ≤ r.upto) (k : r.upto ≤ length
   length-between = length-take-le (r.upto - r.from) (drop r.from w) (omega (arith, length-drop r.from w))
 
   -- all of them behind the repair's text are the run's
-  pub run-parts : repairText w r.repair ++ take (r.upto - r.from) (take (r.upto - r.from) (drop r.from w)) ≡ runText w r
-  unfolding runText
+  pub run-parts : repair_text w r.repair ++ take (r.upto - r.from) (take (r.upto - r.from) (drop r.from w)) ≡ run_text w r
+  unfolding run_text
   run-parts = rw (take_all (r.upto - r.from) (take (r.upto - r.from) (drop r.from w)) (omega (arith, length-between)))
 
   -- so the run's text has its length
-  length_run : length (runText w r) ≡ length (repairText w r.repair) + (r.upto - r.from)
-  unfolding runText
+  length_run : length (run_text w r) ≡ length (repair_text w r.repair) + (r.upto - r.from)
+  unfolding run_text
   length_run = rw (length-append, length-between)
 
   -- the repair's text written and the others put behind it, the text is written
-  pub written-run : (out mid last : List ℕ) (n m : ℕ) → n ≡ length (repairText w r.repair) → mid ≡ written (repairText w r.repair) out
+  pub written-run : (out mid last : List ℕ) (n m : ℕ) → n ≡ length (repair_text w r.repair) → mid ≡ written (repair_text w r.repair) out
       → m ≡ n + (r.upto - r.from) → last ≡ put n (take (r.upto - r.from) (take (r.upto - r.from) (drop r.from w))) mid
-      → (m ≡ length (runText w r)) × (last ≡ written (runText w r) out)
+      → (m ≡ length (run_text w r)) × (last ≡ written (run_text w r) out)
   written-run out mid last n m e f g l = (omega (arith, length_run), l ∙ rw (e, f, put_written, run-parts))

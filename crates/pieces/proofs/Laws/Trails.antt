@@ -12,22 +12,22 @@ use Rattle.utf8.specs.declared.cursor.Cursor.{Cursor}
 use Rattle.utf8.specs.Behind.{back_by}
 use Rattle.turkish.specs.declared.endings.Piece.{Piece}
 use Rattle.theorems.specs.Simple.Pieces.{Taken}
-use Rattle.turkish.specs.PieceCalls.{Span, told, unused, mostPieces}
+use Rattle.turkish.specs.PieceCalls.{Span, told, unused, most_pieces}
 use Rattle.theorems.specs.PieceTerms.{EndToEnd, onward}
 use Rattle.theorems.proofs.Laws.PieceCounts.{Numbered, Each}
 use Rattle.stages.specs.declared.trail.Stop.{Stop}
 use Rattle.stages.specs.declared.trail.Trail.{Trail}
-use Rattle.stages.specs.Trail.{noStop, noTrail, behindTrail, trailOf}
-use Rattle.pieces.specs.Removed.{Stands, piece_of, count_of, entriesOf}
+use Rattle.stages.specs.Trail.{without_stop, no_trail, behind_trail, trail_of}
+use Rattle.pieces.specs.Removed.{Stands, piece_of, count_of, entries_of}
 
 -- a mark taken from a record on, as the trail holds it
-abbrev pub stopOf : List ℕ → Cursor → Taken → Stop
-stopOf w c t = record { kind = t.kind; at = (back_by w c t.size).cursor }
+abbrev pub stop_of : List ℕ → Cursor → Taken → Stop
+stop_of w c t = record { kind = t.kind; at = (back_by w c t.size).cursor }
 
 -- the pieces of marks taken from a record on
 unfoldable pub listed : List ℕ → Cursor → List Taken → List Piece
 listed w c [] = []
-listed w c (t ∷ ts) = piece_of w (stopOf w c t) c.cursor ∷ listed w (back_by w c t.size) ts
+listed w c (t ∷ ts) = piece_of w (stop_of w c t) c.cursor ∷ listed w (back_by w c t.size) ts
 
 -- as many entries that are not used
 unfoldable pub spare : ℕ → List Piece
@@ -46,17 +46,17 @@ three a b d = record { first = a; second = b; third = d }
 
 -- what stands in the trail of at most three marks: each mark, and none after them
 pub data Marks (w : List ℕ) (c : Cursor) : List Taken → Trail → Type 0 where
-  none : Marks w c [] (three noStop noStop noStop)
-  one : (t : Taken) → eqb t.kind 0 ≡ false → Marks w c (t ∷ []) (three (stopOf w c t) noStop noStop)
+  none : Marks w c [] (three without_stop without_stop without_stop)
+  one : (t : Taken) → eqb t.kind 0 ≡ false → Marks w c (t ∷ []) (three (stop_of w c t) without_stop without_stop)
   two : (t u : Taken) → eqb t.kind 0 ≡ false → eqb u.kind 0 ≡ false
-      → Marks w c (t ∷ u ∷ []) (three (stopOf w c t) (stopOf w (back_by w c t.size) u) noStop)
+      → Marks w c (t ∷ u ∷ []) (three (stop_of w c t) (stop_of w (back_by w c t.size) u) without_stop)
   all : (t u v : Taken) → eqb t.kind 0 ≡ false → eqb u.kind 0 ≡ false → eqb v.kind 0 ≡ false
       → Marks w c (t ∷ u ∷ v ∷ [])
-      (three (stopOf w c t) (stopOf w (back_by w c t.size) u) (stopOf w (back_by w (back_by w c t.size) u.size) v))
+      (three (stop_of w c t) (stop_of w (back_by w c t.size) u) (stop_of w (back_by w (back_by w c t.size) u.size) v))
 
 -- the marks that stand in a trail of so many are those that it was made of
-pub marks-trail : (w : List ℕ) (c : Cursor) (ts : List Taken) → Each Numbered ts → length ts ≤ mostPieces → Marks w c ts (trailOf w c ts)
-unfolding trailOf noTrail behindTrail mostPieces
+pub marks-trail : (w : List ℕ) (c : Cursor) (ts : List Taken) → Each Numbered ts → length ts ≤ most_pieces → Marks w c ts (trail_of w c ts)
+unfolding trail_of no_trail behind_trail most_pieces
 marks-trail w c [] s h = none
 marks-trail w c (t ∷ []) s h = one t (nonzero s (Memᴰ.head refl))
 marks-trail w c (t ∷ u ∷ []) s h = two t u (nonzero s (Memᴰ.head refl)) (nonzero s (Memᴰ.tail (Memᴰ.head refl)))
@@ -72,7 +72,7 @@ marks-trail w c (t ∷ u ∷ v ∷ x ∷ ts) s h = absurd (omega arith)
 module _ (w : List ℕ) (c : Cursor) where
   -- as many as there are marks
   pub count-marks : {ts : List Taken} {t : Trail} → Marks w c ts t → count_of t ≡ length ts
-  unfolding count_of noStop
+  unfolding count_of without_stop
   count-marks none = refl
   count-marks (one t a) = rw a
   count-marks (two t u a b) = rw (a, b)
@@ -80,8 +80,8 @@ module _ (w : List ℕ) (c : Cursor) where
 
   -- one for each, and then entries that are not used
   pub entries-marks : {ts : List Taken} {t : Trail} → c.cursor ≡ length w → Marks w c ts t
-      → entriesOf w t ≡ listed w c ts ++ spare (mostPieces - length ts)
-  unfolding entriesOf piece_of noStop listed spare mostPieces
+      → entries_of w t ≡ listed w c ts ++ spare (most_pieces - length ts)
+  unfolding entries_of piece_of without_stop listed spare most_pieces
   entries-marks e none = refl
   entries-marks e (one t a) = rw (a, e)
   entries-marks e (two t u a b) = rw (a, b, e)
@@ -117,8 +117,8 @@ pub record StandAll (w : List ℕ) (t : Trail) : Type 0 where
   pub third : Stands w t.third t.second.at
 
 -- no mark stands anywhere
-no_stop : (w : List ℕ) (end : ℕ) → end ≤ length w → Stands w noStop end
-unfolding noStop
+no_stop : (w : List ℕ) (end : ℕ) → end ≤ length w → Stands w without_stop end
+unfolding without_stop
 no_stop w end h = record { before = λ n. absurd (n refl); within = h }
 
 -- one that stands before a place of the word
@@ -128,17 +128,17 @@ a-stop w s end h l = record { before = λ n. h; within = l }
 -- so do the marks whose pieces lie end to end from the word's end
 pub stands-marks : (w : List ℕ) (c : Cursor) {m : ℕ} {ts : List Taken} {t : Trail} → Marks w c ts t
     → EndToEnd (length w) (map told (listed w c ts)) m → StandAll w t
-unfolding listed noStop
+unfolding listed without_stop
 stands-marks w c none r =
     record { first = no_stop w (length w) (omega arith); second = no_stop w 0 (omega arith); third = no_stop w 0 (omega arith) }
 stands-marks w c (one t a) r =
-    let s = stopOf w c t in
+    let s = stop_of w c t in
     let f = stop-falls w s c.cursor a r in
     record { first = a-stop w s (length w) f.0 (omega arith); second = no_stop w s.at (omega (arith, f.0)); third = no_stop w 0 (omega arith) }
 stands-marks w c (two t u a b) r =
     let d = back_by w c t.size in
-    let s = stopOf w c t in
-    let q = stopOf w d u in
+    let s = stop_of w c t in
+    let q = stop_of w d u in
     let f = stop-falls w s c.cursor a r in
     let g = stop-falls w q d.cursor b f.1 in
     record {
@@ -149,9 +149,9 @@ stands-marks w c (two t u a b) r =
 stands-marks w c (all t u v a b e) r =
     let d = back_by w c t.size in
     let k = back_by w d u.size in
-    let s = stopOf w c t in
-    let q = stopOf w d u in
-    let x = stopOf w k v in
+    let s = stop_of w c t in
+    let q = stop_of w d u in
+    let x = stop_of w k v in
     let f = stop-falls w s c.cursor a r in
     let g = stop-falls w q d.cursor b f.1 in
     let h = stop-falls w x k.cursor e g.1 in

@@ -4,7 +4,7 @@ use lib.ListN.{length}
 use borrow.Author.Rules.{rules}
 use Rattle.turkish.specs.PieceCalls.{unused}
 use Rattle.kinds.proofs.Laws.Written.{length-mapped}
-use Rattle.probe.proofs.Flat.{flatRemoved-three}
+use Rattle.probe.proofs.Flat.{flat_removed_of-three}
 use Rattle.probe.proofs.flat_removed.Statement.{statement}
 use Rattle.probe.proofs.flat_removed.Tie as tie
 
@@ -18,7 +18,7 @@ returns c =
     let first = second.before in
     let s = first.before.before.before.before in
     let three : length s.args.t1.pieces ≡ 3 = search (rules, length-mapped, s.well-formed.0.1.1.1.1) in
-    flatRemoved-three s.args.t1 three first.number_of_lem.ensures second.number-of2.ensures third.number-of3.ensures
+    flat_removed_of-three s.args.t1 three first.number_of_lem.ensures second.number-of2.ensures third.number-of3.ensures
     k.joining-of.ensures l.joining-of2.ensures c.joining-of3.ensures
 
 pub flat-removed-spec : {M : Type 1} → statement M

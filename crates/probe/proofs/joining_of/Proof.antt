@@ -2,17 +2,17 @@
 use mathlib.Core.Path.{◌≡◌, sym, ap, ◌∙◌}
 use borrow.Author.Rules.{rules}
 use Rattle.turkish.specs.declared.endings.Kind.{Kind}
-use Rattle.turkish.specs.PieceCalls.{kindJoined}
-use Rattle.probe.specs.Flat.{joinedNumber}
+use Rattle.turkish.specs.PieceCalls.{kind_joined}
+use Rattle.probe.specs.Flat.{joined_number}
 use Rattle.probe.proofs.joining_of.Statement.{statement}
 use Rattle.probe.proofs.joining_of.Tie as tie
 
 -- equal kinds have equal numbers of their joinings
-same_number : {j k : Kind} → k ≡ j → joinedNumber (kindJoined j) ≡ joinedNumber (kindJoined k)
-same_number e = sym (ap (λ (k : Kind). joinedNumber (kindJoined k)) e)
+same_number : {j k : Kind} → k ≡ j → joined_number (kind_joined j) ≡ joined_number (kind_joined k)
+same_number e = sym (ap (λ (k : Kind). joined_number (kind_joined k)) e)
 
 pub joining-of-spec : {M : Type 1} → statement M
-unfolding kindJoined joinedNumber
+unfolding kind_joined joined_number
 joining-of-spec =
     tie.close
     (tie.spec (λ c. search rules) (λ c κs. search rules) (λ c. search rules) (λ c. search rules) (λ c κs. search rules) (λ c. search rules)

@@ -8,29 +8,29 @@ use native.Mathlib.Omega.{arith}
 use lib.ListN.{length, get_or, length-reverse}
 use lib.Dec.{ltb, eqb, eqb-suc-suc}
 use borrow.Author.Tests.{ltb-true, eqb-true, eqb-false, ne_eqb}
-use Rattle.utf8.specs.Characters.{lastWidth, lastChar, before}
-use Rattle.utf8.specs.Steps.{same, standsAt}
+use Rattle.utf8.specs.Characters.{last_width_of, last_char, before}
+use Rattle.utf8.specs.Steps.{same, stands_at_of}
 use Rattle.encoding.proofs.Laws.Booleans.{and_left, and_right, and-false}
-use Rattle.utf8.proofs.Laws.Steps.{standsAt-cons}
+use Rattle.utf8.proofs.Laws.Steps.{stands_at_of-cons}
 use Rattle.utf8.proofs.Laws.Characters.{before-zero, before-step}
-use Rattle.keys.proofs.Laws.Literal.{ascii, ascii-reverseAux, lastWidth-byte, lastChar-byte, lastWidth-char}
+use Rattle.keys.proofs.Laws.Literal.{ascii, ascii-reverse_aux, last_width_of-byte, last_char-byte, last_width_of-char}
 
 -- ---- one character ----
 
 module _ (w : List ℕ) (c : ℕ) (l : c < length w) where
   -- a test of it against an ASCII one, and then of the place before it, is a test of the byte at c
-  lastChar-eqb-byte : (b : ℕ) (f : ℕ → Bool) → b < 0x80
-      → (eqb (lastChar w (suc c)) b && f (suc c - lastWidth w (suc c))) ≡ (eqb (get_or w c 0) b && f c)
-  lastChar-eqb-byte b f h = go (eqb (get_or w c 0) b) refl
+  last_char-eqb-byte : (b : ℕ) (f : ℕ → Bool) → b < 0x80
+      → (eqb (last_char w (suc c)) b && f (suc c - last_width_of w (suc c))) ≡ (eqb (get_or w c 0) b && f c)
+  last_char-eqb-byte b f h = go (eqb (get_or w c 0) b) refl
     where
-      go : (t : Bool) → eqb (get_or w c 0) b ≡ t → (eqb (lastChar w (suc c)) b && f (suc c - lastWidth w (suc c))) ≡ (t && f c)
+      go : (t : Bool) → eqb (get_or w c 0) b ≡ t → (eqb (last_char w (suc c)) b && f (suc c - last_width_of w (suc c))) ≡ (t && f c)
       go true e =
           let k : get_or w c 0 ≡ b = eqb-true (get_or w c 0) b e in
-          let o : lastWidth w (suc c) ≡ 1 = lastWidth-byte w c l (omega arith) in
+          let o : last_width_of w (suc c) ≡ 1 = last_width_of-byte w c l (omega arith) in
           let i : suc c - 1 ≡ c = omega arith in
-          rw (o, i, lastChar-byte w c l o, e)
+          rw (o, i, last_char-byte w c l o, e)
       go false e =
-          rw (ne_eqb (lastChar w (suc c)) b (λ k. eqb-false (get_or w c 0) b e (sym (lastChar-byte w c l (lastWidth-char w c l (omega arith))) ∙ k)))
+          rw (ne_eqb (last_char w (suc c)) b (λ k. eqb-false (get_or w c 0) b e (sym (last_char-byte w c l (last_width_of-char w c l (omega arith))) ∙ k)))
 
 -- ---- the literal ----
 
@@ -41,25 +41,25 @@ and-swap false y z = sym (and-false y)
 
 -- a literal of the ASCII bytes r, from their end, and then the bytes s stands at the word's start with s at place c exactly where the
 -- characters before c are exactly r and s stands at c
-same-standsAt-around : (w r s : List ℕ) (c : ℕ) → ascii r ≡ true → c ≤ length w
-    → (same (before w c) r && standsAt w c s) ≡ (eqb c (length r) && standsAt w 0 (reverse_aux r s))
+same-stands_at_of-around : (w r s : List ℕ) (c : ℕ) → ascii r ≡ true → c ≤ length w
+    → (same (before w c) r && stands_at_of w c s) ≡ (eqb c (length r) && stands_at_of w 0 (reverse_aux r s))
 unfolding same ascii
-same-standsAt-around w [] s zero a l = rw (before-zero w)
-same-standsAt-around w [] s (suc c) a l = rw (before-step w (suc c) (omega arith), ne_eqb (suc c) 0 (λ e. omega arith))
-same-standsAt-around w (b ∷ r) s zero a l = rw (before-zero w, ne_eqb 0 (suc (length r)) (λ e. omega arith))
-same-standsAt-around w (b ∷ r) s (suc c) a l =
+same-stands_at_of-around w [] s zero a l = rw (before-zero w)
+same-stands_at_of-around w [] s (suc c) a l = rw (before-step w (suc c) (omega arith), ne_eqb (suc c) 0 (λ e. omega arith))
+same-stands_at_of-around w (b ∷ r) s zero a l = rw (before-zero w, ne_eqb 0 (suc (length r)) (λ e. omega arith))
+same-stands_at_of-around w (b ∷ r) s (suc c) a l =
     let h : b < 0x80 = ltb-true b 0x80 (and_left (ltb b 0x80) (ascii r) a) in
     rw (
       eqb-suc-suc c (length r),
-      ← same-standsAt-around w r (b ∷ s) c (and_right (ltb b 0x80) (ascii r) a) (omega arith),
-      standsAt-cons w c b s (omega arith),
+      ← same-stands_at_of-around w r (b ∷ s) c (and_right (ltb b 0x80) (ascii r) a) (omega arith),
+      stands_at_of-cons w c b s (omega arith),
       before-step w (suc c) (omega arith),
-      lastChar-eqb-byte w c (omega arith) b (λ i. same (before w i) r) h,
-    ) (and-swap (eqb (get_or w c 0) b) (same (before w c) r) (standsAt w (suc c) s))
+      last_char-eqb-byte w c (omega arith) b (λ i. same (before w i) r) h,
+    ) (and-swap (eqb (get_or w c 0) b) (same (before w c) r) (stands_at_of w (suc c) s))
 
 -- the first n bytes are exactly an ASCII literal where the characters before place n are exactly the literal's, from its end
-pub same-standsAt : (w s : List ℕ) (n : ℕ) → ascii s ≡ true → n ≤ length w → same (before w n) (reverse s) ≡ (eqb n (length s) && standsAt w 0 s)
-unfolding ascii standsAt same
-same-standsAt w s n a l =
-    let around = same-standsAt-around w (reverse s) [] n (ascii-reverseAux s [] a refl) l in
+pub same-stands_at_of : (w s : List ℕ) (n : ℕ) → ascii s ≡ true → n ≤ length w → same (before w n) (reverse s) ≡ (eqb n (length s) && stands_at_of w 0 s)
+unfolding ascii stands_at_of same
+same-stands_at_of w s n a l =
+    let around = same-stands_at_of-around w (reverse s) [] n (ascii-reverse_aux s [] a refl) l in
     cc (length-reverse s, reverse-reverse s, around, and-true (same (before w n) (reverse s)))

@@ -11,19 +11,19 @@ use lib.Dec.{eqb}
 use borrow.Author.Tests.{lt-ltb, le-ltb, eq-eqb, ne_eqb}
 use Rattle.encoding.proofs.Laws.Booleans.{cond_both}
 use Rattle.utf8.specs.Characters.{before}
-use Rattle.utf8.specs.Steps.{standsAt}
+use Rattle.utf8.specs.Steps.{stands_at_of}
 use Rattle.utf8.proofs.Laws.Characters.{back-le, before_back}
-use Rattle.utf8.proofs.Laws.Behind.{behind-before, backBy-back, open-start}
-use Rattle.turkish.specs.Letters.{text, fromEnd, any, has, starts}
-use Rattle.turkish.specs.Vowels.{lastVowel, vowels, vowel}
-use Rattle.theorems.specs.Simple.Postlude.{reserved, gained, hardenings, hardIn, hard}
+use Rattle.utf8.proofs.Laws.Behind.{behind-before, back_by-back, open-start}
+use Rattle.turkish.specs.Letters.{text, from_end, any, has, starts}
+use Rattle.turkish.specs.Vowels.{last_vowel_of, vowels, vowel}
+use Rattle.theorems.specs.Simple.Postlude.{reserved, gained, hardenings, hard_in, hard}
 use Rattle.theorems.proofs.PostludeRules.{gained-elim}
 use Rattle.keys.specs.declared.seen.Seen.{Seen}
 use Rattle.repairs.specs.declared.postlude.Repair.{Repair}
 use Rattle.keys.specs.Seen.{seen_at, Sees}
-use Rattle.repairs.specs.Repairs.{ending, unchanged, followed, appended, hardened, repairOf}
+use Rattle.repairs.specs.Repairs.{ending, unchanged, followed, appended, hardened, repair_of}
 use Rattle.keys.proofs.Laws.Literal.{ascii}
-use Rattle.repairs.proofs.Laws.LiteralWhole.{same-standsAt}
+use Rattle.repairs.proofs.Laws.LiteralWhole.{same-stands_at_of}
 
 -- ---- a choice ----
 
@@ -41,16 +41,16 @@ has-neither v a b p q = rw (ne_eqb v a p, ne_eqb v b q)
 
 -- the characters before a place are a reserved word where the bytes before it are
 reserved-bytes : (w : List ℕ) (n : ℕ) → n ≤ length w
-    → reserved (before w n) ≡ (eqb n 2 && standsAt w 0 (text "ad") || eqb n 5 && standsAt w 0 (text "soyad"))
-unfolding reserved fromEnd text ascii
-reserved-bytes w n h = rw (same-standsAt w (text "ad") n refl h, same-standsAt w (text "soyad") n refl h)
+    → reserved (before w n) ≡ (eqb n 2 && stands_at_of w 0 (text "ad") || eqb n 5 && stands_at_of w 0 (text "soyad"))
+unfolding reserved from_end text ascii
+reserved-bytes w n h = rw (same-stands_at_of w (text "ad") n refl h, same-stands_at_of w (text "soyad") n refl h)
 
 -- two bytes are one where they are `ad`
-pub reserved-two : (w : List ℕ) (n : ℕ) → n ≤ length w → n ≡ 2 → reserved (before w n) ≡ standsAt w 0 (text "ad")
-reserved-two w n h e = reserved-bytes w n h ∙ rw e (or-false (standsAt w 0 (text "ad")))
+pub reserved-two : (w : List ℕ) (n : ℕ) → n ≤ length w → n ≡ 2 → reserved (before w n) ≡ stands_at_of w 0 (text "ad")
+reserved-two w n h e = reserved-bytes w n h ∙ rw e (or-false (stands_at_of w 0 (text "ad")))
 
 -- five bytes are one where they are `soyad`
-pub reserved-five : (w : List ℕ) (n : ℕ) → n ≤ length w → n ≡ 5 → reserved (before w n) ≡ standsAt w 0 (text "soyad")
+pub reserved-five : (w : List ℕ) (n : ℕ) → n ≤ length w → n ≡ 5 → reserved (before w n) ≡ stands_at_of w 0 (text "soyad")
 reserved-five w n h e = reserved-bytes w n h ∙ rw e
 
 -- any other number of bytes is none
@@ -88,7 +88,7 @@ gained-vowelless v f =
 
 -- what holds of p, ç, t, k and of the character itself holds of it hardened
 hard-elim : (P : ℕ → Type 0) (c : ℕ) → P 0x70 → P 0xE7 → P 0x74 → P 0x6B → P c → P (hard c)
-unfolding hard hardIn hardenings fromEnd text
+unfolding hard hard_in hardenings from_end text
 hard-elim P c p q r s z =
     let is : ℕ → Bool = λ k. starts (k ∷ []) (c ∷ []) in
     cond_both P (is 0x62) _ _ p (cond_both P (is 0x63) _ _ q (cond_both P (is 0x64) _ _ r (cond_both P (is 0x11F) _ _ s z)))
@@ -101,16 +101,16 @@ hard-short c =
 -- ---- the vowel that characters gain ----
 
 -- it goes by whether the first character is d or g, and by the others
-appended-getD : (cs : List ℕ) → appended cs ≡ cond (eqb (get_or cs 0 0) 0x64 || eqb (get_or cs 0 0) 0x67) (gained (lastVowel (drop 1 cs))) 0
+appended-get_or : (cs : List ℕ) → appended cs ≡ cond (eqb (get_or cs 0 0) 0x64 || eqb (get_or cs 0 0) 0x67) (gained (last_vowel_of (drop 1 cs))) 0
 unfolding appended has any text
-appended-getD [] = refl
-appended-getD (c ∷ cs) = rw (or-false (eqb c 0x67))
+appended-get_or [] = refl
+appended-get_or (c ∷ cs) = rw (or-false (eqb c 0x67))
 
 -- the vowel that characters gain has two bytes at most
 pub appended-short : (cs : List ℕ) → appended cs < 0x800
 unfolding appended
 appended-short [] = omega arith
-appended-short (c ∷ cs) = cond_both (λ n. n < 0x800) (has (text "dg") c) (gained (lastVowel cs)) 0 (gained-short (lastVowel cs)) (omega arith)
+appended-short (c ∷ cs) = cond_both (λ n. n < 0x800) (has (text "dg") c) (gained (last_vowel_of cs)) 0 (gained-short (last_vowel_of cs)) (omega arith)
 
 -- ---- what is seen from the end of the first n bytes ----
 
@@ -128,20 +128,20 @@ module _ (w : List ℕ) (n : ℕ) (s : Seen) (e : s ≡ seen_at w (ending n)) wh
   -- which begins no later than n
   pub one-le : s.one ≤ n
   unfolding seen_at ending
-  one-le = rw (e, backBy-back w n n 1) (back-le w n 1)
+  one-le = rw (e, back_by-back w n n 1) (back-le w n 1)
 
   -- and before which stand the others
   one-before : before w s.one ≡ drop 1 (before w n)
   unfolding seen_at ending
-  one-before = rw (e, backBy-back w n n 1) (before_back w n 1)
+  one-before = rw (e, back_by-back w n n 1) (before_back w n 1)
 
   -- where that character is d or g, the bytes gain a vowel by the last one before it
-  pub appended-after : (v r : ℕ) → eqb s.last 0x64 || eqb s.last 0x67 ≡ true → v ≡ lastVowel (before w s.one) → r ≡ gained v → r ≡ appended (before w n)
-  appended-after v r t f g = rw (appended-getD (before w n), ← last-before, t, ← one-before, ← f) g
+  pub appended-after : (v r : ℕ) → eqb s.last 0x64 || eqb s.last 0x67 ≡ true → v ≡ last_vowel_of (before w s.one) → r ≡ gained v → r ≡ appended (before w n)
+  appended-after v r t f g = rw (appended-get_or (before w n), ← last-before, t, ← one-before, ← f) g
 
   -- elsewhere they gain none
   pub appended-not : eqb s.last 0x64 || eqb s.last 0x67 ≡ false → 0 ≡ appended (before w n)
-  appended-not t = rw (appended-getD (before w n), ← last-before, t)
+  appended-not t = rw (appended-get_or (before w n), ← last-before, t)
 
 -- ---- the repair ----
 
@@ -157,18 +157,18 @@ unfolding followed
 followed-two keep v h = rw (le-ltb v 0x80 h)
 
 -- a reserved word stays
-pub repairOf-reserved : (w : List ℕ) (n : ℕ) (r : Repair) → reserved (before w n) ≡ true → r ≡ unchanged n false → r ≡ repairOf w n
-unfolding repairOf
-repairOf-reserved w n r e f = rw e f
+pub repair_of-reserved : (w : List ℕ) (n : ℕ) (r : Repair) → reserved (before w n) ≡ true → r ≡ unchanged n false → r ≡ repair_of w n
+unfolding repair_of
+repair_of-reserved w n r e f = rw e f
 
 -- any other gains its vowel
-pub repairOf-gains : (w : List ℕ) (n v : ℕ) (r : Repair) → reserved (before w n) ≡ false
-    → v ≡ appended (before w n) → (v ≡ 0 → ⊥) → r ≡ followed n v → r ≡ repairOf w n
-unfolding repairOf
-repairOf-gains w n v r e f d g = rw (e, ← f, ne_eqb v 0 d) g
+pub repair_of-gains : (w : List ℕ) (n v : ℕ) (r : Repair) → reserved (before w n) ≡ false
+    → v ≡ appended (before w n) → (v ≡ 0 → ⊥) → r ≡ followed n v → r ≡ repair_of w n
+unfolding repair_of
+repair_of-gains w n v r e f d g = rw (e, ← f, ne_eqb v 0 d) g
 
 -- or its last character hardens
-pub repairOf-hardens : (w : List ℕ) (n v : ℕ) (r : Repair) → reserved (before w n) ≡ false
-    → v ≡ appended (before w n) → v ≡ 0 → r ≡ hardened w n (before w n) → r ≡ repairOf w n
-unfolding repairOf
-repairOf-hardens w n v r e f z g = rw (e, ← f, eq-eqb v 0 z) g
+pub repair_of-hardens : (w : List ℕ) (n v : ℕ) (r : Repair) → reserved (before w n) ≡ false
+    → v ≡ appended (before w n) → v ≡ 0 → r ≡ hardened w n (before w n) → r ≡ repair_of w n
+unfolding repair_of
+repair_of-hardens w n v r e f z g = rw (e, ← f, eq-eqb v 0 z) g

@@ -11,22 +11,22 @@ use lib.Dec.{eqb}
 use Rattle.utf8.specs.declared.cursor.Cursor.{Cursor}
 use Rattle.utf8.specs.Characters.{back}
 use Rattle.utf8.specs.Behind.{behind, back_by, deleted, Open}
-use Rattle.utf8.proofs.Laws.Behind.{behind-before, backBy-back, open-start}
+use Rattle.utf8.proofs.Laws.Behind.{behind-before, back_by-back, open-start}
 use Rattle.theorems.specs.Simple.Grammar.{Out, took, Command, mark, ◌then◌, ◌or◌, run}
-use Rattle.turkish.specs.Letters.{text, fromEnd}
+use Rattle.turkish.specs.Letters.{text, from_end}
 use Rattle.theorems.specs.Simple.Marks.{marked, yUm, sUn, yUz, sUnUz, lAr, nUz, DUr, cAsInA, yDU, ysA, ymUs, yken}
-use Rattle.theorems.specs.Simple.Stage.{person, branch1, branch2, branch3, branch4, branch5, branch6, branches, staged, stage, keptLength}
-use Rattle.theorems.specs.Simple.Pieces.{Taken, Trace, none, keeps, total, moreTrace, afterTrace, firstTrace, traceOf, trace, summed, taken_of, stageMarks}
+use Rattle.theorems.specs.Simple.Stage.{person, branch1, branch2, branch3, branch4, branch5, branch6, branches, staged, stage, kept_length}
+use Rattle.theorems.specs.Simple.Pieces.{Taken, Trace, none, keeps, total, more_trace, after_trace, first_trace, trace_of, trace, summed, taken_of, stage_marks}
 use Rattle.turkish.specs.Calls.{chars}
 use Rattle.theorems.proofs.Laws.Outcome.{Flagged, unfit, fits}
 use Rattle.theorems.proofs.Laws.Traces.{run-trace}
 use Rattle.vowels.specs.declared.harmony.Accord.{Accord}
-use Rattle.vowels.specs.Accord.{noAccord}
+use Rattle.vowels.specs.Accord.{no_accord}
 use Rattle.keys.specs.declared.seen.Seen.{Seen}
 use Rattle.keys.specs.Seen.{seen_at}
 use Rattle.theorems.proofs.Laws.Tests.{every}
-use Rattle.keys.specs.Ends.{isU, is_a, isKMN}
-use Rattle.keys.proofs.Laws.Ends.{lastPasses, begins, trace-unfit}
+use Rattle.keys.specs.Ends.{is_U_of, is_a, is_kmn_of}
+use Rattle.keys.proofs.Laws.Ends.{last_passes, begins, trace-unfit}
 use Rattle.keys.proofs.Laws.Sees.{seen-c}
 use Rattle.marks.specs.declared.marked.Marked.{Marked}
 use Rattle.marks.specs.declared.marked.Marked.TheVariants.{To}
@@ -34,53 +34,53 @@ use Rattle.marks.specs.Reach.{reach}
 use Rattle.stages.specs.declared.trail.Way.{Way}
 use Rattle.stages.specs.declared.trail.Branch.{Branch}
 use Rattle.stages.specs.declared.trail.Branch.TheVariants.{Fits, Unfit}
-use Rattle.stages.specs.Groups.{personMark, firstEnds, fifthEnds}
-use Rattle.stages.specs.Trail.{noTrail, trailOf, heardAlong, way_of, along, cut_to}
-use Rattle.stages.specs.Outcome.{whole, outcome, outcomeOf}
-use Rattle.stages.proofs.Laws.Trails.{Steps, onlyMarks, steps-group, first_step, fits-unfit}
+use Rattle.stages.specs.Groups.{person_mark, first_ends_of, fifth_ends}
+use Rattle.stages.specs.Trail.{no_trail, trail_of, heard_along, way_of, along, cut_to}
+use Rattle.stages.specs.Outcome.{whole, outcome, outcome_of}
+use Rattle.stages.proofs.Laws.Trails.{Steps, only_marks, steps-group, first_step, fits-unfit}
 
 -- `unset` after the second of two commands cuts no more
 pub cut-unset : (w : List ℕ) (c : Cursor) (o : Trace) (q : ℕ → Trace)
-    → cut_to w c (afterTrace o q) ≡ cut_to w c (afterTrace o (λ k. afterTrace (q k) (λ j. keeps [] false)))
-unfolding cut_to afterTrace moreTrace
+    → cut_to w c (after_trace o q) ≡ cut_to w c (after_trace o (λ k. after_trace (q k) (λ j. keeps [] false)))
+unfolding cut_to after_trace more_trace
 cut-unset w c none q = refl
 cut-unset w c (keeps ts f) q = go (q (total ts))
   where
-    go : (o : Trace) → cut_to w c (moreTrace ts f o) ≡ cut_to w c (moreTrace ts f (afterTrace o (λ j. keeps [] false)))
+    go : (o : Trace) → cut_to w c (more_trace ts f o) ≡ cut_to w c (more_trace ts f (after_trace o (λ j. keeps [] false)))
     go none = refl
-    go (keeps us g) = ap (λ (vs : List Taken). cut_to w c (moreTrace ts f (keeps vs g))) (sym (append-nil us))
+    go (keeps us g) = ap (λ (vs : List Taken). cut_to w c (more_trace ts f (keeps vs g))) (sym (append-nil us))
 
 -- ---- groups ----
 
 -- a group may be taken in parts
-first-assoc : (o p q : Trace) → firstTrace (firstTrace o p) q ≡ firstTrace o (firstTrace p q)
-unfolding firstTrace
+first-assoc : (o p q : Trace) → first_trace (first_trace o p) q ≡ first_trace o (first_trace p q)
+unfolding first_trace
 first-assoc none p q = refl
 first-assoc (keeps ts f) p q = refl
 
 module _ (cs : List ℕ) where
   -- a person's ending or nothing
-  person-first : firstTrace (trace personMark cs) (keeps [] true) ≡ trace person cs
+  person-first : first_trace (trace person_mark cs) (keeps [] true) ≡ trace person cs
   unfolding trace person
   person-first = simp first-assoc
 
   -- where no person's ending fits, ymUs_ stands alone
-  pub person-absent : trace personMark cs ≡ none → trace (person then mark ymUs) cs ≡ trace (mark ymUs) cs
-  unfolding trace afterTrace firstTrace total
+  pub person-absent : trace person_mark cs ≡ none → trace (person then mark ymUs) cs ≡ trace (mark ymUs) cs
+  unfolding trace after_trace first_trace total
   person-absent fails =
-      ap (λ (o : Trace). afterTrace o (λ k. traceOf ymUs (drop k cs)))
-      (sym person-first ∙ ap (λ (o : Trace). firstTrace o (keeps [] true)) fails)
-      ∙ go (traceOf ymUs cs)
+      ap (λ (o : Trace). after_trace o (λ k. trace_of ymUs (drop k cs)))
+      (sym person-first ∙ ap (λ (o : Trace). first_trace o (keeps [] true)) fails)
+      ∙ go (trace_of ymUs cs)
     where
-      go : (o : Trace) → moreTrace [] true o ≡ o
-      go none = unfold moreTrace in refl
-      go (keeps us g) = unfold moreTrace in refl
+      go : (o : Trace) → more_trace [] true o ≡ o
+      go none = unfold more_trace in refl
+      go (keeps us g) = unfold more_trace in refl
 
 -- a person's ending that fits is a step
-pub steps-person : (w : List ℕ) (c : Cursor) {r : Marked} {d : Cursor} {k : ℕ} {h : Accord} → r ≡ reach w c (trace personMark (behind w c))
+pub steps-person : (w : List ℕ) (c : Cursor) {r : Marked} {d : Cursor} {k : ℕ} {h : Accord} → r ≡ reach w c (trace person_mark (behind w c))
     → r ≡ To d k h → Steps w c (trace person (behind w c)) d k h
-unfolding onlyMarks
-steps-person w c is to = rw (person-first (behind w c)) at (first_step w c (steps-group w c personMark refl is to) (keeps [] true))
+unfolding only_marks
+steps-person w c is to = rw (person-first (behind w c)) at (first_step w c (steps-group w c person_mark refl is to) (keeps [] true))
 
 -- ---- what is seen from a record ----
 
@@ -101,36 +101,36 @@ along-seen = from-seen along
 
 -- ---- the last letters with which a branch may begin ----
 
-pub first-begins : begins firstEnds branch1 ≡ true
-unfolding begins every lastPasses firstEnds isU is_a isKMN branch1 ymUs yDU ysA yken marked fromEnd text
+pub first-begins : begins first_ends_of branch1 ≡ true
+unfolding begins every last_passes first_ends_of is_U_of is_a is_kmn_of branch1 ymUs yDU ysA yken marked from_end text
 first-begins = refl
 
 pub second-begins : begins is_a branch2 ≡ true
-unfolding begins every lastPasses is_a branch2 cAsInA marked fromEnd text
+unfolding begins every last_passes is_a branch2 cAsInA marked from_end text
 second-begins = refl
 
 pub third-begins : begins (λ a. eqb a (code "r")) branch3 ≡ true
-unfolding begins every lastPasses branch3 lAr marked fromEnd text
+unfolding begins every last_passes branch3 lAr marked from_end text
 third-begins = refl
 
 pub fourth-begins : begins (λ a. eqb a (code "z")) branch4 ≡ true
-unfolding begins every lastPasses branch4 nUz marked fromEnd text
+unfolding begins every last_passes branch4 nUz marked from_end text
 fourth-begins = refl
 
-pub fifth-begins : begins fifthEnds branch5 ≡ true
-unfolding begins every lastPasses fifthEnds branch5 sUnUz yUz sUn yUm marked fromEnd text
+pub fifth-begins : begins fifth_ends branch5 ≡ true
+unfolding begins every last_passes fifth_ends branch5 sUnUz yUz sUn yUm marked from_end text
 fifth-begins = refl
 
 pub sixth-begins : begins (λ a. eqb a (code "r")) branch6 ≡ true
-unfolding begins every lastPasses branch6 DUr marked fromEnd text
+unfolding begins every last_passes branch6 DUr marked from_end text
 sixth-begins = refl
 
 -- ---- the stage ----
 
 -- a branch that keeps nothing is passed over
 pub passed_over : (b q : Command) (cs : List ℕ) → trace b cs ≡ none → trace (b or q) cs ≡ trace q cs
-unfolding trace firstTrace
-passed_over b q cs e = ap (λ (o : Trace). firstTrace o (trace q cs)) e
+unfolding trace first_trace
+passed_over b q cs e = ap (λ (o : Trace). first_trace o (trace q cs)) e
 
 -- a branch that is cut keeps these marks, and its flag is f
 record Cut (w : List ℕ) (c : Cursor) (o : Trace) (f : Bool) (d : Cursor) (t : Way) : Type 0 where
@@ -161,14 +161,14 @@ cut-unfit w c (keeps ts f) is fails = fits-unfit is fails
 
 -- the stage's answer where a branch fits
 outcome-keeps : (w : List ℕ) {o : Trace} {f : Bool} {d : Cursor} {t : Way} (a : Cut w (whole w) o f d t) → trace branches (chars w) ≡ keeps a.marks f
-    → outcome d.limit true f t.trail t.heard ≡ outcomeOf w
-unfolding outcomeOf keptLength stage staged stageMarks taken_of summed whole way_of
+    → outcome d.limit true f t.trail t.heard ≡ outcome_of w
+unfolding outcome_of kept_length stage staged stage_marks taken_of summed whole way_of
 outcome-keeps w a e =
-    rw (run-trace branches (chars w), e, a.there, a.along-is, backBy-back w (length w) (length w) (total a.marks))
+    rw (run-trace branches (chars w), e, a.there, a.along-is, back_by-back w (length w) (length w) (total a.marks))
 
 -- and where none does
-pub outcome-none : (w : List ℕ) → trace branches (chars w) ≡ none → outcome (length w) false true noTrail noAccord ≡ outcomeOf w
-unfolding outcomeOf keptLength stage staged stageMarks taken_of summed back trailOf heardAlong
+pub outcome-none : (w : List ℕ) → trace branches (chars w) ≡ none → outcome (length w) false true no_trail no_accord ≡ outcome_of w
+unfolding outcome_of kept_length stage staged stage_marks taken_of summed back trail_of heard_along
 outcome-none w e = rw (run-trace branches (chars w), e)
 
 -- ---- at the word's end ----
@@ -202,10 +202,10 @@ module _ (w : List ℕ) {s : Seen} (is : s ≡ seen_at w (whole w)) where
       cuts = cut_fits w (whole w) (trace b (chars w)) (rw (run-trace b (chars w)) at flag) (at-end b e) to
 
       -- the stage's answer where it is the last one left
-      pub outcome-last : trace branches (chars w) ≡ trace b (chars w) → outcome d.limit true f t.trail t.heard ≡ outcomeOf w
+      pub outcome-last : trace branches (chars w) ≡ trace b (chars w) → outcome d.limit true f t.trail t.heard ≡ outcome_of w
       outcome-last left = outcome-keeps w cuts (left ∙ cuts.keeps-is)
 
       -- or one before others
-      pub outcome-cut : (q : Command) → trace branches (chars w) ≡ trace (b or q) (chars w) → outcome d.limit true f t.trail t.heard ≡ outcomeOf w
-      unfolding trace firstTrace
-      outcome-cut q left = outcome-keeps w cuts (left ∙ ap (λ (o : Trace). firstTrace o (trace q (chars w))) cuts.keeps-is)
+      pub outcome-cut : (q : Command) → trace branches (chars w) ≡ trace (b or q) (chars w) → outcome d.limit true f t.trail t.heard ≡ outcome_of w
+      unfolding trace first_trace
+      outcome-cut q left = outcome-keeps w cuts (left ∙ ap (λ (o : Trace). first_trace o (trace q (chars w))) cuts.keeps-is)

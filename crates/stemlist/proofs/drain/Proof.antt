@@ -6,15 +6,15 @@ use mathlib.Core.Bool.{false≢true}
 use native.Mathlib.Omega.{arith}
 use lib.ListN.{length, take, drop, length-take}
 use borrow.Author.Rules.{rules}
-use Rattle.listing.specs.Feed.{most, fedLine}
-use Rattle.listing.proofs.Laws.OneCall.{feeding-call, call-turn, fedLine-end}
+use Rattle.listing.specs.Feed.{most, fed_line}
+use Rattle.listing.proofs.Laws.OneCall.{feeding-call, call-turn, fed_line-end}
 use Rattle.stemlist.proofs.drain.Statement.{statement}
 use Rattle.stemlist.proofs.drain.Tie as tie
 
 abbrev invariant-loop : tie.invariant-loop
 invariant-loop folded block line₀ held out₀ used₀ h₀ line out used h =
     (length line ≡ most) × (length out ≡ length out₀) × (used ≤ length block) × (h ≤ most)
-    × (fedLine (take h line) (drop used block) ≡ fedLine (take held line₀) block)
+    × (fed_line (take h line) (drop used block) ≡ fed_line (take held line₀) block)
 
 abbrev decreases-loop : tie.decreases-loop
 decreases-loop folded block line₀ held out₀ used₀ h₀ line out used h = length block - used
@@ -75,7 +75,7 @@ returns-2 : tie.Need-returns-2 invariant-loop decreases-loop
 returns-2 c =
     let l = c.before.loop in
     let block = c.before.before.before.before.before.args.block.now in
-    let t = sym (fedLine-end (take l.h l.line) block l.used (omega arith)) ∙ l.invariant.4 in
+    let t = sym (fed_line-end (take l.h l.line) block l.used (omega arith)) ∙ l.invariant.4 in
     (omega arith, (λ _. omega (arith, length-take l.h l.line, ap length t), λ _. t))
 
 pub drain-spec : {M : Type 1} → statement M

@@ -6,7 +6,7 @@ use mathlib.Core.Logic.{⊎_elim}
 use native.Mathlib.Omega.{arith}
 use lib.ListN.{length}
 use borrow.Author.Rules.{rules}
-use Rattle.lines.specs.Room.{lineRoom}
+use Rattle.lines.specs.Room.{line_room}
 use Rattle.listing.specs.Feed.{limit, most}
 use Rattle.stemlist.proofs.main.Statement.{statement}
 use Rattle.stemlist.proofs.main.Tie as tie
@@ -25,7 +25,7 @@ unfolding most limit
 slice-aggregate-list-3 c = search rules
 
 list-requires : tie.Need-list-requires invariant-loop decreases-loop
-unfolding most lineRoom limit
+unfolding most line_room limit
 list-requires c κs = search rules
 
 loop-holds : tie.Need-loop-init invariant-loop decreases-loop
@@ -37,7 +37,7 @@ unfolding most limit
 slice-aggregate-list-argument-2 c = search rules
 
 list-argument-requires : tie.Need-list-argument-requires invariant-loop decreases-loop
-unfolding most lineRoom limit
+unfolding most line_room limit
 list-argument-requires c κs = search rules
 
 pub main_spec : {M : Type 1} → statement M

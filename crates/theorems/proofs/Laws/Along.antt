@@ -9,9 +9,9 @@ use lib.Seq.{drop-drop}
 use Rattle.encoding.proofs.Laws.Booleans.{and_left, and_right}
 use Rattle.theorems.specs.Simple.Grammar.{Mark, mark_of, Command, mark, ◌then◌, ◌or◌, nothing, unset}
 use Rattle.theorems.specs.Simple.Stage.{branches}
-use Rattle.theorems.specs.Simple.Pieces.{Taken, total, takenBy, traceOf, trace, stageMarks}
+use Rattle.theorems.specs.Simple.Pieces.{Taken, total, taken_by, trace_of, trace, stage_marks}
 use Rattle.theorems.proofs.Laws.Outcome.{Post, post-map}
-use Rattle.theorems.proofs.Laws.Keeping.{Keeping, keeping, keeping-map, keeping-first, keeping-mark, keeping-after, keeping-taken, everyMark}
+use Rattle.theorems.proofs.Laws.Keeping.{Keeping, keeping, keeping-map, keeping-first, keeping-mark, keeping-after, keeping-taken, every_mark}
 
 -- of marks taken one after the other before a place, P holds of each at the characters before it
 pub data Along (P : List ℕ → Taken → Type 0) : List ℕ → List Taken → Type 0 where
@@ -34,20 +34,20 @@ module _ {P : List ℕ → Taken → Type 0} where
   along-append {cs} {us = us} (one t {ts} p x) y = one t p (along-append {us = us} x (subst (λ (ds : List ℕ). Along P ds us) (sym (drop-drop (total ts) t.size cs)) y))
 
   -- where a mark that passes a test takes what P holds of
-  module _ (f : Mark → Bool) (passes : (m : Mark) (cs : List ℕ) → f m ≡ true → Post (λ k. P cs (takenBy m cs k)) (mark_of m cs)) where
+  module _ (f : Mark → Bool) (passes : (m : Mark) (cs : List ℕ) → f m ≡ true → Post (λ k. P cs (taken_by m cs k)) (mark_of m cs)) where
     -- P holds of the marks that a command of such marks keeps
-    trace-along : (p : Command) (cs : List ℕ) → everyMark f p ≡ true → Keeping (Along P cs) (trace p cs)
-    unfolding trace traceOf everyMark
-    trace-along (mark m) cs e = keeping-mark m cs (post-map (λ k g p. one (takenBy m cs k) p none) (passes m cs e))
+    trace-along : (p : Command) (cs : List ℕ) → every_mark f p ≡ true → Keeping (Along P cs) (trace p cs)
+    unfolding trace trace_of every_mark
+    trace-along (mark m) cs e = keeping-mark m cs (post-map (λ k g p. one (taken_by m cs k) p none) (passes m cs e))
     trace-along (p then q) cs e =
-        keeping-after (λ k. trace q (drop k cs)) (trace-along p cs (and_left (everyMark f p) (everyMark f q) e)) λ ts x.
-        keeping-map (λ us y. along-append x y) (trace-along q (drop (total ts) cs) (and_right (everyMark f p) (everyMark f q) e))
+        keeping-after (λ k. trace q (drop k cs)) (trace-along p cs (and_left (every_mark f p) (every_mark f q) e)) λ ts x.
+        keeping-map (λ us y. along-append x y) (trace-along q (drop (total ts) cs) (and_right (every_mark f p) (every_mark f q) e))
     trace-along (p or q) cs e =
-        keeping-first (trace-along p cs (and_left (everyMark f p) (everyMark f q) e)) (trace-along q cs (and_right (everyMark f p) (everyMark f q) e))
+        keeping-first (trace-along p cs (and_left (every_mark f p) (every_mark f q) e)) (trace-along q cs (and_right (every_mark f p) (every_mark f q) e))
     trace-along nothing cs e = keeping [] none
     trace-along unset cs e = keeping [] none
 
     -- so of those that the stage keeps, where its marks pass
-    pub stageMarks-along : (cs : List ℕ) → everyMark f branches ≡ true → Along P cs (stageMarks cs)
-    unfolding stageMarks
-    stageMarks-along cs e = keeping-taken none (trace-along branches cs e)
+    pub stage_marks-along : (cs : List ℕ) → every_mark f branches ≡ true → Along P cs (stage_marks cs)
+    unfolding stage_marks
+    stage_marks-along cs e = keeping-taken none (trace-along branches cs e)

@@ -6,12 +6,12 @@ use mathlib.Core.Bool.{true, false, cond, not, ◌||◌, false≢true}
 use mathlib.Core.List.{List, [], ◌∷◌}
 use native.Mathlib.Omega.{arith}
 use lib.ListN.{length, drop}
-use Rattle.turkish.specs.Letters.{text, fromEnd, starts}
+use Rattle.turkish.specs.Letters.{text, from_end, starts}
 use Rattle.theorems.specs.Simple.Harmony.{harmony}
 use Rattle.theorems.specs.Simple.Grammar.{Out, fail, took, among, Joint, joining, mark_of, Command, mark, ◌then◌, ◌or◌, nothing, unset, try, run}
-use Rattle.theorems.specs.Simple.Marks.{unjoined, byY, marked, yUm, sUn, yUz, sUnUz, lAr, nUz, DUr, cAsInA, yDU, ysA, ymUs, yken}
+use Rattle.theorems.specs.Simple.Marks.{unjoined, by_y, marked, yUm, sUn, yUz, sUnUz, lAr, nUz, DUr, cAsInA, yDU, ysA, ymUs, yken}
 use Rattle.theorems.specs.Simple.Stage.{person, branch1, branch2, branch3, branch4, branch5, branch6, branches, staged, stage}
-use Rattle.theorems.specs.Fronts.{mostRemoved}
+use Rattle.theorems.specs.Fronts.{most_removed}
 use Rattle.theorems.proofs.Laws.Outcome.{Post, unfit, fits, post-map, post-first, post-asking, post-cond, post-then, post-joining}
 
 -- ---- the bounds ----
@@ -85,8 +85,8 @@ run-least p cs = post-map (λ k f h. h.0) (run-between p cs)
 -- ---- the stage ----
 
 -- the stage's command takes at least one character and at most 15
-branches-between : (1 ≤ least branches) × (most branches ≤ mostRemoved)
-unfolding mostRemoved least most branches branch1 branch2 branch3 branch4 branch5 branch6 person try unjoined byY marked yUm sUn yUz sUnUz lAr nUz DUr cAsInA yDU ysA ymUs yken fromEnd text
+branches-between : (1 ≤ least branches) × (most branches ≤ most_removed)
+unfolding most_removed least most branches branch1 branch2 branch3 branch4 branch5 branch6 person try unjoined by_y marked yUm sUn yUz sUnUz lAr nUz DUr cAsInA yDU ysA ymUs yken from_end text
 branches-between = (omega arith, omega arith)
 
 -- so does the stage where it says yes
@@ -102,7 +102,7 @@ unfolding stage
 stage-taken cs = (staged-between (run-between branches cs)).0
 
 -- so at most 15
-pub stage-most : (cs : List ℕ) → (stage cs).removed ≤ mostRemoved
+pub stage-most : (cs : List ℕ) → (stage cs).removed ≤ most_removed
 stage-most cs = omega (arith, stage-taken cs, branches-between)
 
 -- where the stage says yes it removes something

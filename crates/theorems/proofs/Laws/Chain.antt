@@ -6,11 +6,11 @@ use mathlib.Core.Bool.{Bool, true, false, cond}
 use mathlib.Core.List.{List}
 use native.Mathlib.Omega.{arith}
 use lib.ListN.{length, drop, length-drop}
-use Rattle.turkish.specs.Letters.{text, fromEnd, starts}
+use Rattle.turkish.specs.Letters.{text, from_end, starts}
 use Rattle.theorems.specs.Simple.Grammar.{Out, fail, took, after, first, more, asking, among, joining, mark_of, mark, run}
 use Rattle.theorems.specs.Simple.Marks.{unjoined, marked, lAr}
 use Rattle.theorems.specs.Simple.NounMarks.{possessives, sU, nUn, DA, ki}
-use Rattle.theorems.specs.Simple.Nouns.{Taking, both, either, perhaps, plural, possessed, owned, link, chainWithin, chain}
+use Rattle.theorems.specs.Simple.Nouns.{Taking, both, either, perhaps, plural, possessed, owned, link, chain_within, chain}
 use Rattle.theorems.proofs.Laws.Outcome.{Post, unfit, fits, post-all, post-map, post-both, post-then}
 use Rattle.theorems.proofs.Laws.Leaves.{run-leaves}
 use Rattle.theorems.proofs.Laws.NounText.{chain-takes}
@@ -47,8 +47,8 @@ alike-perhaps x = record { alike = λ cs h. ap (λ (o : Out). first o (took 0 tr
 
 -- `ki` takes its two letters, where there are two
 pub ki-takes : (cs : List ℕ) → Post (λ k. (k ≡ 2) × (k ≤ length cs)) (mark_of ki cs)
-unfolding run mark_of ki marked asking among after more joining unjoined fromEnd text
-ki-takes cs = post-both (two (starts (fromEnd "ki") cs)) (post-map (λ k f h. omega arith) (run-leaves (mark ki) 0 cs (omega arith)))
+unfolding run mark_of ki marked asking among after more joining unjoined from_end text
+ki-takes cs = post-both (two (starts (from_end "ki") cs)) (post-map (λ k f h. omega arith) (run-leaves (mark ki) 0 cs (omega arith)))
   where
     two : (t : Bool) → Post (λ k. k ≡ 2) (after (cond t (took 2 true) fail) (λ k. took 0 true))
     two true = fits 2 refl
@@ -93,16 +93,16 @@ link-alike f g cs h =
 -- ---- the chain ----
 
 -- any number of calls deep does that is more than the characters
-pub chain-depth : (m n : ℕ) (cs : List ℕ) → length cs < m → length cs < n → chainWithin m cs ≡ chainWithin n cs
-unfolding chainWithin
+pub chain-depth : (m n : ℕ) (cs : List ℕ) → length cs < m → length cs < n → chain_within m cs ≡ chain_within n cs
+unfolding chain_within
 chain-depth zero n cs h k = absurd (omega arith)
 chain-depth (suc m) zero cs h k = absurd (omega arith)
-chain-depth (suc m) (suc n) cs h k = link-alike (chainWithin m) (chainWithin n) cs (λ ds l. chain-depth m n ds (omega arith) (omega arith))
+chain-depth (suc m) (suc n) cs h k = link-alike (chain_within m) (chain_within n) cs (λ ds l. chain-depth m n ds (omega arith) (omega arith))
 
 -- and the chain is its text, inside which a call is the chain
 pub chain-text : (cs : List ℕ) → chain cs ≡ link chain cs
-unfolding chain chainWithin
-chain-text cs = link-alike (chainWithin (length cs)) chain cs (λ ds l. chain-depth (length cs) (suc (length ds)) ds l (omega arith))
+unfolding chain chain_within
+chain-text cs = link-alike (chain_within (length cs)) chain cs (λ ds l. chain-depth (length cs) (suc (length ds)) ds l (omega arith))
 
 -- where it fits it takes two characters at least, and no more than there are
 pub chain-two : (cs : List ℕ) → Post (λ k. (2 ≤ k) × (k ≤ length cs)) (chain cs)

@@ -10,7 +10,7 @@ use Rattle.encoding.proofs.Laws.Booleans.{and-false}
 use Rattle.turkish.specs.PieceCalls.{Span}
 use Rattle.theorems.specs.PieceTerms.{EndToEnd, empty, onward, between, covering}
 use Rattle.theorems.proofs.Laws.PieceForms.{sum, sum-perm}
-use Rattle.theorems.proofs.Laws.EndToEnd.{endToEnd-le}
+use Rattle.theorems.proofs.Laws.EndToEnd.{end_to_end-le}
 
 -- none where it is less than m
 between-low : (m n i : ℕ) → i < m → between m n i ≡ 0
@@ -58,12 +58,12 @@ covering-sum i [] = refl
 covering-sum i (p ∷ ps) = rw (covering-sum i ps)
 
 -- pieces end to end have each byte between their ends once
-pub endToEnd-covering : (i : ℕ) {m n : ℕ} {ps : List Span} → EndToEnd n ps m → covering i ps ≡ between m n i
+pub end_to_end-covering : (i : ℕ) {m n : ℕ} {ps : List Span} → EndToEnd n ps m → covering i ps ≡ between m n i
 unfolding covering
-endToEnd-covering i {m} empty = sym (between_none m i)
-endToEnd-covering i {m} {n} (onward p {ps} a b r) =
-    ap (λ (k : ℕ). between p.first (p.last + 1) i + k) (endToEnd-covering i r)
-    ∙ between_split m p.first (p.last + 1) i (endToEnd-le r) (omega arith) ∙ ap (λ (k : ℕ). between m k i) b
+end_to_end-covering i {m} empty = sym (between_none m i)
+end_to_end-covering i {m} {n} (onward p {ps} a b r) =
+    ap (λ (k : ℕ). between p.first (p.last + 1) i + k) (end_to_end-covering i r)
+    ∙ between_split m p.first (p.last + 1) i (end_to_end-le r) (omega arith) ∙ ap (λ (k : ℕ). between m k i) b
 
 -- in every order
 pub covering-perm : (i : ℕ) {ps qs : List Span} → Permᴰ ps qs → covering i ps ≡ covering i qs

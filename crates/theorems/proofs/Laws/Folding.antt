@@ -7,7 +7,7 @@ use lib.Dec.{eqb, leb}
 use borrow.Author.Tests.{leb-true, le-leb, eqb-true}
 use Rattle.encoding.proofs.Laws.Booleans.{and_left, and_right, cond_cases}
 use Rattle.turkish.specs.Letters.{any, has}
-use Rattle.turkish.specs.Fold.{Letter, foldBy, foldChar, fold}
+use Rattle.turkish.specs.Fold.{Letter, fold_by, fold_char, fold}
 
 -- c is no capital of these rows
 abbrev pub NoCapital : List Letter → ℕ → Type 0
@@ -18,22 +18,22 @@ abbrev pub NotAToZ : ℕ → Type 0
 NotAToZ c = 0x41 ≤ c → c ≤ 0x5A → ⊥
 
 -- what holds of each row's small letter, of any other one of a to z, and of a character that stays, holds of a character's fold
-pub foldBy-elim : (P : ℕ → Type 0) (ls : List Letter) (c : ℕ)
+pub fold_by-elim : (P : ℕ → Type 0) (ls : List Letter) (c : ℕ)
     → ((l : Letter) → Memᴰ l ls → c ≡ l.capital → P l.small)
     → (NoCapital ls c → 0x41 ≤ c → c ≤ 0x5A → P (c + 0x20))
     → (NoCapital ls c → NotAToZ c → P c)
-    → P (foldBy ls c)
-unfolding foldBy has any
-foldBy-elim P [] c row capital stays =
+    → P (fold_by ls c)
+unfolding fold_by has any
+fold_by-elim P [] c row capital stays =
     cond_cases P (leb 0x41 c && leb c 0x5A)
     (λ e. capital refl (leb-true 0x41 c (and_left (leb 0x41 c) (leb c 0x5A) e)) (leb-true c 0x5A (and_right (leb 0x41 c) (leb c 0x5A) e)))
     (λ e. stays refl (λ h k. false≢true (sym e ∙ rw (le-leb 0x41 c h, le-leb c 0x5A k))))
-foldBy-elim P (l ∷ ls) c row capital stays =
+fold_by-elim P (l ∷ ls) c row capital stays =
     cond_cases P (eqb c l.capital) (λ e. row l (Memᴰ.head refl) (eqb-true c l.capital e)) λ e.
-    foldBy-elim P ls c (λ k m. row k (Memᴰ.tail m)) (λ o. capital (rw (e, o))) (λ o. stays (rw (e, o)))
+    fold_by-elim P ls c (λ k m. row k (Memᴰ.tail m)) (λ o. capital (rw (e, o))) (λ o. stays (rw (e, o)))
 
 -- a text told the other way folds to its fold told the other way
 pub reverse-fold : (cs : List ℕ) → reverse (fold cs) ≡ fold (reverse cs)
 unfolding fold
 reverse-fold [] = refl
-reverse-fold (c ∷ cs) = rw (reverse-cons (foldChar c) (map foldChar cs), reverse-cons c cs, map-append, reverse-fold cs)
+reverse-fold (c ∷ cs) = rw (reverse-cons (fold_char c) (map fold_char cs), reverse-cons c cs, map-append, reverse-fold cs)

@@ -9,17 +9,17 @@ use native.Mathlib.Numerals.{add-one}
 use native.Mathlib.Omega.{arith}
 use lib.ListN.{length, take, drop, get_or, length-drop, length-reverse, take-append-drop}
 use lib.Seq.{take-suc, take-add, drop-drop, append_snoc, get_or-drop}
-use Rattle.encoding.specs.Encoding.{encodeAll}
+use Rattle.encoding.specs.Encoding.{encode_all}
 use Rattle.turkish.specs.Letters.{any}
-use Rattle.turkish.specs.Vowels.{vowel, lastVowel}
-use Rattle.turkish.specs.Heard.{heard, loanIn}
+use Rattle.turkish.specs.Vowels.{vowel, last_vowel_of}
+use Rattle.turkish.specs.Heard.{heard, loan_in}
 use Rattle.turkish.specs.Calls.{chars, bytes, accepted, offset}
-use Rattle.theorems.specs.Simple.Harmony.{partner, at, harmonyFound, skipsVowel}
+use Rattle.theorems.specs.Simple.Harmony.{partner, at, harmony_found, skips_vowel}
 use Rattle.theorems.specs.HeardTerms.{TwoVowels}
 use Rattle.theorems.proofs.Laws.Tests.{any-reverse}
 use Rattle.theorems.proofs.Laws.Accepted.{bytes-chars}
 use Rattle.theorems.proofs.Laws.Offsets.{part-reverse, get_d_reverse}
-use Rattle.theorems.proofs.Laws.Harmony.{harmonyFound-bounds, found-last, found-last-vowel, found-no-nearer, found-partner, found-none-between}
+use Rattle.theorems.proofs.Laws.Harmony.{harmony_found-bounds, found-last, found-last-vowel, found-no-nearer, found-partner, found-none-between}
 
 -- ---- between the two ----
 
@@ -37,8 +37,8 @@ skipped-between cs k l p h b =
 
 -- so a loan candidate is one of which the test skipped a vowel
 pub loan-skips : (cs : List ℕ) (k l p : ℕ) → l < p → k + p ≤ length cs
-    → loanIn cs (heard (length cs - k - l) (length cs - k - p)) ≡ skipsVowel (drop k cs) l p
-unfolding loanIn skipsVowel
+    → loan_in cs (heard (length cs - k - l) (length cs - k - p)) ≡ skips_vowel (drop k cs) l p
+unfolding loan_in skips_vowel
 loan-skips cs k l p h b = ap (any vowel) (skipped-between cs k l p h b) ∙ any-reverse vowel (take (p - l - 1) (drop l (drop k cs)))
 
 -- and what stands behind one such place, up to the k-th character back, is in reverse what was passed before it
@@ -62,21 +62,21 @@ cut-two : (r : List ℕ) (m n e : ℕ) → m < n → n < e → n < length r
 cut-two r m n e h k b = rw (take-cut r n e k b, take-cut r m n h (omega arith)) (append_assoc (take m r) _ _)
 
 -- the i-th character back from the k-th stands at its place
-getD-place : (cs : List ℕ) (k i : ℕ) → 0 < i → k + i ≤ length cs → get_or (reverse cs) (length cs - k - i) 0 ≡ get_or (drop k cs) (i - 1) 0
-getD-place cs k i h b =
+get_or-place : (cs : List ℕ) (k i : ℕ) → 0 < i → k + i ≤ length cs → get_or (reverse cs) (length cs - k - i) 0 ≡ get_or (drop k cs) (i - 1) 0
+get_or-place cs k i h b =
     let e : length cs - (length cs - k - i + 1) ≡ k + (i - 1) = omega arith in
     get_d_reverse cs (length cs - k - i) 0 (omega arith) ∙ ap (λ (j : ℕ). get_or cs j 0) e ∙ sym (get_or-drop k cs (i - 1) 0)
 
 -- what a harmony test found at the k-th character back are the word's two vowels before that place
-pub two-vowels : (w : List ℕ) → accepted w ≡ true → (k : ℕ) {l p : ℕ} → harmonyFound (drop k (chars w)) ≡ at l p
+pub two-vowels : (w : List ℕ) → accepted w ≡ true → (k : ℕ) {l p : ℕ} → harmony_found (drop k (chars w)) ≡ at l p
     → let end = length (chars w) - k in
-    TwoVowels w (offset w (end - l)) (offset w (end - p)) (offset w end) (loanIn (chars w) (heard (end - l) (end - p)))
-unfolding offset loanIn bytes
+    TwoVowels w (offset w (end - l)) (offset w (end - p)) (offset w end) (loan_in (chars w) (heard (end - l) (end - p)))
+unfolding offset loan_in bytes
 two-vowels w a k {l} {p} e =
     let cs = chars w in
     let r = reverse cs in
     let d = drop k cs in
-    let bounds = harmonyFound-bounds d e in
+    let bounds = harmony_found-bounds d e in
     let inside : k + p ≤ length cs = omega (arith, length-drop k cs) in
     let end = length cs - k in
     let last = end - l in
@@ -84,8 +84,8 @@ two-vowels w a k {l} {p} e =
     let order : other < last = omega arith in
     let within : last < length r = omega (arith, length-reverse cs) in
     let five = cut-two r other last end order (omega arith) within in
-    let second : get_or r last 0 ≡ lastVowel d = getD-place cs k l bounds.0 (omega arith) ∙ sym (found-last d e) in
-    let first : get_or r other 0 ≡ get_or d (p - 1) 0 = getD-place cs k p (omega arith) inside in
+    let second : get_or r last 0 ≡ last_vowel_of d = get_or-place cs k l bounds.0 (omega arith) ∙ sym (found-last d e) in
+    let first : get_or r other 0 ≡ get_or d (p - 1) 0 = get_or-place cs k p (omega arith) inside in
     record {
       front = take other r;
       first = get_or r other 0;
@@ -93,15 +93,15 @@ two-vowels w a k {l} {p} e =
       second = get_or r last 0;
       tail = take (end - (last + 1)) (drop (last + 1) r);
       rest = drop end r;
-      spelled = sym (bytes-chars w a) ∙ ap encodeAll (sym (take-append-drop end r) ∙ rw five (simp append_assoc));
+      spelled = sym (bytes-chars w a) ∙ ap encode_all (sym (take-append-drop end r) ∙ rw five (simp append_assoc));
       partner-starts = refl;
-      last-starts = ap (λ (s : List ℕ). length (encodeAll s)) (take-cut r other last order (omega arith));
-      tail-ends = ap (λ (s : List ℕ). length (encodeAll s)) five;
+      last-starts = ap (λ (s : List ℕ). length (encode_all s)) (take-cut r other last order (omega arith));
+      tail-ends = ap (λ (s : List ℕ). length (encode_all s)) five;
       is-vowel = rw second (found-last-vowel d e);
       none-follows = rw (skipped-behind cs k l bounds.0 (omega arith)) (any-reverse vowel (take (l - 1) d) ∙ found-no-nearer d e);
       is-partner = rw (second, first) (found-partner d e);
       none_between =
           rw (second, skipped-between cs k l p bounds.1 inside)
-          (any-reverse (partner (lastVowel d)) (take (p - l - 1) (drop l d)) ∙ found-none-between d e);
+          (any-reverse (partner (last_vowel_of d)) (take (p - l - 1) (drop l d)) ∙ found-none-between d e);
       candidate = refl;
     }

@@ -9,13 +9,13 @@ use lib.ListN.{length, take, drop}
 use lib.Seq.{take-add}
 use lib.Dec.{eqb}
 use borrow.Author.Tests.{eqb-true, ne_eqb}
-use Rattle.encoding.specs.Encoding.{encode, encodeAll}
+use Rattle.encoding.specs.Encoding.{encode, encode_all}
 use Rattle.encoding.proofs.Laws.Booleans.{and_left, and_right, cond-test}
 use Rattle.encoding.proofs.Laws.Encoding.{encode-elim}
-use Rattle.turkish.specs.Letters.{text, lf, fromEnd, starts}
+use Rattle.turkish.specs.Letters.{text, lf, from_end, starts}
 use Rattle.theorems.specs.Simple.Harmony.{harmony}
 use Rattle.theorems.specs.Simple.Grammar.{Out, among, Joint, joining, mark_of, Command, mark, ◌then◌, ◌or◌, nothing, unset, try, run}
-use Rattle.theorems.specs.Simple.Marks.{unjoined, byY, marked, yUm, sUn, yUz, sUnUz, lAr, nUz, DUr, cAsInA, yDU, ysA, ymUs, yken}
+use Rattle.theorems.specs.Simple.Marks.{unjoined, by_y, marked, yUm, sUn, yUz, sUnUz, lAr, nUz, DUr, cAsInA, yDU, ysA, ymUs, yken}
 use Rattle.theorems.specs.Simple.Stage.{person, branch1, branch2, branch3, branch4, branch5, branch6, branches, staged, stage}
 use Rattle.turkish.specs.Calls.{bytes}
 use Rattle.theorems.proofs.Laws.Outcome.{Post, unfit, fits, post-map, post-first, post-asking, post-then, post-joining}
@@ -35,12 +35,12 @@ starts-take (x ∷ k) (c ∷ cs) e =
     cons-eq-cons.1 (sym (eqb-true x c (and_left (eqb x c) (starts k cs) e)), starts-take k cs (and_right (eqb x c) (starts k cs) e))
 
 -- the letters of every key and joint that stand in a command pass a test
-keysPass : (ℕ → Bool) → Command → Bool
-keysPass f (mark m) = every (every f) m.keys && every f m.joint.letters
-keysPass f (p then q) = keysPass f p && keysPass f q
-keysPass f (p or q) = keysPass f p && keysPass f q
-keysPass f nothing = true
-keysPass f unset = true
+keys_pass : (ℕ → Bool) → Command → Bool
+keys_pass f (mark m) = every (every f) m.keys && every f m.joint.letters
+keys_pass f (p then q) = keys_pass f p && keys_pass f q
+keys_pass f (p or q) = keys_pass f p && keys_pass f q
+keys_pass f nothing = true
+keys_pass f unset = true
 
 module _ (f : ℕ → Bool) where
   -- the first k characters pass
@@ -66,27 +66,27 @@ module _ (f : ℕ → Bool) where
   joining-passes j cs h = post-joining j cs (λ a. refl) (λ c d ds a e. (refl, λ l. rw (e, every-at f h (has-member j.letters c l))))
 
   -- a command whose keys' and joints' letters pass takes characters that pass
-  run-passes : (p : Command) (cs : List ℕ) → keysPass f p ≡ true → Post (Passes cs) (run p cs)
-  unfolding run mark_of keysPass every
+  run-passes : (p : Command) (cs : List ℕ) → keys_pass f p ≡ true → Post (Passes cs) (run p cs)
+  unfolding run mark_of keys_pass every
   run-passes (mark m) cs h =
       post-asking (not m.harmonic || harmony cs) λ t.
       post-then (among-passes m.keys cs (and_left (every (every f) m.keys) (every f m.joint.letters) h)) λ k g p.
       post-map (λ j g q. passes_then k j cs p q)
       (joining-passes m.joint (drop k cs) (and_right (every (every f) m.keys) (every f m.joint.letters) h))
   run-passes (p then q) cs h =
-      post-then (run-passes p cs (and_left (keysPass f p) (keysPass f q) h)) λ k g a.
-      post-map (λ j g b. passes_then k j cs a b) (run-passes q (drop k cs) (and_right (keysPass f p) (keysPass f q) h))
+      post-then (run-passes p cs (and_left (keys_pass f p) (keys_pass f q) h)) λ k g a.
+      post-map (λ j g b. passes_then k j cs a b) (run-passes q (drop k cs) (and_right (keys_pass f p) (keys_pass f q) h))
   run-passes (p or q) cs h =
-      post-first (run-passes p cs (and_left (keysPass f p) (keysPass f q) h)) (run-passes q cs (and_right (keysPass f p) (keysPass f q) h))
+      post-first (run-passes p cs (and_left (keys_pass f p) (keys_pass f q) h)) (run-passes q cs (and_right (keys_pass f p) (keys_pass f q) h))
   run-passes nothing cs h = fits 0 refl
   run-passes unset cs h = fits 0 refl
 
 -- ---- the stage ----
 
 -- no key or joint of the stage has an LF
-branches-pass : keysPass (λ c. not (eqb c lf)) branches ≡ true
-unfolding keysPass every lf branches branch1 branch2 branch3 branch4 branch5 branch6 person try unjoined byY marked yUm sUn yUz sUnUz lAr nUz DUr cAsInA
-    yDU ysA ymUs yken fromEnd text
+branches-pass : keys_pass (λ c. not (eqb c lf)) branches ≡ true
+unfolding keys_pass every lf branches branch1 branch2 branch3 branch4 branch5 branch6 person try unjoined by_y marked yUm sUn yUz sUnUz lAr nUz DUr cAsInA
+    yDU ysA ymUs yken from_end text
 branches-pass = refl
 
 -- so no character that the stage removes is an LF
@@ -124,7 +124,7 @@ module _ (b : ℕ) (ascii : b < 0x80) where
   -- so of the bytes of some characters
   without-bytes : (cs : List ℕ) → without b cs ≡ true → without b (bytes cs) ≡ true
   unfolding without every
-  without-bytes [] e = unfold bytes encodeAll in refl
+  without-bytes [] e = unfold bytes encode_all in refl
   without-bytes (c ∷ cs) e =
       let first : without b (encode c) ≡ true = without-encode c (and_left (not (eqb c b)) (without b cs) e) in
       rw (bytes-cons, without-append b, without-bytes cs (and_right (not (eqb c b)) (without b cs) e), first)

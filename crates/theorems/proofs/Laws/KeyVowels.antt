@@ -8,26 +8,26 @@ use native.Mathlib.Omega.{arith}
 use lib.ListN.{length, drop}
 use Rattle.encoding.proofs.Laws.Booleans.{and_left, and_right, cond-test}
 use Rattle.turkish.specs.Letters.{any, starts}
-use Rattle.turkish.specs.Vowels.{vowel, lastVowel}
-use Rattle.theorems.specs.Simple.Harmony.{toFirst, harmony}
+use Rattle.turkish.specs.Vowels.{vowel, last_vowel_of}
+use Rattle.theorems.specs.Simple.Harmony.{to_first, harmony}
 use Rattle.theorems.specs.Simple.Grammar.{took, after, among, joining, Mark, mark_of}
 use Rattle.theorems.specs.HeardTerms.{KeyVowel}
 use Rattle.theorems.proofs.Laws.Tests.{every}
-use Rattle.theorems.proofs.Laws.Harmony.{toFirst-le, toFirst-append, lastVowel-append}
+use Rattle.theorems.proofs.Laws.Harmony.{to_first-le, to_first-append, last_vowel_of-append}
 use Rattle.theorems.proofs.Laws.Outcome.{Post, unfit, fits, post-took, post-map, post-asking, post-then, post-joining}
 use Rattle.theorems.proofs.Laws.Syllables.{starts-split}
 
 -- ---- a key ----
 
 -- a text that ends in a key with a vowel has the key's last vowel
-starts-last : (k cs : List ℕ) → any vowel k ≡ true → starts k cs ≡ true → lastVowel cs ≡ lastVowel k
-starts-last k cs v e = ap lastVowel (sym (starts-split k cs e)) ∙ lastVowel-append k (drop (length k) cs) v
+starts-last : (k cs : List ℕ) → any vowel k ≡ true → starts k cs ≡ true → last_vowel_of cs ≡ last_vowel_of k
+starts-last k cs v e = ap last_vowel_of (sym (starts-split k cs e)) ∙ last_vowel_of-append k (drop (length k) cs) v
 
 -- which stands in the key
-starts-within : (k cs : List ℕ) → any vowel k ≡ true → starts k cs ≡ true → toFirst vowel cs ≤ length k
+starts-within : (k cs : List ℕ) → any vowel k ≡ true → starts k cs ≡ true → to_first vowel cs ≤ length k
 starts-within k cs v e =
-    let met : toFirst vowel cs ≡ toFirst vowel k = ap (toFirst vowel) (sym (starts-split k cs e)) ∙ toFirst-append vowel k (drop (length k) cs) v in
-    omega (arith, toFirst-le vowel k)
+    let met : to_first vowel cs ≡ to_first vowel k = ap (to_first vowel) (sym (starts-split k cs e)) ∙ to_first-append vowel k (drop (length k) cs) v in
+    omega (arith, to_first-le vowel k)
 
 -- where each key of a table has a vowel, the last vowel is that of the key found
 among-vowel : (ks : List (List ℕ)) (cs : List ℕ) → every (any vowel) ks ≡ true → Post (KeyVowel ks cs) (among ks cs)

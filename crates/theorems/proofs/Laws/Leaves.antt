@@ -17,7 +17,7 @@ use Rattle.theorems.specs.Simple.Stage.{branches, staged, stage}
 use Rattle.theorems.specs.Fronts.{one_of}
 use Rattle.theorems.proofs.Laws.Outcome.{Post, unfit, fits, post-map, post-first, post-asking, post-then, post-joining}
 use Rattle.theorems.proofs.Laws.Tests.{every}
-use Rattle.theorems.proofs.Laws.Same.{oneOf-every}
+use Rattle.theorems.proofs.Laws.Same.{one_of-every}
 
 -- ---- a mark on a text that is none of its keys ----
 
@@ -74,7 +74,7 @@ mark-spares m cs = go (m.harmonic && every unharmonic m.keys) refl
     go : (t : Bool) → m.harmonic && every unharmonic m.keys ≡ t → Post (λ k. k + cond m.joint.asked 1 (cond t 1 0) ≤ length cs) (mark_of m cs)
     go true e =
         let h = and_left m.harmonic (every unharmonic m.keys) e in
-        let u = oneOf-every unharmonic m.keys cs (and_right m.harmonic (every unharmonic m.keys) e) in
+        let u = one_of-every unharmonic m.keys cs (and_right m.harmonic (every unharmonic m.keys) e) in
         mark-leaves m cs 1 (omega arith) (λ t o. absurd (false≢true (rw (rw h at t) at (u o))))
     go false e = mark-leaves m cs 0 (omega arith) (λ t o. refl)
 

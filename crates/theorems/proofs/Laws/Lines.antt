@@ -9,17 +9,17 @@ use Rattle.turkish.specs.Lines.{unclosed, lines_from}
 use Rattle.theorems.proofs.Laws.Tests.{has-none}
 
 -- what ends in a line feed and has no other is one line
-pub linesFrom-line : (line w rest : List ℕ) → has w lf ≡ false → lines_from line (w ++ (lf ∷ rest)) ≡ (line ++ w) ∷ lines_from [] rest
+pub lines_from-line : (line w rest : List ℕ) → has w lf ≡ false → lines_from line (w ++ (lf ∷ rest)) ≡ (line ++ w) ∷ lines_from [] rest
 unfolding lines_from has any
-linesFrom-line line [] rest n = rw (eq-eqb lf lf refl, append-nil line)
-linesFrom-line line (b ∷ w) rest n =
+lines_from-line line [] rest n = rw (eq-eqb lf lf refl, append-nil line)
+lines_from-line line (b ∷ w) rest n =
     let d = has-none lf b w n in
-    rw (ne_eqb b lf d.0, linesFrom-line (line ++ (b ∷ [])) w rest d.1, append_assoc)
+    rw (ne_eqb b lf d.0, lines_from-line (line ++ (b ∷ [])) w rest d.1, append_assoc)
 
 -- what has none is a last line that is not closed
-pub linesFrom-last : (line w : List ℕ) → has w lf ≡ false → lines_from line w ≡ unclosed (line ++ w)
+pub lines_from-last : (line w : List ℕ) → has w lf ≡ false → lines_from line w ≡ unclosed (line ++ w)
 unfolding lines_from has any
-linesFrom-last line [] n = rw (append-nil line)
-linesFrom-last line (b ∷ w) n =
+lines_from-last line [] n = rw (append-nil line)
+lines_from-last line (b ∷ w) n =
     let d = has-none lf b w n in
-    rw (ne_eqb b lf d.0, linesFrom-last (line ++ (b ∷ [])) w d.1, append_assoc)
+    rw (ne_eqb b lf d.0, lines_from-last (line ++ (b ∷ [])) w d.1, append_assoc)

@@ -40,10 +40,10 @@ module _ {A : Type 0} where
   mem-map-mono f {xs} h y m = let r = Memᴰ.of_map f xs m in Memᴰ.cast (sym r.2) (Memᴰ.map f (h r.0 r.1))
 
   -- the i-th of a list is in it
-  pub mem-getD : (xs : List A) (i : ℕ) (d : A) → i < length xs → Memᴰ (get_or xs i d) xs
-  mem-getD [] i d h = absurd (omega arith)
-  mem-getD (x ∷ xs) zero d h = Memᴰ.head refl
-  mem-getD (x ∷ xs) (suc i) d h = Memᴰ.tail (mem-getD xs i d (omega arith))
+  pub mem-get_or : (xs : List A) (i : ℕ) (d : A) → i < length xs → Memᴰ (get_or xs i d) xs
+  mem-get_or [] i d h = absurd (omega arith)
+  mem-get_or (x ∷ xs) zero d h = Memᴰ.head refl
+  mem-get_or (x ∷ xs) (suc i) d h = Memᴰ.tail (mem-get_or xs i d (omega arith))
 
   -- where each member passes a test, every one does
   pub every_of : (f : A → Bool) (xs : List A) → ((x : A) → Memᴰ x xs → f x ≡ true) → every f xs ≡ true

@@ -10,19 +10,19 @@ use lib.ListN.{length, take, drop, get_or, length-append, length-drop, length-re
 use lib.Seq.{take-add, take_at, drop_at, length-take-le, split_at, append_snoc, get_or_at, get_or-append-add, get_or-drop}
 use lib.Dec.{eqb}
 use borrow.Author.Tests.{ne_eqb}
-use Rattle.encoding.specs.Encoding.{encode, encodeAll}
+use Rattle.encoding.specs.Encoding.{encode, encode_all}
 use Rattle.encoding.proofs.Laws.Booleans.{lt-or-le}
 use Rattle.encoding.proofs.Laws.Encoding.{encode-elim}
 use Rattle.encoding.proofs.Laws.Decoding.{length_encode_pos}
 use Rattle.utf8.specs.Characters.{back}
 use Rattle.utf8.proofs.Laws.Characters.{back-le}
-use Rattle.utf8.proofs.TextCharacters.{encodeAll-append, take_back}
-use Rattle.turkish.specs.Pieces.{withY, afterVowel, alone}
+use Rattle.utf8.proofs.TextCharacters.{encode_all-append, take_back}
+use Rattle.turkish.specs.Pieces.{with_y, after_vowel, alone}
 use Rattle.theorems.specs.Simple.Stage.{stage, kept}
-use Rattle.theorems.specs.Simple.Pieces.{joinedBy}
-use Rattle.turkish.specs.Calls.{chars, bytes, accepted, stageText, offset}
+use Rattle.theorems.specs.Simple.Pieces.{joint_by}
+use Rattle.turkish.specs.Calls.{chars, bytes, accepted, stage_text, offset}
 use Rattle.theorems.proofs.Laws.Accepted.{accepted-text, bytes-chars}
-use Rattle.theorems.proofs.Source.Calls.{suffixStage-text}
+use Rattle.theorems.proofs.Source.Calls.{suffix_stage-text}
 
 -- ---- from the end and from the start ----
 
@@ -74,17 +74,17 @@ unfolding back
 offset-whole w e = let n : length (chars w) ≡ length (chars w) - 0 = omega arith in ap (offset w) n ∙ offset-back w 0 e
 
 -- before what the stage removes stand the bytes that it keeps
-pub offset-kept : (w : List ℕ) → offset w (length (chars w) - (stage (chars w)).removed) ≡ length (stageText w)
-unfolding stageText kept
-offset-kept w = offset-drop w (stage (chars w)).removed ∙ ap (λ (cs : List ℕ). length (bytes cs)) (sym (suffixStage-text (chars w)))
+pub offset-kept : (w : List ℕ) → offset w (length (chars w) - (stage (chars w)).removed) ≡ length (stage_text w)
+unfolding stage_text kept
+offset-kept w = offset-drop w (stage (chars w)).removed ∙ ap (λ (cs : List ℕ). length (bytes cs)) (sym (suffix_stage-text (chars w)))
 
 -- ---- offsets grow ----
 
 -- some characters have some bytes
-encodeAll-pos : (cs : List ℕ) → 0 < length cs → 0 < length (encodeAll cs)
-unfolding encodeAll
-encodeAll-pos [] h = absurd (omega arith)
-encodeAll-pos (c ∷ cs) h = omega (arith, length-append (encode c) (encodeAll cs), length_encode_pos c)
+encode_all-pos : (cs : List ℕ) → 0 < length cs → 0 < length (encode_all cs)
+unfolding encode_all
+encode_all-pos [] h = absurd (omega arith)
+encode_all-pos (c ∷ cs) h = omega (arith, length-append (encode c) (encode_all cs), length_encode_pos c)
 
 -- a later place has more bytes before it
 pub offset-mono : (w : List ℕ) (m n : ℕ) → m < n → n ≤ length (chars w) → offset w m < offset w n
@@ -94,8 +94,8 @@ offset-mono w m n h k =
     let e : n ≡ m + (n - m) = omega arith in
     let l : length (take (n - m) (drop m ds)) ≡ n - m = length-take-le (n - m) (drop m ds) (omega (arith, length-drop m ds, length-reverse (chars w))) in
     let t : take n ds ≡ take m ds ++ take (n - m) (drop m ds) = ap (λ (i : ℕ). take i ds) e ∙ take-add m (n - m) ds in
-    let p : 0 < length (encodeAll (take (n - m) (drop m ds))) = encodeAll-pos (take (n - m) (drop m ds)) (omega arith) in
-    rw (t, encodeAll-append, length-append) (omega arith)
+    let p : 0 < length (encode_all (take (n - m) (drop m ds))) = encode_all-pos (take (n - m) (drop m ds)) (omega arith) in
+    rw (t, encode_all-append, length-append) (omega arith)
 
 -- one that is no earlier has no fewer
 pub offset-le : (w : List ℕ) (m n : ℕ) → m ≤ n → n ≤ length (chars w) → offset w m ≤ offset w n
@@ -116,14 +116,14 @@ encode_ascii c y r h =
 -- the byte at a place's offset is an ASCII character's where the character behind the place is
 pub byte-ascii : (w : List ℕ) (p y : ℕ) → accepted w ≡ true → p < length (chars w) → y < 0x80
     → eqb (get_or w (offset w p) 0) y ≡ eqb (get_or (chars w) (length (chars w) - (p + 1)) 0) y
-unfolding offset bytes encodeAll
+unfolding offset bytes encode_all
 byte-ascii w p y e h b =
     let ds = reverse (chars w) in
     let c = get_or ds p 0 in
-    let f = encodeAll (take p ds) in
-    let r = encodeAll (drop (suc p) ds) in
+    let f = encode_all (take p ds) in
+    let r = encode_all (drop (suc p) ds) in
     let split : ds ≡ take p ds ++ (c ∷ drop (suc p) ds) = split_at ds p 0 (omega (arith, length-reverse (chars w))) in
-    let whole : w ≡ f ++ (encode c ++ r) = sym (bytes-chars w e) ∙ ap encodeAll split ∙ encodeAll-append (take p ds) (c ∷ drop (suc p) ds) in
+    let whole : w ≡ f ++ (encode c ++ r) = sym (bytes-chars w e) ∙ ap encode_all split ∙ encode_all-append (take p ds) (c ∷ drop (suc p) ds) in
     let first : get_or (f ++ (encode c ++ r)) (length f) 0 ≡ get_or (encode c ++ r) 0 0 = rw add-zero at (get_or-append-add f (encode c ++ r) 0 0) in
     ap (λ (v : List ℕ). eqb (get_or v (length f) 0) y) whole ∙ ap (λ (x : ℕ). eqb x y) first
     ∙ encode_ascii c y r b ∙ ap (λ (x : ℕ). eqb x y) (get_d_reverse (chars w) p 0 h)
@@ -138,9 +138,9 @@ byte-back w k y e z h b =
     ∙ ap (λ (i : ℕ). eqb (get_or (chars w) i 0) y) n
 
 -- how a mark joined that took k characters behind the nearest n is told by the first of its bytes
-pub joinedBy-byte : (w : List ℕ) (joins : Bool) (n k : ℕ) → accepted w ≡ true → 0 < k → n + k ≤ length (chars w)
-    → joinedBy joins k (drop n (chars w)) ≡ cond joins (cond (eqb (get_or w (back w (length w) (n + k)) 0) 0x79) withY afterVowel) alone
-unfolding joinedBy
-joinedBy-byte w joins n k e z h =
+pub joint_by-byte : (w : List ℕ) (joins : Bool) (n k : ℕ) → accepted w ≡ true → 0 < k → n + k ≤ length (chars w)
+    → joint_by joins k (drop n (chars w)) ≡ cond joins (cond (eqb (get_or w (back w (length w) (n + k)) 0) 0x79) with_y after_vowel) alone
+unfolding joint_by
+joint_by-byte w joins n k e z h =
     let i : n + (k - 1) ≡ n + k - 1 = omega arith in
     rw (get_or-drop, i, byte-back w (n + k) 0x79 e (omega arith) h (omega arith))

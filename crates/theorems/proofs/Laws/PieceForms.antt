@@ -13,9 +13,9 @@ use lib.Dec.{eqb, leb}
 use borrow.Author.Tests.{leb-true}
 use Rattle.encoding.proofs.Laws.Booleans.{and_left, and_right, cond_both}
 use Rattle.turkish.specs.Letters.{text}
-use Rattle.turkish.specs.Pieces.{kindNames, nameFrom, kindName}
+use Rattle.turkish.specs.Pieces.{kind_names, name_from, kind_name}
 use Rattle.turkish.specs.Calls.{written}
-use Rattle.turkish.specs.PieceCalls.{Span, lettersOf, InSomeOrder, buffer, bufferOf, pieceLine, text_of}
+use Rattle.turkish.specs.PieceCalls.{Span, letters_of, InSomeOrder, buffer, buffer_of, piece_line, text_of}
 use Rattle.theorems.specs.PieceTerms.{spelled}
 use Rattle.theorems.proofs.Laws.Tests.{every}
 
@@ -48,54 +48,54 @@ module _ {A : Type 0} where
 -- ---- the buffer ----
 
 -- three bytes for each piece
-pub length-bufferOf : (w : List ℕ) (ps : List Span) → length (bufferOf w ps) ≡ 3 * length ps
-unfolding bufferOf buffer
-length-bufferOf w [] = omega arith
-length-bufferOf w (p ∷ ps) = omega (arith, length-bufferOf w ps)
+pub length-buffer_of : (w : List ℕ) (ps : List Span) → length (buffer_of w ps) ≡ 3 * length ps
+unfolding buffer_of buffer
+length-buffer_of w [] = omega arith
+length-buffer_of w (p ∷ ps) = omega (arith, length-buffer_of w ps)
 
 -- the same in every order
-pub bufferOf-perm : (w : List ℕ) {ps qs : List Span} → Permᴰ ps qs → length (bufferOf w ps) ≡ length (bufferOf w qs)
-bufferOf-perm w {ps} {qs} r = omega (arith, length-bufferOf w qs, length-bufferOf w ps, length-perm r)
+pub buffer_of-perm : (w : List ℕ) {ps qs : List Span} → Permᴰ ps qs → length (buffer_of w ps) ≡ length (buffer_of w qs)
+buffer_of-perm w {ps} {qs} r = omega (arith, length-buffer_of w qs, length-buffer_of w ps, length-perm r)
 
 -- ---- the text ----
 
 -- the lines of all pieces
-length-textOf : (w : List ℕ) (ps : List Span) → length (text_of w ps) ≡ sum (λ p. length (pieceLine w p)) ps
+length-text_of : (w : List ℕ) (ps : List Span) → length (text_of w ps) ≡ sum (λ p. length (piece_line w p)) ps
 unfolding text_of sum
-length-textOf w [] = refl
-length-textOf w (p ∷ ps) = omega (arith, length-append (pieceLine w p) (text_of w ps), length-textOf w ps)
+length-text_of w [] = refl
+length-text_of w (p ∷ ps) = omega (arith, length-append (piece_line w p) (text_of w ps), length-text_of w ps)
 
 -- the same in every order
-pub textOf-perm : (w : List ℕ) {ps qs : List Span} → Permᴰ ps qs → length (text_of w ps) ≡ length (text_of w qs)
-textOf-perm w {ps} {qs} r = length-textOf w ps ∙ sum-perm (λ p. length (pieceLine w p)) r ∙ sym (length-textOf w qs)
+pub text_of-perm : (w : List ℕ) {ps qs : List Span} → Permᴰ ps qs → length (text_of w ps) ≡ length (text_of w qs)
+text_of-perm w {ps} {qs} r = length-text_of w ps ∙ sum-perm (λ p. length (piece_line w p)) r ∙ sym (length-text_of w qs)
 
 -- a name of n letters at most
 short : ℕ → String → Bool
 short n s = leb (length (text s)) n
 
 -- where all names are, so is that of any kind
-nameFrom-most : (n i : ℕ) (ms : List String) (k : ℕ) → every (short n) ms ≡ true → length (nameFrom i ms k) ≤ n
-unfolding nameFrom every short
-nameFrom-most n i [] k e = omega arith
-nameFrom-most n i (m ∷ ms) k e =
-    cond_both (λ s. length s ≤ n) (eqb k i) (text m) (nameFrom (i + 1) ms k) (leb-true _ n (and_left (short n m) (every (short n) ms) e))
-    (nameFrom-most n (i + 1) ms k (and_right (short n m) (every (short n) ms) e))
+name_from-most : (n i : ℕ) (ms : List String) (k : ℕ) → every (short n) ms ≡ true → length (name_from i ms k) ≤ n
+unfolding name_from every short
+name_from-most n i [] k e = omega arith
+name_from-most n i (m ∷ ms) k e =
+    cond_both (λ s. length s ≤ n) (eqb k i) (text m) (name_from (i + 1) ms k) (leb-true _ n (and_left (short n m) (every (short n) ms) e))
+    (name_from-most n (i + 1) ms k (and_right (short n m) (every (short n) ms) e))
 
 -- a kind's name has at most six letters
-pub kindName-most : (k : ℕ) → length (kindName k) ≤ 6
-unfolding kindName
-kindName-most k = nameFrom-most 6 1 kindNames k (unfold every short kindNames text in refl)
+pub kind_name-most : (k : ℕ) → length (kind_name k) ≤ 6
+unfolding kind_name
+kind_name-most k = name_from-most 6 1 kind_names k (unfold every short kind_names text in refl)
 
 -- a line has at most eight bytes besides the piece's letters
-pieceLine-most : (w : List ℕ) (p : Span) → length (pieceLine w p) ≤ 8 + length (lettersOf w p)
-unfolding pieceLine
-pieceLine-most w p = simp length-append (omega (arith, kindName-most p.kind))
+piece_line-most : (w : List ℕ) (p : Span) → length (piece_line w p) ≤ 8 + length (letters_of w p)
+unfolding piece_line
+piece_line-most w p = simp length-append (omega (arith, kind_name-most p.kind))
 
 -- so the text has at most eight for each piece besides what they spell
-pub textOf-most : (w : List ℕ) (ps : List Span) → length (text_of w ps) ≤ 8 * length ps + length (spelled w ps)
+pub text_of-most : (w : List ℕ) (ps : List Span) → length (text_of w ps) ≤ 8 * length ps + length (spelled w ps)
 unfolding text_of spelled
-textOf-most w [] = omega arith
-textOf-most w (p ∷ ps) = simp length-append (omega (arith, pieceLine-most w p, textOf-most w ps))
+text_of-most w [] = omega arith
+text_of-most w (p ∷ ps) = simp length-append (omega (arith, piece_line-most w p, text_of-most w ps))
 
 -- where there are no pieces nothing is written
 pub none_written : (form : List Span → List ℕ) → form [] ≡ [] → {before after : List ℕ} → InSomeOrder form [] before after → after ≡ before

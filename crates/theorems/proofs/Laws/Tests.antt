@@ -43,11 +43,11 @@ module _ {A : Type 0} where
   every-at f e (Memᴰ.tail {x} {xs} m) = every-at f (and_right (f x) (every f xs) e) m
 
   -- and so does the one at any place, and what stands for a place past the end where it does
-  pub every-getD : (f : A → Bool) (xs : List A) (n : ℕ) (d : A) → every f xs ≡ true → f d ≡ true → f (get_or xs n d) ≡ true
+  pub every-get_or : (f : A → Bool) (xs : List A) (n : ℕ) (d : A) → every f xs ≡ true → f d ≡ true → f (get_or xs n d) ≡ true
   unfolding every
-  every-getD f [] n d e h = h
-  every-getD f (x ∷ xs) zero d e h = and_left (f x) (every f xs) e
-  every-getD f (x ∷ xs) (suc n) d e h = every-getD f xs n d (and_right (f x) (every f xs) e) h
+  every-get_or f [] n d e h = h
+  every-get_or f (x ∷ xs) zero d e h = and_left (f x) (every f xs) e
+  every-get_or f (x ∷ xs) (suc n) d e h = every-get_or f xs n d (and_right (f x) (every f xs) e) h
 
 -- ---- some character passes a test ----
 

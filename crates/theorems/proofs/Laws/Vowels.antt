@@ -10,8 +10,8 @@ use lib.Dec.{eqb}
 use borrow.Author.Tests.{eqb-true, eq-eqb, ne_eqb}
 use Rattle.encoding.proofs.Laws.Booleans.{and_left, and_right, cond-test}
 use Rattle.turkish.specs.Letters.{text, any, has}
-use Rattle.turkish.specs.Vowels.{vowels, vowel, lastVowel, beforeLastVowel}
-use Rattle.theorems.specs.Simple.Harmony.{Partners, partnerTable, partnersIn, partner}
+use Rattle.turkish.specs.Vowels.{vowels, vowel, last_vowel_of, before_last_vowel}
+use Rattle.theorems.specs.Simple.Harmony.{Partners, partner_table, partners_in, partner}
 use Rattle.theorems.proofs.Laws.Tests.{every, every-at}
 
 -- where some character passes a test, one of them does
@@ -46,24 +46,24 @@ any-vowels t cs ds o h = partial_order_laws.le_antisymm (any t cs) (any t ds) (o
         member-any t (has-member ds v (sym (h v (o v r.2)) ∙ member-any (eqb v) r.1 (eq-eqb v v refl))) r.2
 
 -- a vowel's partners are vowels, as all in the table are
-partnersIn-vowels : (v : ℕ) (ps : List Partners) → every (λ p. every vowel p.are) ps ≡ true → every vowel (partnersIn ps v) ≡ true
-unfolding partnersIn every
-partnersIn-vowels v [] e = refl
-partnersIn-vowels v (p ∷ ps) e =
+partners_in-vowels : (v : ℕ) (ps : List Partners) → every (λ p. every vowel p.are) ps ≡ true → every vowel (partners_in ps v) ≡ true
+unfolding partners_in every
+partners_in-vowels v [] e = refl
+partners_in-vowels v (p ∷ ps) e =
     let b : Bool × Bool = (every vowel p.are, every (λ p. every vowel p.are) ps) in
-    cond-test (λ l. every vowel l ≡ true) (eqb v p.of) (λ q. and_left b.0 b.1 e) (partnersIn-vowels v ps (and_right b.0 b.1 e))
+    cond-test (λ l. every vowel l ≡ true) (eqb v p.of) (λ q. and_left b.0 b.1 e) (partners_in-vowels v ps (and_right b.0 b.1 e))
 
 -- so a partner is a vowel
 pub partner-vowel : (v c : ℕ) → partner v c ≡ true → vowel c ≡ true
 unfolding partner
 partner-vowel v c h =
-    every-at vowel (partnersIn-vowels v partnerTable (unfold partnerTable every text vowel vowels has any in refl))
-    (has-member (partnersIn partnerTable v) c h)
+    every-at vowel (partners_in-vowels v partner_table (unfold partner_table every text vowel vowels has any in refl))
+    (has-member (partners_in partner_table v) c h)
 
 -- the vowels among a text's characters are its last one and those before it
-pub has-last-beforeLastVowel : (cs : List ℕ) (v : ℕ) → vowel v ≡ true → has cs v ≡ (eqb v (lastVowel cs) || has (beforeLastVowel cs) v)
-unfolding vowel vowels text any has lastVowel beforeLastVowel
-has-last-beforeLastVowel [] v h = rw (ne_eqb v 0 (λ q. false≢true (ap vowel (sym q) ∙ h)))
-has-last-beforeLastVowel (c ∷ cs) v h =
-    (elim (vowel c) as (λ b. vowel c ≡ b → eqb v c || has cs v ≡ (eqb v (cond b c (lastVowel cs)) || has (cond b cs (beforeLastVowel cs)) v))
-    [ true ↦ λ e. refl | false ↦ λ e. rw (ne_eqb v c (λ q. false≢true (sym e ∙ ap vowel (sym q) ∙ h))) (has-last-beforeLastVowel cs v h) ]) refl
+pub has-last-before_last_vowel : (cs : List ℕ) (v : ℕ) → vowel v ≡ true → has cs v ≡ (eqb v (last_vowel_of cs) || has (before_last_vowel cs) v)
+unfolding vowel vowels text any has last_vowel_of before_last_vowel
+has-last-before_last_vowel [] v h = rw (ne_eqb v 0 (λ q. false≢true (ap vowel (sym q) ∙ h)))
+has-last-before_last_vowel (c ∷ cs) v h =
+    (elim (vowel c) as (λ b. vowel c ≡ b → eqb v c || has cs v ≡ (eqb v (cond b c (last_vowel_of cs)) || has (cond b cs (before_last_vowel cs)) v))
+    [ true ↦ λ e. refl | false ↦ λ e. rw (ne_eqb v c (λ q. false≢true (sym e ∙ ap vowel (sym q) ∙ h))) (has-last-before_last_vowel cs v h) ]) refl

@@ -8,22 +8,22 @@ use native.Mathlib.Omega.{arith}
 use lib.ListN.{length, take, drop, take-append-drop, length-append, length-take}
 use borrow.Author.Tests.{leb-true}
 use Rattle.encoding.specs.Scalar.{scalars}
-use Rattle.encoding.specs.Encoding.{encode, encodeAll}
+use Rattle.encoding.specs.Encoding.{encode, encode_all}
 use Rattle.encoding.specs.Text.{TextOf}
 use Rattle.utf8.specs.Characters.{back}
 use Rattle.encoding.proofs.Laws.Booleans.{and_left, and_right}
-use Rattle.utf8.proofs.TextCharacters.{encodeAll-append, scalars-append, before_text, encode-before, take_back}
+use Rattle.utf8.proofs.TextCharacters.{encode_all-append, scalars-append, before_text, encode-before, take_back}
 use Rattle.turkish.specs.Calls.{chars, bytes}
-use Rattle.theorems.specs.Fronts.{endLength, long, front, end}
+use Rattle.theorems.specs.Fronts.{end_length, long, front, end}
 
 -- the bytes of two parts of a word told nearest first: the farther part comes first
 pub bytes-append : (e f : List ℕ) → bytes (e ++ f) ≡ bytes f ++ bytes e
 unfolding bytes
-bytes-append e f = rw (reverse-append, encodeAll-append)
+bytes-append e f = rw (reverse-append, encode_all-append)
 
 -- so of characters told nearest first, the first one's bytes come last
 pub bytes-cons : (c : ℕ) (cs : List ℕ) → bytes (c ∷ cs) ≡ bytes cs ++ encode c
-unfolding bytes encodeAll
+unfolding bytes encode_all
 bytes-cons c cs = rw append-nil at (bytes-append (c ∷ []) cs)
 
 -- and take its bytes more
@@ -53,28 +53,28 @@ scalars-parts e f h =
 
 module _ (w : List ℕ) (t : TextOf w) where
   -- the front is the encoding of all but the last 16 characters
-  front-encoded : front w ≡ bytes (drop endLength (chars w))
+  front-encoded : front w ≡ bytes (drop end_length (chars w))
   unfolding front chars bytes
-  front-encoded = take_back w t endLength
+  front-encoded = take_back w t end_length
 
   -- and the end the encoding of those
-  end-encoded : end w ≡ bytes (take endLength (chars w))
+  end-encoded : end w ≡ bytes (take end_length (chars w))
   unfolding front end bytes chars
   end-encoded =
-      let s : front w ++ bytes (take endLength (chars w)) ≡ w = rw (front-encoded, ← bytes-append, take-append-drop) (encode-before w t) in
-      append_cancel_left (front w) (end w) (bytes (take endLength (chars w))) (take-append-drop (back w (length w) endLength) w ∙ sym s)
+      let s : front w ++ bytes (take end_length (chars w)) ≡ w = rw (front-encoded, ← bytes-append, take-append-drop) (encode-before w t) in
+      append_cancel_left (front w) (end w) (bytes (take end_length (chars w))) (take-append-drop (back w (length w) end_length) w ∙ sym s)
 
   -- all these characters are scalar values
-  parts-scalars : (scalars (reverse (take endLength (chars w))) ≡ true) × (scalars (reverse (drop endLength (chars w))) ≡ true)
-  parts-scalars = scalars-parts (take endLength (chars w)) (drop endLength (chars w)) (rw take-append-drop (scalars-chars w t))
+  parts-scalars : (scalars (reverse (take end_length (chars w))) ≡ true) × (scalars (reverse (drop end_length (chars w))) ≡ true)
+  parts-scalars = scalars-parts (take end_length (chars w)) (drop end_length (chars w)) (rw take-append-drop (scalars-chars w t))
 
   -- the front's characters
-  chars-front : chars (front w) ≡ drop endLength (chars w)
-  chars-front = rw front-encoded (chars-bytes (drop endLength (chars w)) parts-scalars.1)
+  chars-front : chars (front w) ≡ drop end_length (chars w)
+  chars-front = rw front-encoded (chars-bytes (drop end_length (chars w)) parts-scalars.1)
 
   -- the end's
-  chars-end : chars (end w) ≡ take endLength (chars w)
-  chars-end = rw end-encoded (chars-bytes (take endLength (chars w)) parts-scalars.0)
+  chars-end : chars (end w) ≡ take end_length (chars w)
+  chars-end = rw end-encoded (chars-bytes (take end_length (chars w)) parts-scalars.0)
 
   -- a text's characters, the nearest first, are its end's and then its front's
   pub chars-parts : chars w ≡ chars (end w) ++ chars (front w)
@@ -85,7 +85,7 @@ module _ (w : List ℕ) (t : TextOf w) where
   front_bytes = rw chars-front front-encoded
 
   -- a long word's end has 16 characters
-  pub end-long : long w ≡ true → endLength ≤ length (chars (end w))
+  pub end-long : long w ≡ true → end_length ≤ length (chars (end w))
   unfolding long
   end-long h = rw (chars-end, length-take) (omega (arith, leb-true))
 

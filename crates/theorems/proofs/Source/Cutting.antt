@@ -12,7 +12,7 @@ use lib.Dec.{ltb, leb}
 use borrow.Author.Tests.{leb-true}
 use Rattle.theorems.specs.Simple.Grammar.{Out, fail, took, more, after, first}
 use Rattle.theorems.specs.Simple.Nouns.{both, either, perhaps}
-use Rattle.turkish.specs.Snowball.{State, ahead, place, moveTo, withSlice, withText, Result, done, failed, and_then, or_else, placeAfter, sliceFrom, backward, Command, ◌then◌}
+use Rattle.turkish.specs.Snowball.{State, ahead, place, move_to, with_slice, with_text, Result, done, failed, and_then, or_else, place_after, slice_from, backward, Command, ◌then◌}
 use Rattle.turkish.specs.Snowball.{◌or◌, try, ⟦, ⟧, delete, run}
 use Rattle.theorems.proofs.Source.Means.{Means, settled, placed, done-failed, done-state, failed-state, settled-done}
 
@@ -42,19 +42,19 @@ at_ahead p cs s h =
     ap₂ drop none h.text-is ∙ drop-append-add p cs 0
 
 -- `[` opens a slice
-pub at-opened : (p cs : List ℕ) (s : State) → At p cs s → Past p cs 0 (withSlice s (place s) s.bra)
-unfolding withSlice place
+pub at-opened : (p cs : List ℕ) (s : State) → At p cs s → Past p cs 0 (with_slice s (place s) s.bra)
+unfolding with_slice place
 at-opened p cs s h = record { text-is = h.text-is; cursor-is = omega (arith, h.cursor-is); ket-is = ap length (at_ahead p cs s h) }
 
 -- more characters are passed
-pub past-on : (p cs : List ℕ) (i k : ℕ) (s : State) → Past p cs i s → Past p cs (i + k) (moveTo s (s.cursor + k))
-unfolding moveTo
+pub past-on : (p cs : List ℕ) (i k : ℕ) (s : State) → Past p cs i s → Past p cs (i + k) (move_to s (s.cursor + k))
+unfolding move_to
 past-on p cs i k s h = record { text-is = h.text-is; cursor-is = omega (arith, h.cursor-is); ket-is = h.ket-is }
 
 -- the cursor stands at bra, and stays there
-pub placeAfter-bra : (b k : ℕ) → b ≤ k → placeAfter b k 0 b ≡ b
-unfolding placeAfter
-placeAfter-bra b k h = go (leb k b) (ltb b b) refl
+pub place_after-bra : (b k : ℕ) → b ≤ k → place_after b k 0 b ≡ b
+unfolding place_after
+place_after-bra b k h = go (leb k b) (ltb b b) refl
   where
     go : (u v : Bool) → leb k b ≡ u → cond u (b + 0 - (k - b)) (cond v b b) ≡ b
     go true v e = omega (arith, leb-true k b e)
@@ -80,15 +80,15 @@ cut-text p cs i =
     ∙ ap (λ (x : List ℕ). x ++ drop i cs) (append-nil p)
 
 -- `] delete`: what was passed since the slice was opened is gone
-pub past-cut : (p cs : List ℕ) (i : ℕ) (s : State) → Past p cs i s → At p (drop i cs) (sliceFrom [] (withSlice s s.ket (place s)))
-unfolding sliceFrom withSlice withText place ahead
+pub past-cut : (p cs : List ℕ) (i : ℕ) (s : State) → Past p cs i s → At p (drop i cs) (slice_from [] (with_slice s s.ket (place s)))
+unfolding slice_from with_slice with_text place ahead
 past-cut p cs i s h =
     let b = length (drop i cs) in
     let left : length (drop s.cursor s.text) ≡ b = ap length (past-ahead p cs i s h) in
     let rest : take (length s.text - s.ket) s.text ++ [] ++ drop (length s.text - length (drop s.cursor s.text)) s.text ≡ p ++ drop i cs =
     rw (left, h.text-is, h.ket-is) (cut-text p cs i) in
-    let stays : placeAfter (length (drop s.cursor s.text)) s.ket 0 (length (drop s.cursor s.text)) ≡ b =
-    rw (left, h.ket-is) (placeAfter-bra b (length cs) (omega (arith, length-drop i cs))) in
+    let stays : place_after (length (drop s.cursor s.text)) s.ket 0 (length (drop s.cursor s.text)) ≡ b =
+    rw (left, h.ket-is) (place_after-bra b (length cs) (omega (arith, length-drop i cs))) in
     let front : length (p ++ drop i cs) - b ≡ length p = omega (arith, length-append p (drop i cs)) in
     record { text-is = rest; cursor-is = ap₂ (λ (x : List ℕ) (c : ℕ). length x - c) rest stays ∙ front }
 
@@ -150,7 +150,7 @@ holds_more p cs i k f (took j g) r (t, e, x) = let sum : i + k + j ≡ i + (k + 
 
 -- a mark that fails in an open slice changes nothing but the cursor
 mark-failed : (p cs : List ℕ) (i : ℕ) (s : State) (r : Result) → Past p cs i s → settled s.cursor r ≡ failed s → Holds p cs fail r
-unfolding settled Holds moveTo
+unfolding settled Holds move_to
 mark-failed p cs i s (done t) h e = done-failed e
 mark-failed p cs i s (failed t) h e =
     let same = failed-state e in
@@ -173,22 +173,22 @@ mark-result p cs i s q g h y (took k b) (failed t) e = done-failed (sym e)
 -- where the first fails, the second goes on with the same text
 leaves-or : (p cs : List ℕ) (c : ℕ) (q : State → Result) (o u : Out) (r : Result) → c ≡ length p
     → Leaves p cs o r → ((t : State) → At p cs t → Leaves p cs u (q t)) → Leaves p cs (first o u) (or_else c r q)
-unfolding Leaves first or_else moveTo
-leaves-or p cs c q fail u r e (t, x, y) h = rw x (h (moveTo t c) (record { text-is = y; cursor-is = e }))
+unfolding Leaves first or_else move_to
+leaves-or p cs c q fail u r e (t, x, y) h = rw x (h (move_to t c) (record { text-is = y; cursor-is = e }))
 leaves-or p cs c q (took k f) u r e (t, x, y) h = (t, ap (λ (v : Result). or_else c v q) x, y)
 
 -- and in the same open slice
 holds-or : (p cs : List ℕ) (i c : ℕ) (q : State → Result) (o u : Out) (r : Result) → c ≡ length p + i
     → Holds p cs (more i true o) r → ((t : State) → Past p cs i t → Holds p cs (more i true u) (q t)) → Holds p cs (more i true (first o u)) (or_else c r q)
-unfolding Holds first or_else moveTo more
-holds-or p cs i c q fail u r e (t, x, y, z) h = rw x (h (moveTo t c) (record { text-is = y; cursor-is = e; ket-is = z }))
+unfolding Holds first or_else move_to more
+holds-or p cs i c q fail u r e (t, x, y, z) h = rw x (h (move_to t c) (record { text-is = y; cursor-is = e; ket-is = z }))
 holds-or p cs i c q (took k f) u r e (t, x, y) h = (t, ap (λ (v : Result). or_else c v q) x, y)
 
 -- where the first fails, the second does
 dead-result : (p cs : List ℕ) (i c : ℕ) (q : State → Result) (o : Out) (r : Result) → c ≡ length p + i
     → Holds p cs (more i true o) r → ((t : State) → Past p cs i t → o ≡ fail → Holds p cs fail (q t)) → Holds p cs (more i true o) (or_else c r q)
-unfolding Holds or_else moveTo more
-dead-result p cs i c q fail r e (t, x, y, z) h = rw x (h (moveTo t c) (record { text-is = y; cursor-is = e; ket-is = z }) refl)
+unfolding Holds or_else move_to more
+dead-result p cs i c q fail r e (t, x, y, z) h = rw x (h (move_to t c) (record { text-is = y; cursor-is = e; ket-is = z }) refl)
 dead-result p cs i c q (took k f) r e (t, x, y) h = (t, ap (λ (v : Result). or_else c v q) x, y)
 
 -- the first of three, grouped so or so
@@ -198,10 +198,10 @@ first-assoc fail u v = refl
 first-assoc (took k f) u v = refl
 
 -- so of commands, of which each begins where the first did
-pub orElse-assoc : (c : ℕ) (r : Result) (p q : State → Result) → or_else c (or_else c r p) q ≡ or_else c r (λ s. or_else s.cursor (p s) q)
-unfolding or_else moveTo
-orElse-assoc c (done s) p q = refl
-orElse-assoc c (failed s) p q = refl
+pub or_else-assoc : (c : ℕ) (r : Result) (p q : State → Result) → or_else c (or_else c r p) q ≡ or_else c r (λ s. or_else s.cursor (p s) q)
+unfolding or_else move_to
+or_else-assoc c (done s) p q = refl
+or_else-assoc c (failed s) p q = refl
 
 -- what may fail after a deletion: the characters taken by both are gone
 cut-result : (p cs : List ℕ) (i : ℕ) (o : Out) (r : Result) → Leaves p (drop i cs) (first o (took 0 true)) r → Holds p cs (more i true (first o (took 0 true))) r
@@ -217,13 +217,13 @@ unfolding Chosen Holds settled placed
 chosen-mark p cs s r fail h e = mark-failed p cs 0 s r h e
 chosen-mark p cs s r (took k f) h e =
     let sum : 0 + k ≡ k = omega arith in
-    (moveTo s (s.cursor + k), 0, k, settled-done s.cursor r _ e, rw sum at (past-on p cs 0 k s h), sum)
+    (move_to s (s.cursor + k), 0, k, settled-done s.cursor r _ e, rw sum at (past-on p cs 0 k s h), sum)
 
 -- the first of two choices
 chosen-or : (p cs : List ℕ) (c : ℕ) (q : State → Result) (o u : Out) (r : Result) → c ≡ length p + 0
     → Chosen p cs o r → ((t : State) → Past p cs 0 t → Chosen p cs u (q t)) → Chosen p cs (first o u) (or_else c r q)
-unfolding Chosen first or_else moveTo
-chosen-or p cs c q fail u r e (t, x, y, z) h = rw x (h (moveTo t c) (record { text-is = y; cursor-is = e; ket-is = z }))
+unfolding Chosen first or_else move_to
+chosen-or p cs c q fail u r e (t, x, y, z) h = rw x (h (move_to t c) (record { text-is = y; cursor-is = e; ket-is = z }))
 chosen-or p cs c q (took k f) u r e (t, i, j, x, y, z) h = (t, i, j, ap (λ (v : Result). or_else c v q) x, y, z)
 
 -- a choice that need not be made, behind characters that are gone
@@ -234,7 +234,7 @@ chosen-behind p cs k f fail r (t, i, j, e, x, y) = (t, k + i, j, e, rw (drop-dro
 chosen-behind p cs k f (took n g) r (t, i, j, e, x, y) = (t, k + i, j, e, rw (drop-drop i k cs) at x, omega arith)
 
 -- what was chosen is deleted
-chosen-cut : (p cs : List ℕ) (i j k : ℕ) (t : State) → Past p (drop i cs) j t → i + j ≡ k → At p (drop k cs) (sliceFrom [] (withSlice t t.ket (place t)))
+chosen-cut : (p cs : List ℕ) (i j k : ℕ) (t : State) → Past p (drop i cs) j t → i + j ≡ k → At p (drop k cs) (slice_from [] (with_slice t t.ket (place t)))
 chosen-cut p cs i j k t h e = rw (sym e, sym (drop-drop j i cs)) (past-cut p (drop i cs) j t h)
 
 -- nothing chosen
@@ -246,7 +246,7 @@ chosen_none p cs s h = (s, 0, 0, refl, h, refl)
 chosen-then : (p cs : List ℕ) (s : State) (q : State → Result) (g : List ℕ → Out) → Past p cs 0 s
     → ((ds : List ℕ) (t : State) → At p ds t → Chosen p ds (first (g ds) (took 0 true)) (q t))
     → (o : Out) (r : Result) → settled s.cursor r ≡ placed s o
-    → Chosen p cs (after o (λ k. first (g (drop k cs)) (took 0 true))) (and_then r (λ t. q (sliceFrom [] (withSlice t t.ket (place t)))))
+    → Chosen p cs (after o (λ k. first (g (drop k cs)) (took 0 true))) (and_then r (λ t. q (slice_from [] (with_slice t t.ket (place t)))))
 unfolding placed settled after and_then Chosen Holds
 chosen-then p cs s q g h y fail (done t) e = done-failed e
 chosen-then p cs s q g h y fail (failed t) e = mark-failed p cs 0 s (failed t) h e
@@ -266,9 +266,9 @@ leaves-behind p cs k f (took n g) u r (t, e, x) = (t, e, rw (drop-drop n k cs) a
 choice-tried : (p cs : List ℕ) (c : ℕ) (q : State → Result) (g : List ℕ → Out) (o : Out) (r : Result) → c ≡ length p
     → ((ds : List ℕ) (t : State) → At p ds t → Leaves p ds (g ds) (q t)) → Chosen p cs o r
     → Leaves p cs (first (after o (λ k. first (g (drop k cs)) (took 0 true))) (took 0 true))
-    (or_else c (and_then r (λ t. q (sliceFrom [] (withSlice t t.ket (place t))))) done)
-unfolding Chosen after and_then or_else moveTo Leaves first
-choice-tried p cs c q g fail r e h (t, x, y, z) = rw x (moveTo t c, refl, record { text-is = y; cursor-is = e })
+    (or_else c (and_then r (λ t. q (slice_from [] (with_slice t t.ket (place t))))) done)
+unfolding Chosen after and_then or_else move_to Leaves first
+choice-tried p cs c q g fail r e h (t, x, y, z) = rw x (move_to t c, refl, record { text-is = y; cursor-is = e })
 choice-tried p cs c q g (took k f) r e h (t, i, j, x, y, z) =
     rw x (leaves-behind p cs k f (g (drop k cs)) (took 0 true) _
     (leaves-or p (drop k cs) c done (g (drop k cs)) (took 0 true) _ e (h (drop k cs) _ (chosen-cut p cs i j k t y z)) (λ u a. (u, refl, a))))
@@ -278,9 +278,9 @@ choice-again : (p cs : List ℕ) (c : ℕ) (q d : State → Result) (g h : List 
     → ((ds : List ℕ) (t : State) → At p ds t → Leaves p ds (g ds) (q t)) → ((ds : List ℕ) (t : State) → At p ds t → Leaves p ds (first (h ds) (took 0 true)) (d t))
     → Chosen p cs o r
     → Leaves p cs (first (after o (λ k. first (first (g (drop k cs)) (h (drop k cs))) (took 0 true))) (first (h cs) (took 0 true)))
-    (or_else c (and_then r (λ t. q (sliceFrom [] (withSlice t t.ket (place t))))) d)
-unfolding Chosen after and_then or_else moveTo first
-choice-again p cs c q d g h fail r e x y (t, a, b, z) = rw a (y cs (moveTo t c) (record { text-is = b; cursor-is = e }))
+    (or_else c (and_then r (λ t. q (slice_from [] (with_slice t t.ket (place t))))) d)
+unfolding Chosen after and_then or_else move_to first
+choice-again p cs c q d g h fail r e x y (t, a, b, z) = rw a (y cs (move_to t c) (record { text-is = b; cursor-is = e }))
 choice-again p cs c q d g h (took k f) r e x y (t, i, j, a, b, z) =
     let ds = drop k cs in
     rw a (leaves-behind p cs k f (first (g ds) (h ds)) (first (h cs) (took 0 true)) _
@@ -336,7 +336,7 @@ module _ {self : State → Result} where
   unfolding run and_then
   cuts-open {c} {f} x = record {
     cuts = λ p cs s h.
-        let u = withSlice s (place s) s.bra in
+        let u = with_slice s (place s) s.bra in
         leaves_none p cs (f cs) (run backward self c u) (holds-leaves p cs _ _ (x.cuts p cs 0 u (at-opened p cs s h)));
   }
 
@@ -350,23 +350,23 @@ module _ {self : State → Result} where
 
   -- what is cut in the slice, or else something that opens another
   pub cuts-open-or : {c d : Command} {f g : List ℕ → Out} → Opened self c f → Cuts self d g → Cuts self (⟦ then (c or d)) (either f g)
-  unfolding run and_then withSlice
+  unfolding run and_then with_slice
   cuts-open-or x y = record { cuts = λ p cs s h. (cuts-or (cuts-open x) y).cuts p cs s h }
 
   -- the same of three, of which the last opens another
   pub cuts-open-or-or : {a b c : Command} {f g h : List ℕ → Out} → Opened self a f → Opened self b g → Cuts self c h
       → Cuts self (⟦ then (a or b or c)) (either f (either g h))
-  unfolding run and_then withSlice either
+  unfolding run and_then with_slice either
   cuts-open-or-or {a} {b} {c} {f} {g} {h} x y z = record {
     cuts = λ p cs s k.
-        let u = withSlice s (place s) s.bra in
-        rw (sym (orElse-assoc s.cursor (run backward self a u) (run backward self b) (run backward self c)), sym (first-assoc (f cs) (g cs) (h cs)))
+        let u = with_slice s (place s) s.bra in
+        rw (sym (or_else-assoc s.cursor (run backward self a u) (run backward self b) (run backward self c)), sym (first-assoc (f cs) (g cs) (h cs)))
         ((cuts-open-or (opened-or x y) z).cuts p cs s k);
   }
 
   -- a slice that is opened for nothing
   pub cuts-reopened : {c : Command} {f : List ℕ → Out} → Cuts self c f → Cuts self (⟦ then c) f
-  unfolding run and_then withSlice
+  unfolding run and_then with_slice
   cuts-reopened x = record { cuts = λ p cs s h. x.cuts p cs _ (record { text-is = h.text-is; cursor-is = h.cursor-is }) }
 
   -- ---- try ----
@@ -384,7 +384,7 @@ module _ {self : State → Result} where
   unfolding run perhaps either
   tries-or {c} {d} {f} {g} x y = record {
     cuts = λ p cs s h.
-        rw (orElse-assoc s.cursor (run backward self c s) (run backward self d) done, first-assoc (f cs) (g cs) (took 0 true))
+        rw (or_else-assoc s.cursor (run backward self c s) (run backward self d) done, first-assoc (f cs) (g cs) (took 0 true))
         (leaves-or p cs s.cursor (run backward self (try d)) (f cs) (perhaps g cs) (run backward self c s) h.cursor-is (x.cuts p cs s h) (λ t k. y.cuts p cs t k));
   }
 
@@ -416,7 +416,7 @@ module _ {self : State → Result} where
   unfolding run
   opened-group {a} {b} {c} x = record {
     cuts = λ p cs i s h.
-        rw (sym (orElse-assoc s.cursor (run backward self a s) (run backward self b) (run backward self c))) (x.cuts p cs i s h);
+        rw (sym (or_else-assoc s.cursor (run backward self a s) (run backward self b) (run backward self c))) (x.cuts p cs i s h);
   }
 
   -- ---- a choice, and the try of its deletion ----
@@ -439,7 +439,7 @@ module _ {self : State → Result} where
   -- a mark that is deleted, and then what may be chosen
   pub chooses-cut : {m c : Command} {f g : List ℕ → Out} → Means backward m f → Chooses self c g
       → Chooses self (m then ⟧ then delete then try (⟦ then c)) (both f (perhaps g))
-  unfolding run both perhaps withSlice and_then
+  unfolding run both perhaps with_slice and_then
   chooses-cut {m} {c} {f} {g} x y = record {
     chooses = λ p cs s h.
         chosen-then p cs s (run backward self (try (⟦ then c))) g h (λ ds t a. may p ds t a) (f cs) (run backward self m s)
@@ -448,7 +448,7 @@ module _ {self : State → Result} where
     where
       may : (p ds : List ℕ) (t : State) → At p ds t → Chosen p ds (first (g ds) (took 0 true)) (run backward self (try (⟦ then c)) t)
       may p ds t a =
-          let u = withSlice t (place t) t.bra in
+          let u = with_slice t (place t) t.bra in
           let none : u.cursor ≡ length p + 0 = (at-opened p ds t a).cursor-is in
           chosen-or p ds u.cursor done (g ds) (took 0 true) (run backward self c u) none (y.chooses p ds u (at-opened p ds t a)) (λ v b. chosen_none p ds v b)
 
@@ -458,7 +458,7 @@ module _ {self : State → Result} where
   unfolding run both perhaps and_then
   tries-cut {c} {d} {f} {g} x y = record {
     cuts = λ p cs s h.
-        let u = withSlice s (place s) s.bra in
+        let u = with_slice s (place s) s.bra in
         choice-tried p cs s.cursor (run backward self d) g (f cs) (run backward self c u) h.cursor-is (λ ds t a. y.cuts p ds t a)
         (x.chooses p cs u (at-opened p cs s h));
   }
@@ -469,9 +469,9 @@ module _ {self : State → Result} where
   unfolding run both perhaps either and_then
   tries-again {c} {d} {e} {f} {g} {h} x y z = record {
     cuts = λ p cs s a.
-        let u = withSlice s (place s) s.bra in
+        let u = with_slice s (place s) s.bra in
         rw (
-          orElse-assoc s.cursor (run backward self (⟦ then c then ⟧ then delete then d) s) (run backward self e) done,
+          or_else-assoc s.cursor (run backward self (⟦ then c then ⟧ then delete then d) s) (run backward self e) done,
           first-assoc (both f (perhaps (either g h)) cs) (h cs) (took 0 true),
         )
         (choice-again p cs s.cursor (run backward self d) (run backward self (try e)) g h (f cs) (run backward self c u) a.cursor-is

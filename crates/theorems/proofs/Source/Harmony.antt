@@ -9,19 +9,19 @@ use mathlib.Core.List.{List, [], ◌∷◌}
 use lib.ListN.{length, drop}
 use lib.Dec.{eqb}
 use borrow.Author.Tests.{eqb-true}
-use Rattle.turkish.specs.Letters.{text, fromEnd, any, has, starts}
-use Rattle.turkish.specs.Vowels.{vowels, vowel, lastVowel, beforeLastVowel}
-use Rattle.theorems.specs.Simple.Harmony.{partnerTable, partnersIn, partner, toFirst, harmony}
+use Rattle.turkish.specs.Letters.{text, from_end, any, has, starts}
+use Rattle.turkish.specs.Vowels.{vowels, vowel, last_vowel_of, before_last_vowel}
+use Rattle.theorems.specs.Simple.Harmony.{partner_table, partners_in, partner, to_first, harmony}
 use Rattle.theorems.specs.Simple.Grammar.{Out, fail, more, after, first, optional}
-use Rattle.turkish.specs.Snowball.{isIn, isLeft, backward, letters, Command, ◌then◌, ◌or◌, test, not, goto, next, literal, grouping}
-use Rattle.turkish.specs.Source.{vowel1, vowel2, vowel3, vowel4, vowel5, vowel6, check-vowel-harmony, mark-suffix-with-optional-y-consonant}
+use Rattle.turkish.specs.Snowball.{is_in, is_left, backward, letters, Command, ◌then◌, ◌or◌, test, not, goto, next, literal, grouping}
+use Rattle.turkish.specs.Source.{vowel1, vowel2, vowel3, vowel4, vowel5, vowel6, check_vowel_harmony, mark_suffix_with_optional_y_consonant}
 use Rattle.turkish.specs.Source as Source
-use Rattle.theorems.proofs.Laws.Harmony.{harmony-any, beforeLastVowel-none, lastVowel-vowel}
+use Rattle.theorems.proofs.Laws.Harmony.{harmony-any, before_last_vowel-none, last_vowel_of-vowel}
 use Rattle.theorems.proofs.Laws.Outcome.{first-fail}
 use Rattle.theorems.proofs.Laws.Tests.{eqb_comm}
 use Rattle.theorems.proofs.Source.Means.{Means, means-define, means-as, means-then, means-or, means-test, means-not, means-next, means-literal, means-grouping}
-use Rattle.theorems.proofs.Source.Means.{takeIf, peeked, denied}
-use Rattle.theorems.proofs.Source.LastVowel.{walk, means-walk, walk-toFirst, means-test-goto-vowel}
+use Rattle.theorems.proofs.Source.Means.{take_if, peeked, denied}
+use Rattle.theorems.proofs.Source.LastVowel.{walk, means-walk, walk-to_first, means-test-goto-vowel}
 
 -- ---- harmony ----
 
@@ -42,42 +42,42 @@ each-has {P} c (◌⊹◌ {c = x} {cs = xs} p ps) h = go (eqb c x) refl (each-ha
     go false e r h = r h
 
 -- the commands of lines 116 to 123: the vowel, then a walk to one of its partners
-unfoldable pub partnerAhead : String → String → List ℕ → Out
-partnerAhead v g cs = after (takeIf (starts (letters backward v) cs) (length (letters backward v))) (λ k. walk (text g) (drop k cs))
+unfoldable pub partner_ahead : String → String → List ℕ → Out
+partner_ahead v g cs = after (take_if (starts (letters backward v) cs) (length (letters backward v))) (λ k. walk (text g) (drop k cs))
 
 -- all eight
 unfoldable pub partners : List ℕ → Out
 partners cs =
-    first (partnerAhead "a" vowel1 cs) (first (partnerAhead "e" vowel2 cs) (first (partnerAhead "ı" vowel3 cs) (first (partnerAhead "i" vowel4 cs)
-    (first (partnerAhead "o" vowel5 cs) (first (partnerAhead "ö" vowel6 cs) (first (partnerAhead "u" vowel5 cs) (partnerAhead "ü" vowel6 cs)))))))
+    first (partner_ahead "a" vowel1 cs) (first (partner_ahead "e" vowel2 cs) (first (partner_ahead "ı" vowel3 cs) (first (partner_ahead "i" vowel4 cs)
+    (first (partner_ahead "o" vowel5 cs) (first (partner_ahead "ö" vowel6 cs) (first (partner_ahead "u" vowel5 cs) (partner_ahead "ü" vowel6 cs)))))))
 
 -- where the one of them that begins with the vowel fails, the others fail
-partner-else : (g cs : List ℕ) → first (more 1 true (walk g cs)) fail ≡ takeIf (any (has g) cs) (toFirst (has g) cs)
-partner-else g cs = first-fail (more 1 true (walk g cs)) ∙ walk-toFirst g cs
+partner-else : (g cs : List ℕ) → first (more 1 true (walk g cs)) fail ≡ take_if (any (has g) cs) (to_first (has g) cs)
+partner-else g cs = first-fail (more 1 true (walk g cs)) ∙ walk-to_first g cs
 
 -- so at a vowel they go as far as its first partner behind it
-pub partners-vowel : (cs : List ℕ) (c : ℕ) → vowel c ≡ true → partners (c ∷ cs) ≡ takeIf (any (partner c) cs) (toFirst (partner c) cs)
-unfolding vowel vowels partners partnerAhead letters fromEnd text starts takeIf after first partner partnersIn partnerTable
+pub partners-vowel : (cs : List ℕ) (c : ℕ) → vowel c ≡ true → partners (c ∷ cs) ≡ take_if (any (partner c) cs) (to_first (partner c) cs)
+unfolding vowel vowels partners partner_ahead letters from_end text starts take_if after first partner partners_in partner_table
 partners-vowel cs c h =
-    each-has {P = λ c. partners (c ∷ cs) ≡ takeIf (any (partner c) cs) (toFirst (partner c) cs)} c
+    each-has {P = λ c. partners (c ∷ cs) ≡ take_if (any (partner c) cs) (to_first (partner c) cs)} c
     (partner-else (text vowel1) cs ⊹ partner-else (text vowel2) cs ⊹ partner-else (text vowel3) cs ⊹ partner-else (text vowel4) cs
-    ⊹ partner-else (text vowel5) cs ⊹ partner-else (text vowel6) cs ⊹ partner-else (text vowel5) cs ⊹ walk-toFirst (text vowel6) cs ⊹ none) h
+    ⊹ partner-else (text vowel5) cs ⊹ partner-else (text vowel6) cs ⊹ partner-else (text vowel5) cs ⊹ walk-to_first (text vowel6) cs ⊹ none) h
 
 -- and behind a walk to the last vowel they test that there is harmony
-partners-last : (cs : List ℕ) → cond (any vowel cs) (peeked (partners (lastVowel cs ∷ beforeLastVowel cs))) fail ≡ takeIf (harmony cs) 0
-unfolding takeIf peeked any
+partners-last : (cs : List ℕ) → cond (any vowel cs) (peeked (partners (last_vowel_of cs ∷ before_last_vowel cs))) fail ≡ take_if (harmony cs) 0
+unfolding take_if peeked any
 partners-last cs = rw (harmony-any cs) (go (any vowel cs) refl)
   where
-    looked : (b : Bool) (n : ℕ) → peeked (takeIf b n) ≡ takeIf b 0
+    looked : (b : Bool) (n : ℕ) → peeked (take_if b n) ≡ take_if b 0
     looked true n = refl
     looked false n = refl
 
     go : (t : Bool) → any vowel cs ≡ t
-        → cond t (peeked (partners (lastVowel cs ∷ beforeLastVowel cs))) fail ≡ takeIf (any (partner (lastVowel cs)) (beforeLastVowel cs)) 0
+        → cond t (peeked (partners (last_vowel_of cs ∷ before_last_vowel cs))) fail ≡ take_if (any (partner (last_vowel_of cs)) (before_last_vowel cs)) 0
     go true e =
-        let some = any (partner (lastVowel cs)) (beforeLastVowel cs) in
-        ap peeked (partners-vowel (beforeLastVowel cs) (lastVowel cs) (lastVowel-vowel cs e)) ∙ looked some (toFirst (partner (lastVowel cs)) (beforeLastVowel cs))
-    go false e = rw (beforeLastVowel-none cs e)
+        let some = any (partner (last_vowel_of cs)) (before_last_vowel cs) in
+        ap peeked (partners-vowel (before_last_vowel cs) (last_vowel_of cs) (last_vowel_of-vowel cs e)) ∙ looked some (to_first (partner (last_vowel_of cs)) (before_last_vowel cs))
+    go false e = rw (before_last_vowel-none cs e)
 
 -- a line of the source, from 116 to 123
 abbrev pub line : String → String → Command
@@ -88,8 +88,8 @@ abbrev pub lines : Command
 lines = line "a" vowel1 or line "e" vowel2 or line "ı" vowel3 or line "i" vowel4 or line "o" vowel5 or line "ö" vowel6 or line "u" vowel5 or line "ü" vowel6
 
 -- each means a vowel and a walk to one of its partners
-line-means : (v g : String) → Means backward (line v g) (partnerAhead v g)
-unfolding partnerAhead
+line-means : (v g : String) → Means backward (line v g) (partner_ahead v g)
+unfolding partner_ahead
 line-means v g = means-then (means-literal v) (means-walk g)
 
 -- and all eight the first of them that does not fail
@@ -100,36 +100,36 @@ lines-mean =
     (means-or (line-means "o" vowel5) (means-or (line-means "ö" vowel6) (means-or (line-means "u" vowel5) (line-means "ü" vowel6)))))))
 
 -- check_vowel_harmony takes nothing and succeeds where there is harmony
-pub harmony-means : Means backward check-vowel-harmony (λ cs. takeIf (harmony cs) 0)
-unfolding check-vowel-harmony
+pub harmony-means : Means backward check_vowel_harmony (λ cs. take_if (harmony cs) 0)
+unfolding check_vowel_harmony
 harmony-means = means-define _ (means-as (means-test-goto-vowel lines-mean) partners-last)
 
 -- ---- an optional letter ----
 
 -- a vowel is ahead, or a character that is none
-unfoldable pub vowelOrNot : Bool → List ℕ → Bool
-vowelOrNot vowelled [] = false
-vowelOrNot vowelled (d ∷ ds) = cond vowelled (vowel d) (Bool.not (vowel d))
+unfoldable pub vowel_or_not : Bool → List ℕ → Bool
+vowel_or_not vowelled [] = false
+vowel_or_not vowelled (d ∷ ds) = cond vowelled (vowel d) (Bool.not (vowel d))
 
 -- the form of lines 154 and 156: the letter and what must stand before it, or no letter and one character more
-unfoldable withOrWithout : (List ℕ → Bool) → (List ℕ → Bool) → List ℕ → Out
-withOrWithout letter before cs =
-    first (after (takeIf (letter cs) 1) (λ k. peeked (takeIf (before (drop k cs)) 1)))
-    (after (denied (peeked (takeIf (letter cs) 1)))
-    (λ k. peeked (after (takeIf (isLeft (drop k cs)) 1) (λ j. takeIf (before (drop j (drop k cs))) 1))))
+unfoldable with_or_without : (List ℕ → Bool) → (List ℕ → Bool) → List ℕ → Out
+with_or_without letter before cs =
+    first (after (take_if (letter cs) 1) (λ k. peeked (take_if (before (drop k cs)) 1)))
+    (after (denied (peeked (take_if (letter cs) 1)))
+    (λ k. peeked (after (take_if (is_left (drop k cs)) 1) (λ j. take_if (before (drop j (drop k cs))) 1))))
 
 -- with a letter and without one, the second character back must be of the right kind
-withOrWithout-same : (ls : List ℕ) (v : Bool) (cs : List ℕ) → withOrWithout (isIn ls) (vowelOrNot v) cs ≡ optional ls v cs
-unfolding withOrWithout first after denied peeked takeIf isIn isLeft vowelOrNot optional more
-withOrWithout-same ls v [] = refl
-withOrWithout-same ls v (c ∷ []) = go (has ls c) refl
+with_or_without-same : (ls : List ℕ) (v : Bool) (cs : List ℕ) → with_or_without (is_in ls) (vowel_or_not v) cs ≡ optional ls v cs
+unfolding with_or_without first after denied peeked take_if is_in is_left vowel_or_not optional more
+with_or_without-same ls v [] = refl
+with_or_without-same ls v (c ∷ []) = go (has ls c) refl
   where
-    go : (t : Bool) → has ls c ≡ t → withOrWithout (isIn ls) (vowelOrNot v) (c ∷ []) ≡ fail
+    go : (t : Bool) → has ls c ≡ t → with_or_without (is_in ls) (vowel_or_not v) (c ∷ []) ≡ fail
     go true e = rw e
     go false e = rw e
-withOrWithout-same ls v (c ∷ d ∷ cs) = go (has ls c) (vowelOrNot v (d ∷ cs)) refl refl
+with_or_without-same ls v (c ∷ d ∷ cs) = go (has ls c) (vowel_or_not v (d ∷ cs)) refl refl
   where
-    go : (t u : Bool) → has ls c ≡ t → vowelOrNot v (d ∷ cs) ≡ u → withOrWithout (isIn ls) (vowelOrNot v) (c ∷ d ∷ cs) ≡ optional ls v (c ∷ d ∷ cs)
+    go : (t u : Bool) → has ls c ≡ t → vowel_or_not v (d ∷ cs) ≡ u → with_or_without (is_in ls) (vowel_or_not v) (c ∷ d ∷ cs) ≡ optional ls v (c ∷ d ∷ cs)
     go true true e h = rw (e, h)
     go true false e h = rw (e, h)
     go false true e h = rw (e, h)
@@ -137,31 +137,31 @@ withOrWithout-same ls v (c ∷ d ∷ cs) = go (has ls c) (vowelOrNot v (d ∷ cs
 
 -- so a routine of that form is the simple form's one clause, whatever reads the letter and what must stand before it
 pub optional-means : {p q : Command} (ls : List ℕ) (v : Bool)
-    → Means backward p (λ cs. takeIf (isIn ls cs) 1) → Means backward q (λ cs. takeIf (vowelOrNot v cs) 1)
+    → Means backward p (λ cs. take_if (is_in ls cs) 1) → Means backward q (λ cs. take_if (vowel_or_not v cs) 1)
     → Means backward ((p then (test q)) or ((not (test p)) then test (next then q))) (optional ls v)
-unfolding withOrWithout
+unfolding with_or_without
 optional-means ls v x y =
-    means-as (means-or (means-then x (means-test y)) (means-then (means-not (means-test x)) (means-test (means-then means-next y)))) (withOrWithout-same ls v)
+    means-as (means-or (means-then x (means-test y)) (means-then (means-not (means-test x)) (means-test (means-then means-next y)))) (with_or_without-same ls v)
 
 -- a literal of one letter reads a letter
-pub letter-means : (l : String) (c : ℕ) → text l ≡ c ∷ [] → Means backward (literal l) (λ cs. takeIf (isIn (text l) cs) 1)
-unfolding letters fromEnd starts isIn has any
+pub letter-means : (l : String) (c : ℕ) → text l ≡ c ∷ [] → Means backward (literal l) (λ cs. take_if (is_in (text l) cs) 1)
+unfolding letters from_end starts is_in has any
 letter-means l c e = means-as (means-literal l) (λ cs. rw e (go cs))
   where
-    go : (cs : List ℕ) → takeIf (starts (c ∷ []) cs) 1 ≡ takeIf (isIn (c ∷ []) cs) 1
+    go : (cs : List ℕ) → take_if (starts (c ∷ []) cs) 1 ≡ take_if (is_in (c ∷ []) cs) 1
     go [] = refl
     go (x ∷ cs) = rw (eqb_comm c x, and-true (eqb x c), or-false (eqb x c))
 
 -- and the grouping of the vowels reads a vowel
-pub vowel-means : Means backward (grouping Source.vowel) (λ cs. takeIf (vowelOrNot true cs) 1)
-unfolding isIn vowelOrNot vowel vowels
-vowel-means = means-as (means-grouping Source.vowel) (λ cs. ap (λ (t : Bool). takeIf t 1) (go cs))
+pub vowel-means : Means backward (grouping Source.vowel) (λ cs. take_if (vowel_or_not true cs) 1)
+unfolding is_in vowel_or_not vowel vowels
+vowel-means = means-as (means-grouping Source.vowel) (λ cs. ap (λ (t : Bool). take_if t 1) (go cs))
   where
-    go : (cs : List ℕ) → isIn vowels cs ≡ vowelOrNot true cs
+    go : (cs : List ℕ) → is_in vowels cs ≡ vowel_or_not true cs
     go [] = refl
     go (c ∷ cs) = refl
 
 -- so is the optional y's routine
-pub optionalY-means : Means backward mark-suffix-with-optional-y-consonant (optional (text "y") true)
-unfolding mark-suffix-with-optional-y-consonant
-optionalY-means = means-define _ (optional-means (text "y") true (letter-means "y" 0x79 (unfold text in refl)) vowel-means)
+pub optional_y-means : Means backward mark_suffix_with_optional_y_consonant (optional (text "y") true)
+unfolding mark_suffix_with_optional_y_consonant
+optional_y-means = means-define _ (optional-means (text "y") true (letter-means "y" 0x79 (unfold text in refl)) vowel-means)

@@ -6,11 +6,11 @@ use mathlib.Core.Bool.{Bool, true, false≢true}
 use mathlib.Core.List.{List, [], ◌∷◌, ◌++◌}
 use native.Mathlib.Omega.{arith}
 use lib.ListN.{length, drop, length-drop}
-use Rattle.turkish.specs.Snowball.{State, ahead, place, moveTo, Result, done, failed, and_then, or_else, backward, Command, ◌then◌, ◌or◌, succeed, run}
+use Rattle.turkish.specs.Snowball.{State, ahead, place, move_to, Result, done, failed, and_then, or_else, backward, Command, ◌then◌, ◌or◌, succeed, run}
 use Rattle.turkish.specs.Answers.{succeeded}
-use Rattle.turkish.specs.Pieces.{Kept, Reading, blank, readThen, readAfter, readOr}
+use Rattle.turkish.specs.Pieces.{Kept, Reading, blank, read_then, read_after, read_or}
 use Rattle.turkish.specs.Pieces as Pieces
-use Rattle.theorems.specs.Simple.Pieces.{Taken, Trace, none, keeps, total, moreTrace, afterTrace, firstTrace, summed, kept_at, located}
+use Rattle.theorems.specs.Simple.Pieces.{Taken, Trace, none, keeps, total, more_trace, after_trace, first_trace, summed, kept_at, located}
 use Rattle.theorems.proofs.Laws.Traces.{summed-after, summed-first}
 use Rattle.theorems.proofs.Source.Means.{Means, settled, placed, settled-again, done-failed, done-state, failed-state, ahead-on, means-as, means-then, means-or, means-succeed}
 
@@ -25,7 +25,7 @@ located-append n (t ∷ ts) us =
     ap (λ (ks : List Kept). kept_at n t ∷ ks) (located-append (n - t.size) ts us ∙ ap (λ (m : ℕ). located (n - t.size) ts ++ located m us) e)
 
 -- some characters on, so many fewer stand before the cursor
-pub place-on : (s : State) (k : ℕ) → place (moveTo s (s.cursor + k)) ≡ place s - k
+pub place-on : (s : State) (k : ℕ) → place (move_to s (s.cursor + k)) ≡ place s - k
 unfolding place
 place-on s k = ap length (ahead-on s k) ∙ length-drop k (ahead s)
 
@@ -39,8 +39,8 @@ Shows s (keeps ts f) r a = (succeeded r ≡ true) × (a.kept ≡ located (place 
 
 -- the first of two that does not fail
 pub shows-or : (s : State) (q : State → Result) (b : State → Reading) (r : Result) (a : Reading) (o u : Trace)
-    → Shows s o r a → Shows s u (q s) (b s) → Shows s (firstTrace o u) (or_else s.cursor r q) (readOr s.cursor r a b)
-unfolding Shows firstTrace or_else readOr settled succeeded
+    → Shows s o r a → Shows s u (q s) (b s) → Shows s (first_trace o u) (or_else s.cursor r q) (read_or s.cursor r a b)
+unfolding Shows first_trace or_else read_or settled succeeded
 shows-or s q b (done t) a none u e h = done-failed e
 shows-or s q b (failed t) a none u e h = rw (failed-state e) h
 shows-or s q b (done t) a (keeps ts f) u e h = e
@@ -53,28 +53,28 @@ Surely n (keeps ts f) r a = (succeeded r ≡ true) × (a.kept ≡ located n ts)
 
 -- what surely follows some marks is shown, seen from where they began
 pub surely-more : (s : State) (n : ℕ) (ts : List Taken) (f : Bool) (r : Result) (a b : Reading) (o : Trace) → a.kept ≡ located (place s) ts
-    → n ≡ place s - total ts → Surely n o r b → Shows s (moreTrace ts f o) r (readThen a b)
-unfolding Shows Surely moreTrace readThen
+    → n ≡ place s - total ts → Surely n o r b → Shows s (more_trace ts f o) r (read_then a b)
+unfolding Shows Surely more_trace read_then
 surely-more s n ts f r a b none e p h = absurd h
 surely-more s n ts f r a b (keeps us g) e p h =
     (h.0, ap₂ (λ (x y : List Kept). x ++ y) e (h.1 ∙ ap (λ (m : ℕ). located m us) p) ∙ sym (located-append (place s) ts us))
 
 -- and so is what is shown some marks on
 shows_more : (s : State) (ts : List Taken) (f : Bool) (r : Result) (a b : Reading) (o : Trace) → a.kept ≡ located (place s) ts
-    → Shows (moveTo s (s.cursor + total ts)) o r b → Shows s (moreTrace ts f o) r (readThen a b)
-unfolding Shows Surely moreTrace moveTo settled
+    → Shows (move_to s (s.cursor + total ts)) o r b → Shows s (more_trace ts f o) r (read_then a b)
+unfolding Shows Surely more_trace move_to settled
 shows_more s ts f r a b none e h = sym (settled-again s.cursor (s.cursor + total ts) r) ∙ ap (settled s.cursor) h
 shows_more s ts f r a b (keeps us g) e h = surely-more s _ ts f r a b (keeps us g) e (place-on s (total ts)) h
 
 -- one after the other, where the first takes what its marks took
 shows_then : (s : State) (q : State → Result) (b : State → Reading) (g : List ℕ → Trace) → ((t : State) → Shows t (g (ahead t)) (q t) (b t))
     → (r : Result) (a : Reading) (o : Trace) → settled s.cursor r ≡ placed s (summed o) → Shows s o r a
-    → Shows s (afterTrace o (λ k. g (drop k (ahead s)))) (and_then r q) (readAfter r a b)
-unfolding Shows afterTrace summed settled placed and_then readAfter
+    → Shows s (after_trace o (λ k. g (drop k (ahead s)))) (and_then r q) (read_after r a b)
+unfolding Shows after_trace summed settled placed and_then read_after
 shows_then s q b g h (done t) a none e x = done-failed x
 shows_then s q b g h (failed t) a none e x = x
 shows_then s q b g h (done t) a (keeps ts f) e x =
-    let u = moveTo s (s.cursor + total ts) in
+    let u = move_to s (s.cursor + total ts) in
     let there = rw (ahead-on s (total ts)) at (h u) in
     rw (done-state e) (shows_more s ts f (q u) a (b u) (g (drop (total ts) (ahead s))) x.1 there)
 shows_then s q b g h (failed t) a (keeps ts f) e x = done-failed (sym e)
@@ -91,7 +91,7 @@ pub record Keeps (p : Command) (g : List ℕ → Trace) : Type 0 where
   pub on-state : (self : State → Result) (s : State) → Shown self p s (g (ahead s))
 
 -- one command after another keeps what both keep
-pub keeps_then : {p q : Command} {f g : List ℕ → Trace} → Keeps p f → Keeps q g → Keeps (p then q) (λ cs. afterTrace (f cs) (λ k. g (drop k cs)))
+pub keeps_then : {p q : Command} {f g : List ℕ → Trace} → Keeps p f → Keeps q g → Keeps (p then q) (λ cs. after_trace (f cs) (λ k. g (drop k cs)))
 unfolding run Pieces.reading
 keeps_then {p} {q} {f} {g} x y =
     record {
@@ -102,7 +102,7 @@ keeps_then {p} {q} {f} {g} x y =
     }
 
 -- `or` keeps what the first keeps that does not fail
-pub keeps-or : {p q : Command} {f g : List ℕ → Trace} → Keeps p f → Keeps q g → Keeps (p or q) (λ cs. firstTrace (f cs) (g cs))
+pub keeps-or : {p q : Command} {f g : List ℕ → Trace} → Keeps p f → Keeps q g → Keeps (p or q) (λ cs. first_trace (f cs) (g cs))
 unfolding run Pieces.reading
 keeps-or {p} {q} {f} {g} x y =
     record {

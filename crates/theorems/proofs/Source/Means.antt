@@ -9,8 +9,8 @@ use native.Mathlib.Omega.{arith}
 use lib.ListN.{length, drop}
 use lib.Seq.{drop-drop}
 use Rattle.turkish.specs.Letters.{text, starts}
-use Rattle.turkish.specs.Snowball.{State, ahead, moveTo, Result, done, failed, and_then, or_else, tested, negated, readIf, isLeft, isIn, isOutside, Direction, letters, longest}
-use Rattle.turkish.specs.Snowball.{keyAhead, fits, goPast, Command, define, ◌then◌, ◌or◌, test, not, goto, gopast, succeed, next, literal, grouping, outside, among, enough}
+use Rattle.turkish.specs.Snowball.{State, ahead, move_to, Result, done, failed, and_then, or_else, tested, negated, read_if, is_left, is_in, is_outside, Direction, letters, longest}
+use Rattle.turkish.specs.Snowball.{key_ahead, fits, go_past, Command, define, ◌then◌, ◌or◌, test, not, goto, gopast, succeed, next, literal, grouping, outside, among, enough}
 use Rattle.turkish.specs.Snowball.{run}
 use Rattle.turkish.specs.Answers.{succeeded, left}
 use Rattle.theorems.specs.Simple.Grammar.{Out, fail, took, more, after, first}
@@ -21,12 +21,12 @@ use Rattle.theorems.proofs.Laws.Outcome.{first-fail}
 -- a result with the cursor put back where it failed
 unfoldable pub settled : ℕ → Result → Result
 settled c (done s) = done s
-settled c (failed s) = failed (moveTo s c)
+settled c (failed s) = failed (move_to s c)
 
 -- what a state becomes by an answer
 unfoldable pub placed : State → Out → Result
 placed s fail = failed s
-placed s (took k f) = done (moveTo s (s.cursor + k))
+placed s (took k f) = done (move_to s (s.cursor + k))
 
 -- in any state the command, read in the direction, does what the function says of the characters ahead
 pub record Means (d : Direction) (p : Command) (f : List ℕ → Out) : Type 0 where
@@ -34,7 +34,7 @@ pub record Means (d : Direction) (p : Command) (f : List ℕ → Out) : Type 0 w
 
 -- it is no matter whether the cursor was put back before
 pub settled-again : (c b : ℕ) (r : Result) → settled c (settled b r) ≡ settled c r
-unfolding settled moveTo
+unfolding settled move_to
 settled-again c b (done s) = refl
 settled-again c b (failed s) = refl
 
@@ -66,32 +66,32 @@ settled-done c (done s) t e = e
 settled-done c (failed s) t e = done-failed (sym e)
 
 -- the characters ahead, some characters on
-pub ahead-on : (s : State) (k : ℕ) → ahead (moveTo s (s.cursor + k)) ≡ drop k (ahead s)
-unfolding ahead moveTo
+pub ahead-on : (s : State) (k : ℕ) → ahead (move_to s (s.cursor + k)) ≡ drop k (ahead s)
+unfolding ahead move_to
 ahead-on s k = sym (drop-drop k s.cursor s.text)
 
 -- one step of so many and then so many
-pub moved_on : (s : State) (j k : ℕ) → done (moveTo (moveTo s (s.cursor + j)) (s.cursor + j + k)) ≡ done (moveTo s (s.cursor + (j + k)))
-unfolding moveTo
-moved_on s j k = let e : s.cursor + j + k ≡ s.cursor + (j + k) = omega arith in ap (λ (c : ℕ). done (moveTo s c)) e
+pub moved_on : (s : State) (j k : ℕ) → done (move_to (move_to s (s.cursor + j)) (s.cursor + j + k)) ≡ done (move_to s (s.cursor + (j + k)))
+unfolding move_to
+moved_on s j k = let e : s.cursor + j + k ≡ s.cursor + (j + k) = omega arith in ap (λ (c : ℕ). done (move_to s c)) e
 
 -- no step
-pub moved_none : (s : State) → done (moveTo s (s.cursor + 0)) ≡ done s
-unfolding moveTo
-moved_none s = let e : s.cursor + 0 ≡ s.cursor = omega arith in ap (λ (c : ℕ). done (moveTo s c)) e
+pub moved_none : (s : State) → done (move_to s (s.cursor + 0)) ≡ done s
+unfolding move_to
+moved_none s = let e : s.cursor + 0 ≡ s.cursor = omega arith in ap (λ (c : ℕ). done (move_to s c)) e
 
 -- an answer some characters on, seen from where they began
-pub placed-more : (s : State) (k : ℕ) (f : Bool) (o : Out) → settled s.cursor (placed (moveTo s (s.cursor + k)) o) ≡ placed s (more k f o)
-unfolding settled placed more moveTo
+pub placed-more : (s : State) (k : ℕ) (f : Bool) (o : Out) → settled s.cursor (placed (move_to s (s.cursor + k)) o) ≡ placed s (more k f o)
+unfolding settled placed more move_to
 placed-more s k f fail = refl
 placed-more s k f (took j g) = moved_on s k j
 
 -- a command run some characters on, seen from where they began
 pub settled_on : (s : State) (k : ℕ) (f : Bool) (q : State → Result) (o : Out)
-    → settled (moveTo s (s.cursor + k)).cursor (q (moveTo s (s.cursor + k))) ≡ placed (moveTo s (s.cursor + k)) o
-    → settled s.cursor (q (moveTo s (s.cursor + k))) ≡ placed s (more k f o)
+    → settled (move_to s (s.cursor + k)).cursor (q (move_to s (s.cursor + k))) ≡ placed (move_to s (s.cursor + k)) o
+    → settled s.cursor (q (move_to s (s.cursor + k))) ≡ placed s (more k f o)
 settled_on s k f q o h =
-    let t = moveTo s (s.cursor + k) in
+    let t = move_to s (s.cursor + k) in
     sym (settled-again s.cursor t.cursor (q t)) ∙ ap (settled s.cursor) h ∙ placed-more s k f o
 
 -- ---- a routine ----
@@ -110,7 +110,7 @@ then-result : (s : State) (q : State → Result) (g : List ℕ → Out)
 unfolding settled placed and_then after
 then-result s q g h (done t) fail e = done-failed e
 then-result s q g h (done t) (took k f) e =
-    let u = moveTo s (s.cursor + k) in
+    let u = move_to s (s.cursor + k) in
     ap (λ (v : State). settled s.cursor (q v)) (done-state e)
     ∙ settled_on s k f q (g (drop k (ahead s))) (h u ∙ ap (λ (cs : List ℕ). placed u (g cs)) (ahead-on s k))
 then-result s q g h (failed t) fail e = e
@@ -157,9 +157,9 @@ peeked-more k f (took j g) = refl
 
 -- a test that succeeds leaves the state as it was
 test-result : (s : State) (r : Result) (o : Out) → settled s.cursor r ≡ placed s o → settled s.cursor (tested s.cursor r) ≡ placed s (peeked o)
-unfolding settled placed tested peeked moveTo
+unfolding settled placed tested peeked move_to
 test-result s (done t) fail e = done-failed e
-test-result s (done t) (took k f) e = ap (λ (u : State). done (moveTo u s.cursor)) (done-state e) ∙ sym (moved_none s)
+test-result s (done t) (took k f) e = ap (λ (u : State). done (move_to u s.cursor)) (done-state e) ∙ sym (moved_none s)
 test-result s (failed t) fail e = e
 test-result s (failed t) (took k f) e = done-failed (sym e)
 
@@ -170,9 +170,9 @@ means-test {d} {p} {f} x = record { on-state = λ self s. test-result s (run d s
 
 -- what fails leaves the state as it was
 not-result : (s : State) (r : Result) (o : Out) → settled s.cursor r ≡ placed s o → settled s.cursor (negated s.cursor r) ≡ placed s (denied o)
-unfolding settled placed negated denied moveTo
+unfolding settled placed negated denied move_to
 not-result s (done t) fail e = done-failed e
-not-result s (done t) (took k f) e = ap (λ (u : State). failed (moveTo u s.cursor)) (done-state e)
+not-result s (done t) (took k f) e = ap (λ (u : State). failed (move_to u s.cursor)) (done-state e)
 not-result s (failed t) fail e = ap done (failed-state e) ∙ sym (moved_none s)
 not-result s (failed t) (took k f) e = done-failed (sym e)
 
@@ -184,44 +184,44 @@ means-not {d} {p} {f} x = record { on-state = λ self s. not-result s (run d sel
 -- ---- reading ----
 
 -- so many characters where a test holds
-unfoldable pub takeIf : Bool → ℕ → Out
-takeIf b n = cond b (took n true) fail
+unfoldable pub take_if : Bool → ℕ → Out
+take_if b n = cond b (took n true) fail
 
 -- with one before them they are one more
-pub more-takeIf : (b : Bool) (n : ℕ) → more 1 true (takeIf b n) ≡ takeIf b (suc n)
-unfolding more takeIf
-more-takeIf true n = let e : 1 + n ≡ suc n = omega arith in ap (λ (k : ℕ). took k true) e
-more-takeIf false n = refl
+pub more-take_if : (b : Bool) (n : ℕ) → more 1 true (take_if b n) ≡ take_if b (suc n)
+unfolding more take_if
+more-take_if true n = let e : 1 + n ≡ suc n = omega arith in ap (λ (k : ℕ). took k true) e
+more-take_if false n = refl
 
 -- so many are passed, or the state stays
-read_result : (s : State) (b : Bool) (n : ℕ) → settled s.cursor (readIf b n s) ≡ placed s (takeIf b n)
-unfolding settled placed readIf takeIf moveTo
+read_result : (s : State) (b : Bool) (n : ℕ) → settled s.cursor (read_if b n s) ≡ placed s (take_if b n)
+unfolding settled placed read_if take_if move_to
 read_result s true n = refl
 read_result s false n = refl
 
 -- a character, if one is left
-pub means-next : {d : Direction} → Means d next (λ cs. takeIf (isLeft cs) 1)
+pub means-next : {d : Direction} → Means d next (λ cs. take_if (is_left cs) 1)
 unfolding run
-means-next = record { on-state = λ self s. read_result s (isLeft (ahead s)) 1 }
+means-next = record { on-state = λ self s. read_result s (is_left (ahead s)) 1 }
 
 -- a literal's letters
-pub means-literal : {d : Direction} (l : String) → Means d (literal l) (λ cs. takeIf (starts (letters d l) cs) (length (letters d l)))
+pub means-literal : {d : Direction} (l : String) → Means d (literal l) (λ cs. take_if (starts (letters d l) cs) (length (letters d l)))
 unfolding run
 means-literal {d} l = record { on-state = λ self s. read_result s (starts (letters d l) (ahead s)) (length (letters d l)) }
 
 -- a character of a grouping
-pub means-grouping : {d : Direction} (g : String) → Means d (grouping g) (λ cs. takeIf (isIn (text g) cs) 1)
+pub means-grouping : {d : Direction} (g : String) → Means d (grouping g) (λ cs. take_if (is_in (text g) cs) 1)
 unfolding run
-means-grouping g = record { on-state = λ self s. read_result s (isIn (text g) (ahead s)) 1 }
+means-grouping g = record { on-state = λ self s. read_result s (is_in (text g) (ahead s)) 1 }
 
 -- one that is not of it
-pub means-outside : {d : Direction} (g : String) → Means d (outside g) (λ cs. takeIf (isOutside (text g) cs) 1)
+pub means-outside : {d : Direction} (g : String) → Means d (outside g) (λ cs. take_if (is_outside (text g) cs) 1)
 unfolding run
-means-outside g = record { on-state = λ self s. read_result s (isOutside (text g) (ahead s)) 1 }
+means-outside g = record { on-state = λ self s. read_result s (is_outside (text g) (ahead s)) 1 }
 
 -- the longest key that fits, whatever its number
-pub means-among : {d : Direction} (ks : List String) → Means d (among ks) (λ cs. let k = longest 1 (map (letters d) ks) cs in takeIf (fits k) k.size)
-unfolding run keyAhead
+pub means-among : {d : Direction} (ks : List String) → Means d (among ks) (λ cs. let k = longest 1 (map (letters d) ks) cs in take_if (fits k) k.size)
+unfolding run key_ahead
 means-among {d} ks =
     record { on-state = λ self s. let k = longest 1 (map (letters d) ks) (ahead s) in read_result s (fits k) k.size }
 
@@ -239,19 +239,19 @@ sought f (c ∷ cs) = first (f (c ∷ cs)) (more 1 true (sought f cs))
 
 -- a walk from place to place, with one turn for each character ahead and one at the edge
 past-result : (q : State → Result) (f : List ℕ → Out) → ((s : State) → settled s.cursor (q s) ≡ placed s (f (ahead s)))
-    → (cs : List ℕ) (s : State) → ahead s ≡ cs → settled s.cursor (goPast (suc (length cs)) q s) ≡ placed s (sought f cs)
-unfolding goPast sought readIf isLeft and_then settled placed moveTo
+    → (cs : List ℕ) (s : State) → ahead s ≡ cs → settled s.cursor (go_past (suc (length cs)) q s) ≡ placed s (sought f cs)
+unfolding go_past sought read_if is_left and_then settled placed move_to
 past-result q f h [] s e =
     let here = h s ∙ ap (λ (xs : List ℕ). placed s (f xs)) e in
-    let edge = ap (λ (xs : List ℕ). settled s.cursor (and_then (readIf (isLeft xs) 1 s) (goPast 0 q))) e in
-    or-result s (λ t. and_then (readIf (isLeft (ahead t)) 1 t) (goPast 0 q)) (q s) (f []) fail here edge ∙ ap (placed s) (first-fail (f []))
+    let edge = ap (λ (xs : List ℕ). settled s.cursor (and_then (read_if (is_left xs) 1 s) (go_past 0 q))) e in
+    or-result s (λ t. and_then (read_if (is_left (ahead t)) 1 t) (go_past 0 q)) (q s) (f []) fail here edge ∙ ap (placed s) (first-fail (f []))
 past-result q f h (c ∷ cs) s e =
     let n = suc (length cs) in
     let here = h s ∙ ap (λ (xs : List ℕ). placed s (f xs)) e in
-    let there = past-result q f h cs (moveTo s (s.cursor + 1)) (ahead-on s 1 ∙ ap (drop 1) e) in
-    let on = ap (λ (xs : List ℕ). settled s.cursor (and_then (readIf (isLeft xs) 1 s) (goPast n q))) e in
-    or-result s (λ t. and_then (readIf (isLeft (ahead t)) 1 t) (goPast n q)) (q s) (f (c ∷ cs)) (more 1 true (sought f cs)) here
-    (on ∙ settled_on s 1 true (goPast n q) (sought f cs) there)
+    let there = past-result q f h cs (move_to s (s.cursor + 1)) (ahead-on s 1 ∙ ap (drop 1) e) in
+    let on = ap (λ (xs : List ℕ). settled s.cursor (and_then (read_if (is_left xs) 1 s) (go_past n q))) e in
+    or-result s (λ t. and_then (read_if (is_left (ahead t)) 1 t) (go_past n q)) (q s) (f (c ∷ cs)) (more 1 true (sought f cs)) here
+    (on ∙ settled_on s 1 true (go_past n q) (sought f cs) there)
 
 -- so `gopast` goes to where its command first succeeds, and past it
 pub means-gopast : {d : Direction} {p : Command} {f : List ℕ → Out} → Means d p f → Means d (gopast p) (sought f)

@@ -7,7 +7,7 @@ use mathlib.Core.Path.{◌≡◌, refl, sym, ap, ◌∙◌}
 use mathlib.Core.Bool.{Bool, true, false}
 use native.Mathlib.Omega.{arith}
 use lib.ListN.{length, drop, length-append}
-use Rattle.turkish.specs.Snowball.{State, ahead, Result, done, failed, and_then, or_else, readIf, Direction, letters, deep, Command, ◌then◌, try, literal, routine, itself, enough, run}
+use Rattle.turkish.specs.Snowball.{State, ahead, Result, done, failed, and_then, or_else, read_if, Direction, letters, deep, Command, ◌then◌, try, literal, routine, itself, enough, run}
 use Rattle.turkish.specs.Letters.{starts}
 use Rattle.theorems.proofs.Laws.Syllables.{starts-split}
 use Rattle.theorems.proofs.Source.Means.{done-failed, done-state, ahead-on}
@@ -66,10 +66,10 @@ calls-behind d p q x c =
 
 -- a literal with a letter in it is one
 pub shortens-literal : (d : Direction) (l : String) → 0 < length (letters d l) → Shortens d (literal l)
-unfolding run readIf
+unfolding run read_if
 shortens-literal d l n = record { alone = λ f g s. refl; less = λ f s t. go s t (starts (letters d l) (ahead s)) refl }
   where
-    go : (s t : State) (b : Bool) → starts (letters d l) (ahead s) ≡ b → readIf b (length (letters d l)) s ≡ done t → length (ahead t) < length (ahead s)
+    go : (s t : State) (b : Bool) → starts (letters d l) (ahead s) ≡ b → read_if b (length (letters d l)) s ≡ done t → length (ahead t) < length (ahead s)
     go s t true e h =
         let k = letters d l in
         let less : length (drop (length k) (ahead s)) ≡ length (ahead t) = ap length (sym (ahead-on s (length k))) ∙ ap (λ (u : State). length (ahead u)) (done-state h) in

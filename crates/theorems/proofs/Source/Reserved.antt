@@ -11,27 +11,27 @@ use native.Mathlib.Omega.{arith}
 use lib.ListN.{length, drop, length-append, drop_of_length-le}
 use lib.Dec.{eqb}
 use borrow.Author.Tests.{eqb-true, eq-eqb}
-use Rattle.encoding.specs.Encoding.{encode, encodeAll}
+use Rattle.encoding.specs.Encoding.{encode, encode_all}
 use Rattle.utf8.specs.Steps.{same}
 use Rattle.encoding.proofs.Laws.Booleans.{and_left, and_right}
 use Rattle.encoding.proofs.Laws.Decoding.{length_encode_pos}
-use Rattle.turkish.specs.Letters.{text, fromEnd, starts}
+use Rattle.turkish.specs.Letters.{text, from_end, starts}
 use Rattle.theorems.specs.Simple.Grammar.{Out, more, first}
 use Rattle.theorems.specs.Simple.Postlude.{reserved}
-use Rattle.turkish.specs.Snowball.{State, ahead, limit, moveTo, withStrlen, Result, done, failed, and_then, or_else, tested, forward, letters}
+use Rattle.turkish.specs.Snowball.{State, ahead, limit, move_to, with_strlen, Result, done, failed, and_then, or_else, tested, forward, letters}
 use Rattle.turkish.specs.Snowball.{Command, ◌then◌, test, gopast, literal, strlen=, strlen==limit, run}
-use Rattle.turkish.specs.Source.{is-reserved-word}
+use Rattle.turkish.specs.Source.{is_reserved_word}
 use Rattle.utf8.proofs.WholeLiterals.{same-equal, same_refl}
 use Rattle.theorems.proofs.Laws.Syllables.{starts-split}
-use Rattle.theorems.proofs.Source.Means.{settled, placed, done-failed, done-state, failed-state, takeIf, sought, means-literal, means-gopast}
+use Rattle.theorems.proofs.Source.Means.{settled, placed, done-failed, done-state, failed-state, take_if, sought, means-literal, means-gopast}
 
 -- ---- bytes and characters ----
 
 -- a text has a byte for every character
-pub length-encodeAll : (cs : List ℕ) → length cs ≤ length (encodeAll cs)
-unfolding encodeAll
-length-encodeAll [] = omega arith
-length-encodeAll (c ∷ cs) = omega (arith, length-append (encode c) (encodeAll cs), length_encode_pos c, length-encodeAll cs)
+pub length-encode_all : (cs : List ℕ) → length cs ≤ length (encode_all cs)
+unfolding encode_all
+length-encode_all [] = omega arith
+length-encode_all (c ∷ cs) = omega (arith, length-append (encode c) (encode_all cs), length_encode_pos c, length-encode_all cs)
 
 -- ---- a key somewhere in a text ----
 
@@ -82,33 +82,33 @@ contains-refl (c ∷ k) = rw (starts-refl (c ∷ k))
 
 -- the key is in the text, and the text has as many bytes as the key has characters
 whole : List ℕ → List ℕ → Bool
-whole k cs = contains k cs && eqb (length k) (length (encodeAll cs))
+whole k cs = contains k cs && eqb (length k) (length (encode_all cs))
 
 -- for a key of as many bytes the text is then the key, in either direction of reading
-whole_same : (k cs : List ℕ) → length (encodeAll k) ≡ length k → whole k cs ≡ same (reverse cs) (reverse k)
+whole_same : (k cs : List ℕ) → length (encode_all k) ≡ length k → whole k cs ≡ same (reverse cs) (reverse k)
 unfolding whole
 whole_same k cs a = partial_order_laws.le_antisymm (whole k cs) (same (reverse cs) (reverse k)) there back
   where
     there : whole k cs ≡ true → same (reverse cs) (reverse k) ≡ true
     there e =
-        let b = eqb (length k) (length (encodeAll cs)) in
-        let n : length k ≡ length (encodeAll cs) = eqb-true (length k) (length (encodeAll cs)) (and_right (contains k cs) b e) in
-        rw (contains-equal k cs (and_left (contains k cs) b e) (omega (arith, length-encodeAll cs))) (same_refl (reverse cs))
+        let b = eqb (length k) (length (encode_all cs)) in
+        let n : length k ≡ length (encode_all cs) = eqb-true (length k) (length (encode_all cs)) (and_right (contains k cs) b e) in
+        rw (contains-equal k cs (and_left (contains k cs) b e) (omega (arith, length-encode_all cs))) (same_refl (reverse cs))
 
     back : same (reverse cs) (reverse k) ≡ true → whole k cs ≡ true
     back e =
         let i : cs ≡ k = sym (reverse-reverse cs) ∙ ap reverse (same-equal (reverse cs) (reverse k) e) ∙ reverse-reverse k in
-        rw (i, contains-refl k) (eq-eqb (length k) (length (encodeAll k)) (sym a))
+        rw (i, contains-refl k) (eq-eqb (length k) (length (encode_all k)) (sym a))
 
 -- ---- a line of the routine ----
 
 -- `gopast` of a literal succeeds where the characters ahead contain it
-sought-contains : (k cs : List ℕ) (n : ℕ) → (j : ℕ) × (sought (λ ds. takeIf (starts k ds) n) cs ≡ takeIf (contains k cs) j)
-unfolding sought contains first more takeIf
+sought-contains : (k cs : List ℕ) (n : ℕ) → (j : ℕ) × (sought (λ ds. take_if (starts k ds) n) cs ≡ take_if (contains k cs) j)
+unfolding sought contains first more take_if
 sought-contains k [] n = (n, refl)
 sought-contains k (c ∷ cs) n = let r = sought-contains k cs n in go (starts k (c ∷ cs)) (contains k cs) r.0 r.1
   where
-    go : (t b : Bool) {o : Out} (j : ℕ) → o ≡ takeIf b j → (i : ℕ) × (first (takeIf t n) (more 1 true o) ≡ takeIf (t || b) i)
+    go : (t b : Bool) {o : Out} (j : ℕ) → o ≡ take_if b j → (i : ℕ) × (first (take_if t n) (more 1 true o) ≡ take_if (t || b) i)
     go true b j e = (n, refl)
     go false true j e = (1 + j, ap (more 1 true) e)
     go false false j e = (j, ap (more 1 true) e)
@@ -119,22 +119,22 @@ answered b s = cond b (done s) (failed s)
 
 -- what stands behind `gopast`: strlen gets a number, which is held against the bytes of the text
 measured : ℕ → State → Result
-measured n s = answered (eqb n (limit s)) (withStrlen s n)
+measured n s = answered (eqb n (limit s)) (with_strlen s n)
 
 -- `test` puts the cursor back, wherever `gopast` left it
 measured-tested : (s : State) (n c : ℕ)
-    → settled s.cursor (tested s.cursor (measured n (moveTo s c))) ≡ answered (eqb n (limit s)) (withStrlen s n)
-unfolding measured settled tested moveTo withStrlen limit
+    → settled s.cursor (tested s.cursor (measured n (move_to s c))) ≡ answered (eqb n (limit s)) (with_strlen s n)
+unfolding measured settled tested move_to with_strlen limit
 measured-tested s n c = go (eqb n (limit s))
   where
-    go : (b : Bool) → settled s.cursor (tested s.cursor (answered b (withStrlen (moveTo s c) n))) ≡ answered b (withStrlen s n)
+    go : (b : Bool) → settled s.cursor (tested s.cursor (answered b (with_strlen (move_to s c) n))) ≡ answered b (with_strlen s n)
     go true = refl
     go false = refl
 
 -- a line answers by both tests; strlen stays where the first says no
-line-result : (s : State) (n j : ℕ) (b : Bool) (r : Result) → settled s.cursor r ≡ placed s (takeIf b j)
-    → (m : ℕ) × (settled s.cursor (tested s.cursor (and_then r (measured n))) ≡ answered (b && eqb n (limit s)) (withStrlen s m))
-unfolding settled placed takeIf tested and_then withStrlen
+line-result : (s : State) (n j : ℕ) (b : Bool) (r : Result) → settled s.cursor r ≡ placed s (take_if b j)
+    → (m : ℕ) × (settled s.cursor (tested s.cursor (and_then r (measured n))) ≡ answered (b && eqb n (limit s)) (with_strlen s m))
+unfolding settled placed take_if tested and_then with_strlen
 line-result s n j true (done t) e =
     (n, ap (λ (u : State). settled s.cursor (tested s.cursor (measured n u))) (done-state e) ∙ measured-tested s n (s.cursor + j))
 line-result s n j true (failed t) e = done-failed (sym e)
@@ -146,9 +146,9 @@ line : String → Command
 line l = test (gopast (literal l) then strlen= (length (text l)) then strlen==limit)
 
 -- at the text's start a line asks whether the text is its literal, if that has a byte a character
-line-run : (self : State → Result) (l : String) → length (encodeAll (text l)) ≡ length (text l) → (s : State) → s.cursor ≡ 0
-    → (n : ℕ) × (settled s.cursor (run forward self (line l) s) ≡ answered (same (reverse s.text) (fromEnd l)) (withStrlen s n))
-unfolding line run and_then letters measured limit withStrlen ahead fromEnd whole
+line-run : (self : State → Result) (l : String) → length (encode_all (text l)) ≡ length (text l) → (s : State) → s.cursor ≡ 0
+    → (n : ℕ) × (settled s.cursor (run forward self (line l) s) ≡ answered (same (reverse s.text) (from_end l)) (with_strlen s n))
+unfolding line run and_then letters measured limit with_strlen ahead from_end whole
 line-run self l a s e =
     let k : List ℕ = text l in
     let o = sought-contains k (ahead s) (length k) in
@@ -156,14 +156,14 @@ line-run self l a s e =
     let r = line-result s (length k) o.0 (contains k (ahead s)) (run forward self (gopast (literal l)) s) g in
     let start : ahead s ≡ s.text = ap (λ (c : ℕ). drop c s.text) e in
     let w = ap (λ (cs : List ℕ). contains k cs && eqb (length k) (limit s)) start ∙ whole_same k s.text a in
-    (r.0, r.1 ∙ ap (λ (b : Bool). answered b (withStrlen s r.0)) w)
+    (r.0, r.1 ∙ ap (λ (b : Bool). answered b (with_strlen s r.0)) w)
 
 -- ---- the routine ----
 
 -- the first of two answers that says yes, where the second asks again with another strlen
-answered-or : (s : State) (q : State → Result) (b d : Bool) (m : ℕ) (r : Result) → settled s.cursor r ≡ answered b (withStrlen s m)
-    → (n : ℕ) × (settled s.cursor (q (withStrlen s m)) ≡ answered d (withStrlen s n))
-    → (n : ℕ) × (settled s.cursor (or_else s.cursor r q) ≡ answered (b || d) (withStrlen s n))
+answered-or : (s : State) (q : State → Result) (b d : Bool) (m : ℕ) (r : Result) → settled s.cursor r ≡ answered b (with_strlen s m)
+    → (n : ℕ) × (settled s.cursor (q (with_strlen s m)) ≡ answered d (with_strlen s n))
+    → (n : ℕ) × (settled s.cursor (or_else s.cursor r q) ≡ answered (b || d) (with_strlen s n))
 unfolding settled or_else
 answered-or s q true d m (done t) e h = (m, e)
 answered-or s q true d m (failed t) e h = done-failed (sym e)
@@ -172,11 +172,11 @@ answered-or s q false d m (failed t) e h = (h.0, ap (λ (u : State). settled s.c
 
 -- at the text's start is_reserved_word answers what the simple form says of the text, and changes nothing but strlen
 pub reserved-run : (self : State → Result) (s : State) → s.cursor ≡ 0
-    → (n : ℕ) × (settled 0 (run forward self is-reserved-word s) ≡ cond (reserved (reverse s.text)) (done (withStrlen s n)) (failed (withStrlen s n)))
-unfolding is-reserved-word line run reserved withStrlen text encodeAll encode
+    → (n : ℕ) × (settled 0 (run forward self is_reserved_word s) ≡ cond (reserved (reverse s.text)) (done (with_strlen s n)) (failed (with_strlen s n)))
+unfolding is_reserved_word line run reserved with_strlen text encode_all encode
 reserved-run self s e =
     let f = line-run self "ad" refl s e in
-    let g = line-run self "soyad" refl (withStrlen s f.0) e in
-    let is : String → Bool = λ l. same (reverse s.text) (fromEnd l) in
+    let g = line-run self "soyad" refl (with_strlen s f.0) e in
+    let is : String → Bool = λ l. same (reverse s.text) (from_end l) in
     let r = answered-or s (run forward self (line "soyad")) (is "ad") (is "soyad") f.0 (run forward self (line "ad") s) f.1 g in
-    (r.0, ap (λ (c : ℕ). settled c (run forward self is-reserved-word s)) (sym e) ∙ r.1)
+    (r.0, ap (λ (c : ℕ). settled c (run forward self is_reserved_word s)) (sym e) ∙ r.1)

@@ -9,7 +9,7 @@ use native.Mathlib.Omega.{arith}
 use lib.ListN.{length, take, drop, length-drop, take-append-drop}
 use lib.Seq.{length-take-le, drop-drop}
 use Rattle.theorems.specs.Simple.Grammar.{Out, fail, took}
-use Rattle.turkish.specs.Snowball.{State, ahead, place, moveTo, withSlice, Result, done, failed, and_then, or_else, backward, Command, ◌then◌, ◌or◌, try, ⟦, ⟧, delete, itself, run}
+use Rattle.turkish.specs.Snowball.{State, ahead, place, move_to, with_slice, Result, done, failed, and_then, or_else, backward, Command, ◌then◌, ◌or◌, try, ⟦, ⟧, delete, itself, run}
 use Rattle.theorems.proofs.Laws.Outcome.{Post, unfit, fits, post-all}
 use Rattle.theorems.proofs.Source.Means.{Means, settled, placed, done-failed, done-state, failed-state}
 use Rattle.theorems.proofs.Source.Recursion.{CallsBehind}
@@ -42,7 +42,7 @@ pub record Sure (c : Command) : Type 0 where
 -- ---- results ----
 
 -- after a mark, where what follows does the same wherever the mark can leave the cursor
-mark-same : (s : State) (q r : State → Result) (P : ℕ → Type 0) → ((k : ℕ) → P k → q (moveTo s (s.cursor + k)) ≡ r (moveTo s (s.cursor + k)))
+mark-same : (s : State) (q r : State → Result) (P : ℕ → Type 0) → ((k : ℕ) → P k → q (move_to s (s.cursor + k)) ≡ r (move_to s (s.cursor + k)))
     → (v : Result) {o : Out} → Post P o → settled s.cursor v ≡ placed s o → and_then v q ≡ and_then v r
 unfolding settled placed and_then
 mark-same s q r P h (done t) unfit e = done-failed e
@@ -50,13 +50,13 @@ mark-same s q r P h (done t) (fits k p) e = rw (done-state e) (h k p)
 mark-same s q r P h (failed t) o e = refl
 
 -- and where it fails something else goes on from the same state
-mark-or-same : (s : State) (q r x y : State → Result) → ((k : ℕ) → q (moveTo s (s.cursor + k)) ≡ r (moveTo s (s.cursor + k)))
+mark-or-same : (s : State) (q r x y : State → Result) → ((k : ℕ) → q (move_to s (s.cursor + k)) ≡ r (move_to s (s.cursor + k)))
     → ((t : State) → (u : State) × (r t ≡ done u)) → x s ≡ y s
     → (v : Result) (o : Out) → settled s.cursor v ≡ placed s o → or_else s.cursor (and_then v q) x ≡ or_else s.cursor (and_then v r) y
 unfolding settled placed and_then or_else
 mark-or-same s q r x y h d e (done t) fail a = done-failed a
 mark-or-same s q r x y h d e (done t) (took k b) a =
-    rw (done-state a, h k, (d (moveTo s (s.cursor + k))).1)
+    rw (done-state a, h k, (d (move_to s (s.cursor + k))).1)
 mark-or-same s q r x y h d e (failed t) fail a = rw (failed-state a) e
 mark-or-same s q r x y h d e (failed t) (took k b) a = done-failed (sym a)
 
@@ -83,7 +83,7 @@ calls-open x = record { same = λ f g p cs s h a. x.same f g p cs 0 _ (at-opened
 
 -- it is no matter whether the first of two opens it or both stand in it
 pub calls-group : {c d : Command} → CallsAt ((⟦ then c) or d) → CallsAt (⟦ then (c or d))
-unfolding run and_then withSlice
+unfolding run and_then with_slice
 calls-group x = record { same = λ f g p cs s h a. x.same f g p cs s h a }
 
 -- `] delete`, and what follows it
@@ -106,11 +106,11 @@ sure-try {c} = record { succeeds = λ f s. go _ (run backward f c _) }
   where
     go : (n : ℕ) (r : Result) → (t : State) × (or_else n r done ≡ done t)
     go n (done t) = (t, refl)
-    go n (failed t) = (moveTo t n, refl)
+    go n (failed t) = (move_to t n, refl)
 
 -- what follows a mark runs with the same slice open and no more characters ahead
 follows : {c : Command} → CallsPast c → (f g : State → Result) (p cs : List ℕ) (i : ℕ) (s : State) → Past p cs i s → Agree f g (length (drop i cs))
-    → (k : ℕ) → run backward f c (moveTo s (s.cursor + k)) ≡ run backward g c (moveTo s (s.cursor + k))
+    → (k : ℕ) → run backward f c (move_to s (s.cursor + k)) ≡ run backward g c (move_to s (s.cursor + k))
 follows y f g p cs i s h a k =
     y.same f g p cs (i + k) _ (past-on p cs i k s h)
     (λ t l. a t (omega (arith, length-drop k (drop i cs), ap length (drop-drop k i cs))))
@@ -138,10 +138,10 @@ module _ {m : Command} {e : List ℕ → Out} (x : Reads m e) where
 
   -- from the slice's opening, where something else may open another
   pub calls-open-or : {c d : Command} → Sure c → CallsPast c → CallsAt d → CallsAt ((⟦ then m then c) or d)
-  unfolding run and_then withSlice
+  unfolding run and_then with_slice
   calls-open-or {c} {d} u y z = record {
     same = λ f g p cs s h a.
-        let v = withSlice s (place s) s.bra in
+        let v = with_slice s (place s) s.bra in
         let o = at-opened p cs s h in
         ap (λ (r : Result). or_else s.cursor (and_then r (run backward f c)) (run backward f d)) (x.alone f g v)
         ∙ mark-or-same v (run backward f c) (run backward g c) (run backward f d) (run backward g d) (follows y f g p cs 0 v o a)
@@ -151,17 +151,17 @@ module _ {m : Command} {e : List ℕ → Out} (x : Reads m e) where
   -- a body that opens a slice, reads something and then calls, calls behind what it read, in any state
   pub calls-slice : {c : Command} → ((cs : List ℕ) → Post (λ k. (0 < k) × (k ≤ length cs)) (e cs)) → CallsPast c
       → CallsBehind (λ again. run backward again (⟦ then m then c))
-  unfolding run and_then withSlice ahead place moveTo
+  unfolding run and_then with_slice ahead place move_to
   calls-slice {c} t y = record {
     fewer = λ f g s a.
-        let v = withSlice s (place s) s.bra in
+        let v = with_slice s (place s) s.bra in
         ap (λ (r : Result). and_then r (run backward f c)) (x.alone f g v)
         ∙ mark-same v (run backward f c) (run backward g c) _ (λ k l. y.same f g (take s.cursor s.text) (ahead s) k _ (opened s k l.0 l.1)
         (λ u m. a u (omega (arith, length-drop k (ahead s))))) (run backward g m v) (t (ahead s)) (x.means.on-state g v);
   }
     where
       opened : (s : State) (k : ℕ) → 0 < k → k ≤ length (ahead s)
-          → Past (take s.cursor s.text) (ahead s) k (moveTo (withSlice s (place s) s.bra) (s.cursor + k))
+          → Past (take s.cursor s.text) (ahead s) k (move_to (with_slice s (place s) s.bra) (s.cursor + k))
       opened s k h l =
           let c = s.cursor in
           let within : length (take c s.text) ≡ c = length-take-le c s.text (omega (arith, length-drop c s.text)) in

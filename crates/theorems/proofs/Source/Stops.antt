@@ -8,18 +8,18 @@ use mathlib.Core.List.{List, [], ◌∷◌, ◌++◌, append-nil}
 use native.Mathlib.Omega.{arith}
 use Rattle.utf8.specs.Steps.{same}
 use Rattle.turkish.specs.Letters.{text}
-use Rattle.turkish.specs.Vowels.{vowels, vowel, lastVowel, beforeLastVowel}
-use Rattle.turkish.specs.Snowball.{State, ahead, place, moveTo, Result, done, failed, and_then, or_else, backward, Command, ◌then◌, ◌or◌, goto, grouping, run}
-use Rattle.turkish.specs.Source.{vowel1, vowel2, vowel3, vowel4, vowel5, vowel6, check-vowel-harmony}
+use Rattle.turkish.specs.Vowels.{vowels, vowel, last_vowel_of, before_last_vowel}
+use Rattle.turkish.specs.Snowball.{State, ahead, place, move_to, Result, done, failed, and_then, or_else, backward, Command, ◌then◌, ◌or◌, goto, grouping, run}
+use Rattle.turkish.specs.Source.{vowel1, vowel2, vowel3, vowel4, vowel5, vowel6, check_vowel_harmony}
 use Rattle.turkish.specs.Source as Source
 use Rattle.turkish.specs.Heard.{unheard}
-use Rattle.turkish.specs.Pieces.{kindNames, numberFrom, kind_of, alone, Reading, blank, orJoined, readThen, readAfter, readOr, stoppedAt, heardBy, readIn}
+use Rattle.turkish.specs.Pieces.{kind_names, number_from, kind_of, alone, Reading, blank, or_joined, read_then, read_after, read_or, stopped_at, heard_by, read_in}
 use Rattle.turkish.specs.Pieces as Pieces
-use Rattle.theorems.specs.Simple.Harmony.{partner, toFirst, Found, nowhere, at, harmonyFound, harmony}
+use Rattle.theorems.specs.Simple.Harmony.{partner, to_first, Found, nowhere, at, harmony_found, harmony}
 use Rattle.theorems.specs.Simple.Grammar.{Out, took}
-use Rattle.theorems.specs.Simple.Pieces.{heardAt}
-use Rattle.theorems.proofs.Laws.Harmony.{harmony-any, harmony-found, toFirst-some, harmony-vowel, drop-lastVowel, lastVowel-vowel}
-use Rattle.theorems.proofs.Source.Means.{Means, placed, settled-done, ahead-on, moved_none, takeIf}
+use Rattle.theorems.specs.Simple.Pieces.{heard_at}
+use Rattle.theorems.proofs.Laws.Harmony.{harmony-any, harmony-found, to_first-some, harmony-vowel, drop-last_vowel_of, last_vowel_of-vowel}
+use Rattle.theorems.proofs.Source.Means.{Means, placed, settled-done, ahead-on, moved_none, take_if}
 use Rattle.theorems.proofs.Source.LastVowel.{means-walk, walk-vowel}
 use Rattle.theorems.proofs.Source.Harmony.{partners, partners-vowel, line, lines, lines-mean, harmony-means}
 use Rattle.theorems.proofs.Source.Keeps.{place-on}
@@ -32,7 +32,7 @@ stopping ns = record { joined = alone; stops = ns; kept = [] }
 
 -- in any state the command, read backwards, is seen to stop once, at the character before the place that it is left at; where it fails, nowhere
 record Halts (p : Command) : Type 0 where
-  on-state : (self : State → Result) (s : State) → Pieces.reading backward self p s ≡ stoppedAt (run backward self p s)
+  on-state : (self : State → Result) (s : State) → Pieces.reading backward self p s ≡ stopped_at (run backward self p s)
 
 -- so does `goto`
 halts-goto : (p : Command) → Halts (goto p)
@@ -41,42 +41,42 @@ halts-goto p = record { on-state = λ self s. refl }
 
 -- what halts does so behind a command that is seen to do nothing
 halts-behind : {p q : Command} → ((self : State → Result) (s : State) → Pieces.reading backward self p s ≡ blank) → Halts q → Halts (p then q)
-unfolding run Pieces.reading and_then readAfter readThen orJoined blank stoppedAt
+unfolding run Pieces.reading and_then read_after read_then or_joined blank stopped_at
 halts-behind {p} {q} x y = record { on-state = λ self s. go self (run backward self p s) (Pieces.reading backward self p s) (x self s) }
   where
     go : (self : State → Result) (r : Result) (a : Reading) → a ≡ blank
-        → readAfter r a (Pieces.reading backward self q) ≡ stoppedAt (and_then r (run backward self q))
+        → read_after r a (Pieces.reading backward self q) ≡ stopped_at (and_then r (run backward self q))
     go self (done t) a e = rw e (y.on-state self t)
     go self (failed t) a e = refl
 
 -- and the first of two that does not fail
 halts-or : {p q : Command} → Halts p → Halts q → Halts (p or q)
-unfolding run Pieces.reading or_else readOr
+unfolding run Pieces.reading or_else read_or
 halts-or {p} {q} x y = record { on-state = λ self s. go self s.cursor (run backward self p s) (Pieces.reading backward self p s) (x.on-state self s) }
   where
-    go : (self : State → Result) (c : ℕ) (r : Result) (a : Reading) → a ≡ stoppedAt r
-        → readOr c r a (Pieces.reading backward self q) ≡ stoppedAt (or_else c r (run backward self q))
+    go : (self : State → Result) (c : ℕ) (r : Result) (a : Reading) → a ≡ stopped_at r
+        → read_or c r a (Pieces.reading backward self q) ≡ stopped_at (or_else c r (run backward self q))
     go self c (done t) a e = e
-    go self c (failed t) a e = y.on-state self (moveTo t c)
+    go self c (failed t) a e = y.on-state self (move_to t c)
 
 -- a command leaves the cursor behind what it takes
 took-done : {p : Command} {f : List ℕ → Out} → Means backward p f → (self : State → Result) (s : State) (k : ℕ)
-    → f (ahead s) ≡ took k true → run backward self p s ≡ done (moveTo s (s.cursor + k))
+    → f (ahead s) ≡ took k true → run backward self p s ≡ done (move_to s (s.cursor + k))
 unfolding placed
 took-done x self s k e = settled-done s.cursor _ _ (x.on-state self s ∙ ap (placed s) e)
 
 -- and what comes behind it is seen from there
-pub readAfter-done : (r : Result) (t : State) (a : Reading) (b : State → Reading) → r ≡ done t → readAfter r a b ≡ readThen a (b t)
-unfolding readAfter
-readAfter-done r t a b e = rw e
+pub read_after-done : (r : Result) (t : State) (a : Reading) (b : State → Reading) → r ≡ done t → read_after r a b ≡ read_then a (b t)
+unfolding read_after
+read_after-done r t a b e = rw e
 
 -- so one that halts stops at the next character behind those that it takes
 halts_at : {p : Command} {f : List ℕ → Out} → Halts p → Means backward p f → (self : State → Result) (s : State) (k : ℕ)
     → f (ahead s) ≡ took k true → Pieces.reading backward self p s ≡ stopping ((place s - (1 + k)) ∷ [])
-unfolding stoppedAt
+unfolding stopped_at
 halts_at x y self s k e =
     let n : place s - k - 1 ≡ place s - (1 + k) = omega arith in
-    x.on-state self s ∙ ap stoppedAt (took-done y self s k e) ∙ ap (λ (i : ℕ). stopping ((i - 1) ∷ [])) (place-on s k) ∙ ap (λ (i : ℕ). stopping (i ∷ [])) n
+    x.on-state self s ∙ ap stopped_at (took-done y self s k e) ∙ ap (λ (i : ℕ). stopping ((i - 1) ∷ [])) (place-on s k) ∙ ap (λ (i : ℕ). stopping (i ∷ [])) n
 
 -- ---- harmony's two ----
 
@@ -92,62 +92,62 @@ lines-halt =
     (halts-or (line-halts "o" vowel5) (halts-or (line-halts "ö" vowel6) (halts-or (line-halts "u" vowel5) (line-halts "ü" vowel6)))))))
 
 -- check_vowel_harmony leaves the state as it was
-pub harmony-done : (self : State → Result) (s : State) → harmony (ahead s) ≡ true → run backward self check-vowel-harmony s ≡ done s
-unfolding takeIf
-harmony-done self s h = took-done harmony-means self s 0 (ap (λ (b : Bool). takeIf b 0) h) ∙ moved_none s
+pub harmony-done : (self : State → Result) (s : State) → harmony (ahead s) ≡ true → run backward self check_vowel_harmony s ≡ done s
+unfolding take_if
+harmony-done self s h = took-done harmony-means self s 0 (ap (λ (b : Bool). take_if b 0) h) ∙ moved_none s
 
 -- from the last vowel the lines go to its nearest partner
 partners-harmony : (cs : List ℕ) → harmony cs ≡ true
-    → partners (lastVowel cs ∷ beforeLastVowel cs) ≡ took (toFirst (partner (lastVowel cs)) (beforeLastVowel cs)) true
-unfolding takeIf
+    → partners (last_vowel_of cs ∷ before_last_vowel cs) ≡ took (to_first (partner (last_vowel_of cs)) (before_last_vowel cs)) true
+unfolding take_if
 partners-harmony cs h =
-    partners-vowel (beforeLastVowel cs) (lastVowel cs) (lastVowel-vowel cs (harmony-vowel cs h))
-    ∙ ap (λ (b : Bool). takeIf b (toFirst (partner (lastVowel cs)) (beforeLastVowel cs))) (sym (harmony-any cs) ∙ h)
+    partners-vowel (before_last_vowel cs) (last_vowel_of cs) (last_vowel_of-vowel cs (harmony-vowel cs h))
+    ∙ ap (λ (b : Bool). take_if b (to_first (partner (last_vowel_of cs)) (before_last_vowel cs))) (sym (harmony-any cs) ∙ h)
 
 -- the places at which harmony stops, seen from place n, by what it finds
-unfoldable pub stopsAt : ℕ → Found → List ℕ
-stopsAt n nowhere = []
-stopsAt n (at last partner) = (n - last) ∷ (n - partner) ∷ []
+unfoldable pub stops_at : ℕ → Found → List ℕ
+stops_at n nowhere = []
+stops_at n (at last partner) = (n - last) ∷ (n - partner) ∷ []
 
 -- the two walks, one behind the other, stop there
 walks-stop : (self : State → Result) (s : State) → harmony (ahead s) ≡ true
-    → Pieces.reading backward self (goto (grouping Source.vowel) then lines) s ≡ stopping (stopsAt (place s) (harmonyFound (ahead s)))
-unfolding vowels Pieces.reading readThen orJoined stopsAt
+    → Pieces.reading backward self (goto (grouping Source.vowel) then lines) s ≡ stopping (stops_at (place s) (harmony_found (ahead s)))
+unfolding vowels Pieces.reading read_then or_joined stops_at
 walks-stop self s h =
     let cs = ahead s in
     let some = harmony-vowel cs h in
     let walked = walk-vowel cs some in
-    let k = toFirst vowel cs - 1 in
-    let j = toFirst (partner (lastVowel cs)) (beforeLastVowel cs) in
-    let t = moveTo s (s.cursor + k) in
-    let l : 1 + k ≡ toFirst vowel cs = omega (arith, toFirst-some vowel cs some) in
-    let n : place s - k - (1 + j) ≡ place s - (toFirst vowel cs + j) = omega arith in
-    let there = ap partners (ahead-on s k ∙ drop-lastVowel cs some) ∙ partners-harmony cs h in
+    let k = to_first vowel cs - 1 in
+    let j = to_first (partner (last_vowel_of cs)) (before_last_vowel cs) in
+    let t = move_to s (s.cursor + k) in
+    let l : 1 + k ≡ to_first vowel cs = omega (arith, to_first-some vowel cs some) in
+    let n : place s - k - (1 + j) ≡ place s - (to_first vowel cs + j) = omega arith in
+    let there = ap partners (ahead-on s k ∙ drop-last_vowel_of cs some) ∙ partners-harmony cs h in
     let first = halts_at (halts-goto (grouping Source.vowel)) (means-walk Source.vowel) self s k walked ∙ ap (λ (i : ℕ). stopping ((place s - i) ∷ [])) l in
     let second = halts_at lines-halt lines-mean self t j there ∙ ap (λ (i : ℕ). stopping (i ∷ [])) (ap (λ (i : ℕ). i - (1 + j)) (place-on s k) ∙ n) in
-    readAfter-done _ t _ _ (took-done (means-walk Source.vowel) self s k walked) ∙ ap₂ readThen first second
-    ∙ ap (λ (f : Found). stopping (stopsAt (place s) f)) (sym (harmony-found cs h))
+    read_after-done _ t _ _ (took-done (means-walk Source.vowel) self s k walked) ∙ ap₂ read_then first second
+    ∙ ap (λ (f : Found). stopping (stops_at (place s) f)) (sym (harmony-found cs h))
 
 -- so check_vowel_harmony stops there
 pub harmony-stops : (self : State → Result) (s : State) → harmony (ahead s) ≡ true
-    → Pieces.reading backward self check-vowel-harmony s ≡ stopping (stopsAt (place s) (harmonyFound (ahead s)))
-unfolding check-vowel-harmony run Pieces.reading readIn kind_of numberFrom kindNames same text
+    → Pieces.reading backward self check_vowel_harmony s ≡ stopping (stops_at (place s) (harmony_found (ahead s)))
+unfolding check_vowel_harmony run Pieces.reading read_in kind_of number_from kind_names same text
 harmony-stops self s h = inside _ _ (harmony-done self s h) ∙ walks-stop self s h
   where
-    inside : (r : Result) (a : Reading) → r ≡ done s → readIn "check_vowel_harmony" s r a ≡ a
+    inside : (r : Result) (a : Reading) → r ≡ done s → read_in "check_vowel_harmony" s r a ≡ a
     inside r a e = rw e
 
 -- whoever goes on behind it, and stops at no two characters, heard what harmony found
-pub heardBy-stops : (n : ℕ) (f : Found) (ns : List ℕ) → heardBy ns ≡ unheard → heardBy (stopsAt n f ++ ns) ≡ heardAt n f
-unfolding stopsAt heardBy heardAt
-heardBy-stops n nowhere ns e = e
-heardBy-stops n (at last partner) ns e = refl
+pub heard_by-stops : (n : ℕ) (f : Found) (ns : List ℕ) → heard_by ns ≡ unheard → heard_by (stops_at n f ++ ns) ≡ heard_at n f
+unfolding stops_at heard_by heard_at
+heard_by-stops n nowhere ns e = e
+heard_by-stops n (at last partner) ns e = refl
 
 -- so check_vowel_harmony heard it
 pub harmony-heard : (self : State → Result) (s : State) → harmony (ahead s) ≡ true
-    → heardBy (Pieces.reading backward self check-vowel-harmony s).stops ≡ heardAt (place s) (harmonyFound (ahead s))
-unfolding heardBy
+    → heard_by (Pieces.reading backward self check_vowel_harmony s).stops ≡ heard_at (place s) (harmony_found (ahead s))
+unfolding heard_by
 harmony-heard self s h =
-    let ns = stopsAt (place s) (harmonyFound (ahead s)) in
-    ap (λ (a : Reading). heardBy a.stops) (harmony-stops self s h) ∙ ap heardBy (sym (append-nil ns))
-    ∙ heardBy-stops (place s) (harmonyFound (ahead s)) [] refl
+    let ns = stops_at (place s) (harmony_found (ahead s)) in
+    ap (λ (a : Reading). heard_by a.stops) (harmony-stops self s h) ∙ ap heard_by (sym (append-nil ns))
+    ∙ heard_by-stops (place s) (harmony_found (ahead s)) [] refl

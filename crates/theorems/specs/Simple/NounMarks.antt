@@ -5,43 +5,43 @@ use Rattle.std.specs.Prelude.{true, false, List, [], ◌∷◌}
 use Rattle.turkish.specs.Letters.{text}
 use Rattle.turkish.specs.Source.{U, A-0, A-1, A-2, A-3, A-4, A-5, A-6, A-7, A-8, A-9, A-10, A-11}
 use Rattle.theorems.specs.Simple.Grammar.{Joint, Mark}
-use Rattle.theorems.specs.Simple.Marks.{unjoined, byY, marked}
+use Rattle.theorems.specs.Simple.Marks.{unjoined, by_y, marked}
 
 -- what joins a key: an optional n (turkish.sbl, lines 133 and 135) or s (144 and 146) after a vowel, an optional U (160 and 162) after a
 -- character that is no vowel
-unfoldable pub byN : Joint
-byN = record { asked = true; letters = text "n"; vowelled = true }
+unfoldable pub by_n : Joint
+by_n = record { asked = true; letters = text "n"; vowelled = true }
 
-unfoldable pub byS : Joint
-byS = record { asked = true; letters = text "s"; vowelled = true }
+unfoldable pub by_s : Joint
+by_s = record { asked = true; letters = text "s"; vowelled = true }
 
-unfoldable pub byU : Joint
-byU = record { asked = true; letters = text U; vowelled = false }
+unfoldable pub by_U : Joint
+by_U = record { asked = true; letters = text U; vowelled = false }
 
 -- a letter of the grouping U as a key
-unfoldable pub lettersU : List String
-lettersU = "ı" ∷ "i" ∷ "u" ∷ "ü" ∷ []
+unfoldable pub letters_U : List String
+letters_U = "ı" ∷ "i" ∷ "u" ∷ "ü" ∷ []
 
 unfoldable pub possessives : Mark
-possessives = marked 0 false A-0 byU
+possessives = marked 0 false A-0 by_U
 
 unfoldable pub sU : Mark
-sU = marked 0 true lettersU byS
+sU = marked 0 true letters_U by_s
 
 unfoldable pub lArI : Mark
 lArI = marked 0 false A-1 unjoined
 
 unfoldable pub yU : Mark
-yU = marked 0 true lettersU byY
+yU = marked 0 true letters_U by_y
 
 unfoldable pub nU : Mark
 nU = marked 0 true A-2 unjoined
 
 unfoldable pub nUn : Mark
-nUn = marked 0 true A-3 byN
+nUn = marked 0 true A-3 by_n
 
 unfoldable pub yA : Mark
-yA = marked 0 true A-4 byY
+yA = marked 0 true A-4 by_y
 
 unfoldable pub nA : Mark
 nA = marked 0 true A-5 unjoined
@@ -59,10 +59,10 @@ unfoldable pub ndAn : Mark
 ndAn = marked 0 true A-9 unjoined
 
 unfoldable pub ylA : Mark
-ylA = marked 0 true A-10 byY
+ylA = marked 0 true A-10 by_y
 
 unfoldable pub ki : Mark
 ki = marked 0 false ("ki" ∷ []) unjoined
 
 unfoldable pub ncA : Mark
-ncA = marked 0 true A-11 byN
+ncA = marked 0 true A-11 by_n

@@ -35,8 +35,8 @@ possessed chain = both (mark_of possessives) (perhaps (plural chain))
 unfoldable pub owned : Taking → Taking
 owned chain = both (either (mark_of possessives) (mark_of sU)) (perhaps (plural chain))
 
-unfoldable pub ownedBySU : Taking → Taking
-ownedBySU chain = both (mark_of sU) (perhaps (plural chain))
+unfoldable pub owned_by_sU_of : Taking → Taking
+owned_by_sU_of chain = both (mark_of sU) (perhaps (plural chain))
 
 -- lines 333 to 348: `ki` and what stands before it
 unfoldable pub link : Taking → Taking
@@ -46,39 +46,39 @@ link chain =
     (both (mark_of nUn) (perhaps (either (mark_of lArI) (either (owned chain) chain)))))
 
 -- so many calls deep at most
-unfoldable pub chainWithin : ℕ → Taking
-chainWithin zero cs = fail
-chainWithin (suc n) cs = link (chainWithin n) cs
+unfoldable pub chain_within : ℕ → Taking
+chain_within zero cs = fail
+chain_within (suc n) cs = link (chain_within n) cs
 
 -- a call for each character is more than there are; that it is no matter how many is a theorem
 unfoldable pub chain : Taking
-chain cs = chainWithin (suc (length cs)) cs
+chain cs = chain_within (suc (length cs)) cs
 
 -- ---- the stage ----
 
 -- lines 362, 364 to 370, 374 to 378, 384, 386 to 392, 396 to 402, 406, 408, 410, 412
-unfoldable pub afterNcA : Taking
-afterNcA = both (mark_of ncA) (perhaps (either (mark_of lArI) (either (owned chain) (plural chain))))
+unfoldable pub after_ncA_of : Taking
+after_ncA_of = both (mark_of ncA) (perhaps (either (mark_of lArI) (either (owned chain) (plural chain))))
 
 unfoldable pub pronominal : Taking
 pronominal = either (mark_of ndA) (mark_of nA)
 
-unfoldable pub afterPronominal : Taking
-afterPronominal = both pronominal (either (mark_of lArI) (ownedBySU chain))
+unfoldable pub after_pronominal_of : Taking
+after_pronominal_of = both pronominal (either (mark_of lArI) (owned_by_sU_of chain))
 
-unfoldable pub afterNdAn : Taking
-afterNdAn = both (either (mark_of ndAn) (mark_of nU)) (ownedBySU chain)
+unfoldable pub after_ndAn_of : Taking
+after_ndAn_of = both (either (mark_of ndAn) (mark_of nU)) (owned_by_sU_of chain)
 
-unfoldable pub afterDAn : Taking
-afterDAn = both (mark_of DAn) (perhaps (either (possessed chain) (either (plural chain) chain)))
+unfoldable pub after_DAn_of : Taking
+after_DAn_of = both (mark_of DAn) (perhaps (either (possessed chain) (either (plural chain) chain)))
 
-unfoldable pub afterNUn : Taking
-afterNUn =
+unfoldable pub after_nUn_of : Taking
+after_nUn_of =
     both (either (mark_of nUn) (mark_of ylA))
     (perhaps (either (both (mark_of lAr) (perhaps (either chain (owned chain)))) (either (owned chain) chain)))
 
-unfoldable pub afterDA : Taking
-afterDA =
+unfoldable pub after_DA_of : Taking
+after_DA_of =
     both (either (mark_of DA) (either (mark_of yU) (mark_of yA)))
     (perhaps (both (either (both (mark_of possessives) (perhaps (mark_of lAr))) (mark_of lAr)) (perhaps chain)))
 
@@ -90,46 +90,46 @@ pub data Rest : Type 0 where
   parted : ℕ → ℕ → Rest
 
 -- an alternative, and what the later ones leave where it fails
-unfoldable pub cutBy : Out → Rest → Rest
-cutBy fail r = r
-cutBy (took k f) r = cut k
+unfoldable pub cut_by : Out → Rest → Rest
+cut_by fail r = r
+cut_by (took k f) r = cut k
 
 -- line 380: the chain before marks that stay
-unfoldable pub partedAt : ℕ → Out → Rest → Rest
-partedAt j fail r = r
-partedAt j (took k f) r = parted j k
+unfoldable pub parted_at : ℕ → Out → Rest → Rest
+parted_at j fail r = r
+parted_at j (took k f) r = parted j k
 
-unfoldable pub partedBy : Out → (ℕ → Out) → Rest → Rest
-partedBy fail q r = r
-partedBy (took j f) q r = partedAt j (q j) r
+unfoldable pub parted_by : Out → (ℕ → Out) → Rest → Rest
+parted_by fail q r = r
+parted_by (took j f) q r = parted_at j (q j) r
 
-unfoldable pub nounRest : List ℕ → Rest
-nounRest cs =
-    cutBy (plural chain cs)
-    (cutBy (afterNcA cs)
-    (cutBy (afterPronominal cs)
-    (partedBy (pronominal cs) (λ j. chain (drop j cs))
-    (cutBy (afterNdAn cs)
-    (cutBy (afterDAn cs)
-    (cutBy (afterNUn cs)
-    (cutBy (mark_of lArI cs)
-    (cutBy (chain cs)
-    (cutBy (afterDA cs)
-    (cutBy (owned chain cs) whole))))))))))
+unfoldable pub noun_rest : List ℕ → Rest
+noun_rest cs =
+    cut_by (plural chain cs)
+    (cut_by (after_ncA_of cs)
+    (cut_by (after_pronominal_of cs)
+    (parted_by (pronominal cs) (λ j. chain (drop j cs))
+    (cut_by (after_ndAn_of cs)
+    (cut_by (after_DAn_of cs)
+    (cut_by (after_nUn_of cs)
+    (cut_by (mark_of lArI cs)
+    (cut_by (chain cs)
+    (cut_by (after_DA_of cs)
+    (cut_by (owned chain cs) whole))))))))))
 
 -- the text that it leaves, and its yes or no
-unfoldable pub restText : Rest → List ℕ → List ℕ
-restText whole cs = cs
-restText (cut k) cs = drop k cs
-restText (parted j k) cs = take j cs ++ drop (j + k) cs
+unfoldable pub rest_text : Rest → List ℕ → List ℕ
+rest_text whole cs = cs
+rest_text (cut k) cs = drop k cs
+rest_text (parted j k) cs = take j cs ++ drop (j + k) cs
 
-unfoldable pub isCut : Rest → Bool
-isCut whole = false
-isCut (cut k) = true
-isCut (parted j k) = true
+unfoldable pub is_cut : Rest → Bool
+is_cut whole = false
+is_cut (cut k) = true
+is_cut (parted j k) = true
 
-unfoldable pub nounLeaves : List ℕ → List ℕ
-nounLeaves cs = restText (nounRest cs) cs
+unfoldable pub noun_leaves : List ℕ → List ℕ
+noun_leaves cs = rest_text (noun_rest cs) cs
 
-unfoldable pub nounYes : List ℕ → Bool
-nounYes cs = isCut (nounRest cs)
+unfoldable pub noun_yes : List ℕ → Bool
+noun_yes cs = is_cut (noun_rest cs)

@@ -2,8 +2,8 @@
 -- where that has their sum. Assumes nothing.
 use Rattle.std.specs.Prelude.{ℕ, ◌+◌, ◌-◌, Bool, true, false, cond, ◌&&◌, List, [], ◌∷◌, ◌++◌, drop, get_or, eqb}
 use Rattle.turkish.specs.Heard.{Heard, unheard, heard}
-use Rattle.turkish.specs.Pieces.{Joined, alone, withY, afterVowel, Kept}
-use Rattle.theorems.specs.Simple.Harmony.{Found, nowhere, at, harmonyFound}
+use Rattle.turkish.specs.Pieces.{Joined, alone, with_y, after_vowel, Kept}
+use Rattle.theorems.specs.Simple.Harmony.{Found, nowhere, at, harmony_found}
 use Rattle.theorems.specs.Simple.Grammar.{Out, fail, took, Mark, mark_of, Command, mark, ◌then◌, ◌or◌, nothing, unset}
 use Rattle.theorems.specs.Simple.Stage.{branches}
 
@@ -26,45 +26,45 @@ total (t ∷ ts) = t.size + total ts
 
 -- ---- one command after another, and the first that does not fail ----
 
-unfoldable pub moreTrace : List Taken → Bool → Trace → Trace
-moreTrace ts f none = none
-moreTrace ts f (keeps us g) = keeps (ts ++ us) (f && g)
+unfoldable pub more_trace : List Taken → Bool → Trace → Trace
+more_trace ts f none = none
+more_trace ts f (keeps us g) = keeps (ts ++ us) (f && g)
 
-unfoldable pub afterTrace : Trace → (ℕ → Trace) → Trace
-afterTrace none q = none
-afterTrace (keeps ts f) q = moreTrace ts f (q (total ts))
+unfoldable pub after_trace : Trace → (ℕ → Trace) → Trace
+after_trace none q = none
+after_trace (keeps ts f) q = more_trace ts f (q (total ts))
 
-unfoldable pub firstTrace : Trace → Trace → Trace
-firstTrace none q = q
-firstTrace (keeps ts f) q = keeps ts f
+unfoldable pub first_trace : Trace → Trace → Trace
+first_trace none q = q
+first_trace (keeps ts f) q = keeps ts f
 
 -- ---- a mark ----
 
 -- a mark that joins does so with a y where one is the last that it took, for no key begins with one
-unfoldable pub joinedBy : Bool → ℕ → List ℕ → Joined
-joinedBy joins k cs = cond joins (cond (eqb (get_or cs (k - 1) 0) 0x79) withY afterVowel) alone
+unfoldable pub joint_by : Bool → ℕ → List ℕ → Joined
+joint_by joins k cs = cond joins (cond (eqb (get_or cs (k - 1) 0) 0x79) with_y after_vowel) alone
 
 -- nothing is found by a mark that does not test harmony
-unfoldable pub foundBy : Bool → List ℕ → Found
-foundBy harmonic cs = cond harmonic (harmonyFound cs) nowhere
+unfoldable pub found_by : Bool → List ℕ → Found
+found_by harmonic cs = cond harmonic (harmony_found cs) nowhere
 
 -- a mark that took k of these characters
-abbrev pub takenBy : Mark → List ℕ → ℕ → Taken
-takenBy m cs k = record { kind = m.kind; size = k; joined = joinedBy m.joint.asked k cs; found = foundBy m.harmonic cs }
+abbrev pub taken_by : Mark → List ℕ → ℕ → Taken
+taken_by m cs k = record { kind = m.kind; size = k; joined = joint_by m.joint.asked k cs; found = found_by m.harmonic cs }
 
-unfoldable pub traceOut : Mark → List ℕ → Out → Trace
-traceOut m cs fail = none
-traceOut m cs (took k f) = keeps (takenBy m cs k ∷ []) f
+unfoldable pub trace_out : Mark → List ℕ → Out → Trace
+trace_out m cs fail = none
+trace_out m cs (took k f) = keeps (taken_by m cs k ∷ []) f
 
-unfoldable pub traceOf : Mark → List ℕ → Trace
-traceOf m cs = traceOut m cs (mark_of m cs)
+unfoldable pub trace_of : Mark → List ℕ → Trace
+trace_of m cs = trace_out m cs (mark_of m cs)
 
 -- ---- a command ----
 
 unfoldable pub trace : Command → List ℕ → Trace
-trace (mark m) cs = traceOf m cs
-trace (p then q) cs = afterTrace (trace p cs) (λ k. trace q (drop k cs))
-trace (p or q) cs = firstTrace (trace p cs) (trace q cs)
+trace (mark m) cs = trace_of m cs
+trace (p then q) cs = after_trace (trace p cs) (λ k. trace q (drop k cs))
+trace (p or q) cs = first_trace (trace p cs) (trace q cs)
 trace nothing cs = keeps [] true
 trace unset cs = keeps [] false
 
@@ -80,17 +80,17 @@ taken_of none = []
 taken_of (keeps ts f) = ts
 
 -- the marks that the suffix stage keeps of a word's characters
-unfoldable pub stageMarks : List ℕ → List Taken
-stageMarks cs = taken_of (trace branches cs)
+unfoldable pub stage_marks : List ℕ → List Taken
+stage_marks cs = taken_of (trace branches cs)
 
 -- what was found, from place n on
-unfoldable pub heardAt : ℕ → Found → Heard
-heardAt n nowhere = unheard
-heardAt n (at last partner) = heard (n - last) (n - partner)
+unfoldable pub heard_at : ℕ → Found → Heard
+heard_at n nowhere = unheard
+heard_at n (at last partner) = heard (n - last) (n - partner)
 
 -- a mark entered at place n, with the places between which it stands
 abbrev pub kept_at : ℕ → Taken → Kept
-kept_at n t = record { kind = t.kind; joined = t.joined; heard = heardAt n t.found; from = n; to = n - t.size }
+kept_at n t = record { kind = t.kind; joined = t.joined; heard = heard_at n t.found; from = n; to = n - t.size }
 
 -- the marks one behind the other, from place n inward
 unfoldable pub located : ℕ → List Taken → List Kept

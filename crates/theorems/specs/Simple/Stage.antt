@@ -55,5 +55,5 @@ unfoldable pub kept : List ℕ → List ℕ
 kept cs = drop (stage cs).removed cs
 
 -- the place in a word of bytes before which they stand
-unfoldable pub keptLength : List ℕ → ℕ
-keptLength w = back w (length w) (stage (chars w)).removed
+unfoldable pub kept_length : List ℕ → ℕ
+kept_length w = back w (length w) (stage (chars w)).removed

@@ -5,7 +5,7 @@ use Rattle.std.specs.Prelude.{ℕ, Bool, true, ◌&&◌, List, [], ◌∷◌, le
 use Rattle.theorems.specs.Simple.Grammar.{Mark}
 use Rattle.theorems.specs.Simple.Marks.{yUm, sUn, yUz, sUnUz, lAr, nUz, DUr, cAsInA, yDU, ysA, ymUs, yken}
 use Rattle.theorems.specs.Simple.NounMarks.{possessives, sU, lArI, nU, nUn, yA, nA, DA, ndA, DAn, ndAn, ylA, ki, ncA}
-use Rattle.theorems.specs.Simple.Postlude.{hardKeys}
+use Rattle.theorems.specs.Simple.Postlude.{hard_keys}
 
 -- the keys, from their ends, and the characters of the longest
 pub record Table : Type 0 where
@@ -16,14 +16,14 @@ pub record Table : Type 0 where
 abbrev pub table_of : ℕ → Mark → Table
 table_of width m = record { width = width; keys = m.keys }
 
-abbrev pub hardTable : Table
-hardTable = record { width = 1; keys = hardKeys }
+abbrev pub hard_table : Table
+hard_table = record { width = 1; keys = hard_keys }
 
 -- all of them: the suffix stage's and the postlude's in the Rust's order, then the noun stage's, sU's keys being the grouping U's letters
 unfoldable pub tables : List Table
 tables =
     table_of 2 yUm ∷ table_of 3 sUn ∷ table_of 2 yUz ∷ table_of 5 sUnUz ∷ table_of 3 lAr ∷ table_of 3 nUz ∷ table_of 3 DUr
-    ∷ table_of 6 cAsInA ∷ table_of 3 yDU ∷ table_of 3 ysA ∷ table_of 3 ymUs ∷ table_of 3 yken ∷ hardTable
+    ∷ table_of 6 cAsInA ∷ table_of 3 yDU ∷ table_of 3 ysA ∷ table_of 3 ymUs ∷ table_of 3 yken ∷ hard_table
     ∷ table_of 3 possessives ∷ table_of 1 sU ∷ table_of 4 lArI ∷ table_of 2 nU ∷ table_of 2 nUn ∷ table_of 1 yA ∷ table_of 2 nA ∷ table_of 2 DA
     ∷ table_of 3 ndA ∷ table_of 3 DAn ∷ table_of 4 ndAn ∷ table_of 2 ylA ∷ table_of 2 ki ∷ table_of 2 ncA ∷ []
 

@@ -19,27 +19,27 @@ take-drop-more : (w : List ℕ) (i k n : ℕ) → i + k < length w → take (suc
 take-drop-more w i k n h = take-drop-cons w (i + k) n h ∙ rw (add_assoc i k 1)
 
 -- a character by its bytes
-pub charAt-one : (w : List ℕ) (i n : ℕ) → n ≡ 1 → i + n ≤ length w → char_at w i n ≡ decode (get_or w i 0 ∷ [])
+pub char_at-one : (w : List ℕ) (i n : ℕ) → n ≡ 1 → i + n ≤ length w → char_at w i n ≡ decode (get_or w i 0 ∷ [])
 unfolding char_at
-charAt-one w i n e h = ap (char_at w i) e ∙ ap decode (take-drop-cons w i 0 (omega arith))
+char_at-one w i n e h = ap (char_at w i) e ∙ ap decode (take-drop-cons w i 0 (omega arith))
 
 -- two bytes
-pub charAt-two : (w : List ℕ) (i n : ℕ) → n ≡ 2 → i + n ≤ length w → char_at w i n ≡ decode (get_or w i 0 ∷ get_or w (i + 1) 0 ∷ [])
+pub char_at-two : (w : List ℕ) (i n : ℕ) → n ≡ 2 → i + n ≤ length w → char_at w i n ≡ decode (get_or w i 0 ∷ get_or w (i + 1) 0 ∷ [])
 unfolding char_at
-charAt-two w i n e h =
+char_at-two w i n e h =
     ap (char_at w i) e ∙ ap decode (take-drop-cons w i 1 (omega arith) ∙ ap (λ (l : List ℕ). get_or w i 0 ∷ l) (take-drop-more w i 1 0 (omega arith)))
 
 -- three bytes
-pub charAt-three : (w : List ℕ) (i n : ℕ) → n ≡ 3 → i + n ≤ length w → char_at w i n ≡ decode (get_or w i 0 ∷ get_or w (i + 1) 0 ∷ get_or w (i + 2) 0 ∷ [])
+pub char_at-three : (w : List ℕ) (i n : ℕ) → n ≡ 3 → i + n ≤ length w → char_at w i n ≡ decode (get_or w i 0 ∷ get_or w (i + 1) 0 ∷ get_or w (i + 2) 0 ∷ [])
 unfolding char_at
-charAt-three w i n e h =
+char_at-three w i n e h =
     ap (char_at w i) e ∙ ap decode (take-drop-cons w i 2 (omega arith) ∙ ap (λ (l : List ℕ). get_or w i 0 ∷ l)
     (take-drop-more w i 1 1 (omega arith) ∙ ap (λ (l : List ℕ). get_or w (i + 1) 0 ∷ l) (take-drop-more w i 2 0 (omega arith))))
 
 -- four bytes
-pub charAt-four : (w : List ℕ) (i n : ℕ) → n ≡ 4 → i + n ≤ length w → char_at w i n ≡ decode (get_or w i 0 ∷ get_or w (i + 1) 0 ∷ get_or w (i + 2) 0 ∷ get_or w (i + 3) 0 ∷ [])
+pub char_at-four : (w : List ℕ) (i n : ℕ) → n ≡ 4 → i + n ≤ length w → char_at w i n ≡ decode (get_or w i 0 ∷ get_or w (i + 1) 0 ∷ get_or w (i + 2) 0 ∷ get_or w (i + 3) 0 ∷ [])
 unfolding char_at
-charAt-four w i n e h =
+char_at-four w i n e h =
     ap (char_at w i) e ∙ ap decode (take-drop-cons w i 3 (omega arith) ∙ ap (λ (l : List ℕ). get_or w i 0 ∷ l)
     (take-drop-more w i 1 2 (omega arith) ∙ ap (λ (l : List ℕ). get_or w (i + 1) 0 ∷ l)
     (take-drop-more w i 2 1 (omega arith) ∙ ap (λ (l : List ℕ). get_or w (i + 2) 0 ∷ l) (take-drop-more w i 3 0 (omega arith)))))

@@ -11,16 +11,16 @@ use Rattle.utf8.specs.Behind.{Open}
 use Rattle.utf8.proofs.Laws.Steps.{stands-within}
 
 -- the slice `&w[low..]`
-abbrev pub partFrom : List ℕ → ℕ → List ℕ
-partFrom w low = take (length w - low) (drop low w)
+abbrev pub part_from : List ℕ → ℕ → List ℕ
+part_from w low = take (length w - low) (drop low w)
 
 -- it is all from there on
-pub partFrom-drop : (w : List ℕ) (low : ℕ) → partFrom w low ≡ drop low w
-partFrom-drop w low = take_all (length w - low) (drop low w) (omega (arith, length-drop low w))
+pub part_from-drop : (w : List ℕ) (low : ℕ) → part_from w low ≡ drop low w
+part_from-drop w low = take_all (length w - low) (drop low w) (omega (arith, length-drop low w))
 
 -- and has so many bytes
-pub length-partFrom : (w : List ℕ) (low : ℕ) → length (partFrom w low) ≡ length w - low
-length-partFrom w low = ap length (partFrom-drop w low) ∙ length-drop low w
+pub length-part_from : (w : List ℕ) (low : ℕ) → length (part_from w low) ≡ length w - low
+length-part_from w low = ap length (part_from-drop w low) ∙ length-drop low w
 
 module _ (w : List ℕ) (c : Cursor) where
   -- limit_backward of an open record lies within the word
@@ -36,5 +36,5 @@ module _ (w : List ℕ) (c : Cursor) where
   cursor-length-le o = let within = stands-within w c o.within in omega (arith, within.high, within.end)
 
   -- and its place in the part within that
-  pub cursor-part-le : Open w c → c.cursor - c.limit_backward ≤ length (partFrom w c.limit_backward)
-  cursor-part-le o = omega (arith, length-partFrom w c.limit_backward, cursor-length-le o)
+  pub cursor-part-le : Open w c → c.cursor - c.limit_backward ≤ length (part_from w c.limit_backward)
+  cursor-part-le o = omega (arith, length-part_from w c.limit_backward, cursor-length-le o)

@@ -7,15 +7,15 @@ use mathlib.Core.List.{List, ◌∷◌}
 use mathlib.Mathlib.Data.Bool.Basic.{eq-false_of_not-eq-true}
 use native.Mathlib.Omega.{arith}
 use lib.ListN.{take}
-use Rattle.utf8.specs.Characters.{lastWidth, before, back}
+use Rattle.utf8.specs.Characters.{last_width_of, before, back}
 use Rattle.utf8.proofs.Laws.Characters.{before-zero, back-le}
 use Rattle.turkish.specs.Letters.{any}
-use Rattle.turkish.specs.Vowels.{vowel, lastVowel, beforeLastVowel}
-use Rattle.theorems.specs.Simple.Harmony.{partner, toFirst, Found, nowhere, at, harmonyFound, skipsVowel}
-use Rattle.theorems.proofs.Laws.Harmony.{toFirst-some}
+use Rattle.turkish.specs.Vowels.{vowel, last_vowel_of, before_last_vowel}
+use Rattle.theorems.specs.Simple.Harmony.{partner, to_first, Found, nowhere, at, harmony_found, skips_vowel}
+use Rattle.theorems.proofs.Laws.Harmony.{to_first-some}
 use Rattle.theorems.proofs.Laws.Vowels.{partner-vowel}
 use Rattle.vowels.specs.declared.harmony.Accord.{Accord}
-use Rattle.vowels.specs.Accord.{answerYes, answerPast, discord, concord, accordFrom, accordBefore}
+use Rattle.vowels.specs.Accord.{answer_yes, answer_past, discord, concord, accord_from, accord_before}
 
 -- ---- behind the last vowel ----
 
@@ -24,10 +24,10 @@ unfoldable pub seeks : (ℕ → Bool) → List ℕ → ℕ → ℕ → ℕ → A
 seeks f w last answer c =
     let cs = before w c in
     cond (any f cs)
-    (record { last = last; partner = back w c (toFirst f cs); answer = cond (any vowel (take (toFirst f cs - 1) cs)) answerPast answer }) discord
+    (record { last = last; partner = back w c (to_first f cs); answer = cond (any vowel (take (to_first f cs - 1) cs)) answer_past answer }) discord
 
 -- one character on, the place is that of the others from there
-back_on : (w : List ℕ) (c n k : ℕ) → n ≡ lastWidth w c → back w (c - n) k ≡ back w c (suc k)
+back_on : (w : List ℕ) (c n k : ℕ) → n ≡ last_width_of w c → back w (c - n) k ≡ back w c (suc k)
 unfolding back
 back_on w c n k e = rw e
 
@@ -40,7 +40,7 @@ take_on ch k cs =
     rw (more, less)
 
 -- a yes past one of two vowels
-cond-or : (s t : Bool) (answer : ℕ) → cond t answerPast (cond s answerPast answer) ≡ cond (s || t) answerPast answer
+cond-or : (s t : Bool) (answer : ℕ) → cond t answer_past (cond s answer_past answer) ≡ cond (s || t) answer_past answer
 cond-or true true answer = refl
 cond-or true false answer = refl
 cond-or false t answer = refl
@@ -49,42 +49,42 @@ cond-or false t answer = refl
 yes-same : (last : ℕ) {p q a b : ℕ} → p ≡ q → a ≡ b → ◌≡◌ {A = Accord} (record { last = last; partner = p; answer = a }) (record { last = last; partner = q; answer = b })
 yes-same last e f = cc
 
-module _ (f : ℕ → Bool) (w : List ℕ) (last answer c n ch : ℕ) (width : n ≡ lastWidth w c) (step : before w c ≡ ch ∷ before w (c - n)) where
+module _ (f : ℕ → Bool) (w : List ℕ) (last answer c n ch : ℕ) (width : n ≡ last_width_of w c) (step : before w c ≡ ch ∷ before w (c - n)) where
   -- a character that is no partner is skipped, and it is noted whether it is a vowel
-  seeks-notes : f ch ≡ false → seeks f w last (cond (vowel ch) answerPast answer) (c - n) ≡ seeks f w last answer c
-  unfolding seeks any toFirst
+  seeks-notes : f ch ≡ false → seeks f w last (cond (vowel ch) answer_past answer) (c - n) ≡ seeks f w last answer c
+  unfolding seeks any to_first
   seeks-notes d = rw (step, d) (go (before w (c - n)) (any f (before w (c - n))) refl)
     where
       go : (cs : List ℕ) (t : Bool) → any f cs ≡ t
           → cond t (record {
             last = last;
-            partner = back w (c - n) (toFirst f cs);
-            answer = cond (any vowel (take (toFirst f cs - 1) cs)) answerPast (cond (vowel ch) answerPast answer);
+            partner = back w (c - n) (to_first f cs);
+            answer = cond (any vowel (take (to_first f cs - 1) cs)) answer_past (cond (vowel ch) answer_past answer);
           }) discord
           ≡ cond t (record {
             last = last;
-            partner = back w c (suc (toFirst f cs));
-            answer = cond (any vowel (take (suc (toFirst f cs) - 1) (ch ∷ cs))) answerPast answer;
+            partner = back w c (suc (to_first f cs));
+            answer = cond (any vowel (take (suc (to_first f cs) - 1) (ch ∷ cs))) answer_past answer;
           }) discord
       go cs false e = refl
       go cs true e =
-          let k : ℕ = toFirst f cs - 1 in
-          let some : toFirst f cs ≡ suc k = omega (arith, toFirst-some f cs e) in
+          let k : ℕ = to_first f cs - 1 in
+          let some : to_first f cs ≡ suc k = omega (arith, to_first-some f cs e) in
           rw some
           (yes-same last (back_on w c n (suc k) width)
-          (cond-or (vowel ch) (any vowel (take (suc k - 1) cs)) answer ∙ ap (λ (b : Bool). cond b answerPast answer) (sym (take_on ch k cs))))
+          (cond-or (vowel ch) (any vowel (take (suc k - 1) cs)) answer ∙ ap (λ (b : Bool). cond b answer_past answer) (sym (take_on ch k cs))))
 
   -- so nothing is noted where it is none
   pub seeks-skips : f ch ≡ false → vowel ch ≡ false → seeks f w last answer (c - n) ≡ seeks f w last answer c
-  seeks-skips d v = ap (λ (b : Bool). seeks f w last (cond b answerPast answer) (c - n)) (sym v) ∙ seeks-notes d
+  seeks-skips d v = ap (λ (b : Bool). seeks f w last (cond b answer_past answer) (c - n)) (sym v) ∙ seeks-notes d
 
   -- and a vowel is where it is one
-  pub seeks-passes : f ch ≡ false → vowel ch ≡ true → seeks f w last answerPast (c - n) ≡ seeks f w last answer c
-  seeks-passes d v = ap (λ (b : Bool). seeks f w last (cond b answerPast answer) (c - n)) (sym v) ∙ seeks-notes d
+  pub seeks-passes : f ch ≡ false → vowel ch ≡ true → seeks f w last answer_past (c - n) ≡ seeks f w last answer c
+  seeks-passes d v = ap (λ (b : Bool). seeks f w last (cond b answer_past answer) (c - n)) (sym v) ∙ seeks-notes d
 
   -- one that is a partner ends the walk
   pub seeks-stops : f ch ≡ true → record { last = last; partner = c - n; answer = answer } ≡ seeks f w last answer c
-  unfolding seeks any toFirst
+  unfolding seeks any to_first
   seeks-stops d = rw (step, d) (yes-same last (unfold back in back_on w c n 0 width) refl)
 
 -- at the word's start there is none
@@ -99,41 +99,41 @@ partner-no v ch e = eq-false_of_not-eq-true (λ p. true≢false (sym (partner-vo
 -- ---- before it is met ----
 
 -- what is found behind a character that is skipped, seen from before it
-unfoldable pastOne : Found → Found
-pastOne nowhere = nowhere
-pastOne (at last partner) = at (suc last) (suc partner)
+unfoldable past_one : Found → Found
+past_one nowhere = nowhere
+past_one (at last partner) = at (suc last) (suc partner)
 
 -- a character that is no vowel is skipped
-harmonyFound-skips : (ch : ℕ) (cs : List ℕ) → vowel ch ≡ false → harmonyFound (ch ∷ cs) ≡ pastOne (harmonyFound cs)
-unfolding harmonyFound toFirst lastVowel beforeLastVowel pastOne
-harmonyFound-skips ch cs d = rw d (go (any (partner (lastVowel cs)) (beforeLastVowel cs)) (toFirst vowel cs) (toFirst (partner (lastVowel cs)) (beforeLastVowel cs)))
+harmony_found-skips : (ch : ℕ) (cs : List ℕ) → vowel ch ≡ false → harmony_found (ch ∷ cs) ≡ past_one (harmony_found cs)
+unfolding harmony_found to_first last_vowel_of before_last_vowel past_one
+harmony_found-skips ch cs d = rw d (go (any (partner (last_vowel_of cs)) (before_last_vowel cs)) (to_first vowel cs) (to_first (partner (last_vowel_of cs)) (before_last_vowel cs)))
   where
-    go : (t : Bool) (l k : ℕ) → cond t (at (suc l) (suc l + k)) nowhere ≡ pastOne (cond t (at l (l + k)) nowhere)
+    go : (t : Bool) (l k : ℕ) → cond t (at (suc l) (suc l + k)) nowhere ≡ past_one (cond t (at l (l + k)) nowhere)
     go true l k = let e : suc l + k ≡ suc (l + k) = omega arith in rw e
     go false l k = refl
 
-module _ (w : List ℕ) (c n ch : ℕ) (width : n ≡ lastWidth w c) (step : before w c ≡ ch ∷ before w (c - n)) where
+module _ (w : List ℕ) (c n ch : ℕ) (width : n ≡ last_width_of w c) (step : before w c ≡ ch ∷ before w (c - n)) where
   -- from before it the places are the same
-  accordFrom-past : (f : Found) → accordFrom w (c - n) f ≡ accordFrom w c (pastOne f)
-  unfolding accordFrom pastOne skipsVowel
-  accordFrom-past nowhere = refl
-  accordFrom-past (at l p) =
+  accord_from-past : (f : Found) → accord_from w (c - n) f ≡ accord_from w c (past_one f)
+  unfolding accord_from past_one skips_vowel
+  accord_from-past nowhere = refl
+  accord_from-past (at l p) =
       let e : suc p - suc l - 1 ≡ p - l - 1 = omega arith in
       rw (← back_on w c n l width, ← back_on w c n p width, step, e)
 
   -- so the walk goes on
-  pub accordBefore-skips : vowel ch ≡ false → accordBefore w (c - n) ≡ accordBefore w c
-  unfolding accordBefore
-  accordBefore-skips d =
-      accordFrom-past (harmonyFound (before w (c - n))) ∙ ap (accordFrom w c) (sym (ap harmonyFound step ∙ harmonyFound-skips ch (before w (c - n)) d))
+  pub accord_before-skips : vowel ch ≡ false → accord_before w (c - n) ≡ accord_before w c
+  unfolding accord_before
+  accord_before-skips d =
+      accord_from-past (harmony_found (before w (c - n))) ∙ ap (accord_from w c) (sym (ap harmony_found step ∙ harmony_found-skips ch (before w (c - n)) d))
 
   -- a vowel is the last one, and its partners are sought before it
-  pub accordBefore-stops : {v : ℕ} → v ≡ ch → vowel ch ≡ true → seeks (partner v) w (c - n) answerYes (c - n) ≡ accordBefore w c
-  unfolding accordBefore harmonyFound toFirst lastVowel beforeLastVowel seeks accordFrom concord skipsVowel back
-  accordBefore-stops is d = rw (is, step, d) (go (any (partner ch) (before w (c - n))) (toFirst (partner ch) (before w (c - n))))
+  pub accord_before-stops : {v : ℕ} → v ≡ ch → vowel ch ≡ true → seeks (partner v) w (c - n) answer_yes (c - n) ≡ accord_before w c
+  unfolding accord_before harmony_found to_first last_vowel_of before_last_vowel seeks accord_from concord skips_vowel back
+  accord_before-stops is d = rw (is, step, d) (go (any (partner ch) (before w (c - n))) (to_first (partner ch) (before w (c - n))))
     where
       go : (t : Bool) (k : ℕ) → cond t (concord (c - n) (back w (c - n) k) (any vowel (take (k - 1) (before w (c - n))))) discord
-          ≡ accordFrom w c (cond t (at 1 (1 + k)) nowhere)
+          ≡ accord_from w c (cond t (at 1 (1 + k)) nowhere)
       go false k = refl
       go true k =
           let one : 1 + k ≡ suc k = omega arith in
@@ -141,15 +141,15 @@ module _ (w : List ℕ) (c n ch : ℕ) (width : n ≡ lastWidth w c) (step : bef
           rw (step, less, one, width)
 
 -- at the word's start there is none
-pub accordBefore-none : (w : List ℕ) (c : ℕ) → c ≡ 0 → discord ≡ accordBefore w c
-unfolding accordBefore harmonyFound beforeLastVowel any accordFrom
-accordBefore-none w c e = rw (e, before-zero w)
+pub accord_before-none : (w : List ℕ) (c : ℕ) → c ≡ 0 → discord ≡ accord_before w c
+unfolding accord_before harmony_found before_last_vowel any accord_from
+accord_before-none w c e = rw (e, before-zero w)
 
 -- what is found starts before the place
-pub accordBefore-le : (w : List ℕ) (c : ℕ) {t : Accord} → t ≡ accordBefore w c → (t.last ≤ c) × (t.partner ≤ c)
-unfolding accordBefore
-accordBefore-le w c {t} e = rw e (go (harmonyFound (before w c)))
+pub accord_before-le : (w : List ℕ) (c : ℕ) {t : Accord} → t ≡ accord_before w c → (t.last ≤ c) × (t.partner ≤ c)
+unfolding accord_before
+accord_before-le w c {t} e = rw e (go (harmony_found (before w c)))
   where
-    go : (f : Found) → ((accordFrom w c f).last ≤ c) × ((accordFrom w c f).partner ≤ c)
-    go nowhere = unfold accordFrom discord in (omega arith, omega arith)
-    go (at l p) = unfold accordFrom concord in (back-le w c l, back-le w c p)
+    go : (f : Found) → ((accord_from w c f).last ≤ c) × ((accord_from w c f).partner ≤ c)
+    go nowhere = unfold accord_from discord in (omega arith, omega arith)
+    go (at l p) = unfold accord_from concord in (back-le w c l, back-le w c p)

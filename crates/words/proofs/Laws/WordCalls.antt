@@ -9,12 +9,12 @@ use borrow.Author.Tests.{eq-eqb, ne_eqb}
 use Rattle.utf8.specs.Characters.{before}
 use Rattle.turkish.specs.declared.answer.SyllableAnswer.{SyllableAnswer}
 use Rattle.turkish.specs.declared.answer.StageAnswer.{StageAnswer}
-use Rattle.theorems.specs.Simple.Harmony.{moreThanOneSyllable}
-use Rattle.turkish.specs.Calls.{chars, refusal, accepted, syllableCall, stagePart, stageCall}
-use Rattle.theorems.proofs.Source.Calls.{suffixStage-yes, suffixStage-flag, syllableCall-simple}
-use Rattle.theorems.proofs.Sizes.{stageText-kept, stageText-length}
+use Rattle.theorems.specs.Simple.Harmony.{more_than_one_syllable}
+use Rattle.turkish.specs.Calls.{chars, refusal, accepted, syllable_call, stage_part_of, stage_call}
+use Rattle.theorems.proofs.Source.Calls.{suffix_stage-yes, suffix_stage-flag, syllable_call-simple}
+use Rattle.theorems.proofs.Sizes.{stage_text-kept, stage_text-length}
 use Rattle.stages.specs.declared.stage.Outcome.{Outcome}
-use Rattle.stages.specs.Outcome.{outcomeOf}
+use Rattle.stages.specs.Outcome.{outcome_of}
 use Rattle.stages.proofs.Laws.Heard.{outcome-hearing}
 
 module _ (w : List ℕ) (n : ℕ) (e : n ≡ refusal w) where
@@ -31,36 +31,36 @@ module _ (w : List ℕ) (n : ℕ) (e : n ≡ refusal w) where
   -- ---- syllable check ----
 
   -- a refused check gives its number and no
-  pub syllableCall-refused : (n ≡ 0 → ⊥) → ◌≡◌ {A = SyllableAnswer} (record { refusal = n; yes = false }) (syllableCall w)
-  unfolding syllableCall
-  syllableCall-refused h = rw (accepted-no h, ← e)
+  pub syllable_call-refused : (n ≡ 0 → ⊥) → ◌≡◌ {A = SyllableAnswer} (record { refusal = n; yes = false }) (syllable_call w)
+  unfolding syllable_call
+  syllable_call-refused h = rw (accepted-no h, ← e)
 
   -- any other tells whether the word has two vowels or more
-  pub syllableCall-given : n ≡ 0 → (t : Bool) → t ≡ moreThanOneSyllable (before w (length w))
-      → ◌≡◌ {A = SyllableAnswer} (record { refusal = 0; yes = t }) (syllableCall w)
+  pub syllable_call-given : n ≡ 0 → (t : Bool) → t ≡ more_than_one_syllable (before w (length w))
+      → ◌≡◌ {A = SyllableAnswer} (record { refusal = 0; yes = t }) (syllable_call w)
   unfolding chars
-  syllableCall-given z t q = rw (syllableCall-simple w, accepted-yes z, q)
+  syllable_call-given z t q = rw (syllable_call-simple w, accepted-yes z, q)
 
   -- ---- suffix stage ----
 
   -- a refused stage hands back nothing
-  pub stagePart-refused : (n ≡ 0 → ⊥) → [] ≡ stagePart w
-  unfolding stagePart
-  stagePart-refused h = rw (accepted-no h)
+  pub stage_part_of-refused : (n ≡ 0 → ⊥) → [] ≡ stage_part_of w
+  unfolding stage_part_of
+  stage_part_of-refused h = rw (accepted-no h)
 
   -- any other the front of the word that it keeps
-  pub stagePart-given : n ≡ 0 → (s : Outcome) → s ≡ outcomeOf w → take s.kept w ≡ stagePart w
-  unfolding stagePart outcomeOf
-  stagePart-given z s q = rw (accepted-yes z, q, stageText-kept w (accepted-yes z))
+  pub stage_part_of-given : n ≡ 0 → (s : Outcome) → s ≡ outcome_of w → take s.kept w ≡ stage_part_of w
+  unfolding stage_part_of outcome_of
+  stage_part_of-given z s q = rw (accepted-yes z, q, stage_text-kept w (accepted-yes z))
 
   -- a refused stage gives its number, and 0 and no elsewhere
-  pub stageCall-refused : (n ≡ 0 → ⊥)
-      → ◌≡◌ {A = StageAnswer} (record { refusal = n; length = 0; yes = false; flag = false; harmonic = false; last = 0; partner = 0; loan = false }) (stageCall w)
-  unfolding stageCall
-  stageCall-refused h = rw (accepted-no h, ← e)
+  pub stage_call-refused : (n ≡ 0 → ⊥)
+      → ◌≡◌ {A = StageAnswer} (record { refusal = n; length = 0; yes = false; flag = false; harmonic = false; last = 0; partner = 0; loan = false }) (stage_call w)
+  unfolding stage_call
+  stage_call-refused h = rw (accepted-no h, ← e)
 
   -- any other the length kept, yes or no, the flag, and what it heard
-  pub stageCall-given : n ≡ 0 → (s : Outcome) → s ≡ outcomeOf w
+  pub stage_call-given : n ≡ 0 → (s : Outcome) → s ≡ outcome_of w
       → ◌≡◌ {A = StageAnswer} (record {
         refusal = 0;
         length = s.kept;
@@ -70,10 +70,10 @@ module _ (w : List ℕ) (n : ℕ) (e : n ≡ refusal w) where
         last = s.last;
         partner = s.partner;
         loan = s.loan;
-      }) (stageCall w)
-  unfolding stageCall
-  stageCall-given z s q =
+      }) (stage_call w)
+  unfolding stage_call
+  stage_call-given z s q =
       let a = accepted-yes z in
       let h = outcome-hearing w a in
       rw (a, q, h.harmonic, h.last, h.partner, h.loan)
-      (unfold outcomeOf in rw (stageText-length w a, suffixStage-yes (chars w), suffixStage-flag (chars w)))
+      (unfold outcome_of in rw (stage_text-length w a, suffix_stage-yes (chars w), suffix_stage-flag (chars w)))

@@ -6,10 +6,10 @@ use native.Mathlib.Omega.{arith}
 use lib.ListN.{length, get_or}
 use borrow.Author.Rules.{rules}
 use Rattle.turkish.specs.Calls.{limit}
-use Rattle.batches.specs.BatchCalls.{batch, mostTails}
+use Rattle.batches.specs.BatchCalls.{batch, most_tails}
 use Rattle.batches.proofs.Laws.Batches.{batch-answered}
-use Rattle.fronts.proofs.Laws.StandIn.{standInRoom-is}
-use Rattle.batch.specs.Removal.{wordRoom}
+use Rattle.fronts.proofs.Laws.StandIn.{stand_in_room-is}
+use Rattle.batch.specs.Removal.{word_room}
 use Rattle.batch.proofs.Laws.Tails.{survey-count, tails-survey}
 use Rattle.batch.proofs.Laws.Entries.{Entered, entered-none, entered_all, below, at-end, end-within, ready, again}
 use Rattle.batch.proofs.entries.put_entries.Statement.{statement}
@@ -29,28 +29,28 @@ slice-aggregate-put-stand-in : tie.Need-slice-aggregate-put-stand-in invariant-l
 slice-aggregate-put-stand-in c = refl
 
 put-stand-in-requires : tie.Need-put-stand-in-requires invariant-loop decreases-loop
-put-stand-in-requires c κs = omega (arith, standInRoom-is)
+put-stand-in-requires c κs = omega (arith, stand_in_room-is)
 
 loop-holds : tie.Need-loop-init invariant-loop decreases-loop
-unfolding wordRoom limit
-loop-holds c = entered-none _ _ _ _ (omega (arith, standInRoom-is)) (rw c.before.before.before.summary-of.ensures at c.before.put-stand-in.ensures)
+unfolding word_room limit
+loop-holds c = entered-none _ _ _ _ (omega (arith, stand_in_room-is)) (rw c.before.before.before.summary-of.ensures at c.before.put-stand-in.ensures)
 
 mul-end : tie.Need-overflow-mul-end invariant-loop decreases-loop
-unfolding mostTails
+unfolding most_tails
 mul-end c =
     let s = c.before.before.before.before.before.before.before.before.before.before.before in
     let few : c.before.loop.i < 64 = below _ _ _ _ _ _ _ _ c.before.loop.invariant s.requires.1 _ s.requires.0 c.loop-test.true in
     search rules
 
 element-copy-out-end : tie.Need-element-copy-out-end invariant-loop decreases-loop
-unfolding mostTails
+unfolding most_tails
 element-copy-out-end c =
     let s = c.before.before.before.before.before.before.before.before.before.before.before in
     below _ _ _ _ _ _ _ _ c.before.loop.invariant s.requires.1 _ s.requires.0 c.loop-test.true
 
 slice-aggregate-put-entry : tie.Need-slice-aggregate-put-entry invariant-loop decreases-loop
-unfolding wordRoom limit
-slice-aggregate-put-entry c = omega (arith, c.before.before.before.loop.invariant.room, standInRoom-is)
+unfolding word_room limit
+slice-aggregate-put-entry c = omega (arith, c.before.before.before.loop.invariant.room, stand_in_room-is)
 
 sub-put-entry : tie.Need-overflow-sub-put-entry invariant-loop decreases-loop
 sub-put-entry c =
@@ -78,7 +78,7 @@ put-entry-requires c κs =
     ready _ _ _ _ _ _ _ _ l.invariant s.requires.1 _ s.requires.0 t.loop-test.true
 
 add-i : tie.Need-overflow-add-i invariant-loop decreases-loop
-unfolding mostTails
+unfolding most_tails
 add-i c =
     let e = c.before.before.before.before.before.before.before in
     let t = e.before.before.before.before.before.before.before in

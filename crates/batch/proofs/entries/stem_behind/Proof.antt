@@ -19,13 +19,13 @@ sub-t10 : tie.Need-overflow-sub-t10
 sub-t10 c =
     let p = c.before.before.before.before.before in
     let s = p.before.before.before.before in
-    behind-kept _ _ s.args.tail.now s.args.word.now _ s.requires p.put_all_lem.ensures _ c.before.stem-nominal-verb-suffixes.ensures
+    behind-kept _ _ s.args.tail.now s.args.word.now _ s.requires p.put_all_lem.ensures _ c.before.stem_nominal_verb_suffixes.ensures
 
 returns : tie.Need-returns
 returns c =
     let p = c.before.before.before.before.before in
     let s = p.before.before.before.before in (
-      behind-removal _ _ s.args.tail.now s.args.word.now _ s.requires p.put_all_lem.ensures _ c.before.stem-nominal-verb-suffixes.ensures,
+      behind-removal _ _ s.args.tail.now s.args.word.now _ s.requires p.put_all_lem.ensures _ c.before.stem_nominal_verb_suffixes.ensures,
       p.put_all_lem.ensures.1,
     )
 

@@ -2,7 +2,7 @@
 use mathlib.Core.Path.{sym, ◌∙◌}
 use native.Mathlib.Omega.{arith}
 use borrow.Author.Rules.{rules}
-use Rattle.batches.specs.BatchCalls.{mostTails}
+use Rattle.batches.specs.BatchCalls.{most_tails}
 use Rattle.batch.proofs.Laws.Tails.{survey-count, survey-short}
 use Rattle.batch.proofs.Laws.Refusals.{number-words, number-many, number_short, number-rooms}
 use Rattle.batch.proofs.refusal.refusal_of.Statement.{statement}
@@ -12,7 +12,7 @@ returns : tie.Need-returns
 returns c = number-words _ _ _ _ _ _ c.before.words-refusal.ensures c.if1.true
 
 returns-2 : tie.Need-returns-2
-unfolding mostTails
+unfolding most_tails
 returns-2 c =
     let s = c.before.before.before.before.before.before in
     number-many _ _ _ _ _ _ c.before.before.before.words-refusal.ensures c.before.before.if1.false (omega (arith, survey-count _ s.requires))
@@ -23,7 +23,7 @@ returns-3 c =
     number_short _ _ _ _ _ _ c.before.before.before.before.words-refusal.ensures c.before.before.before.if1.false (sym (survey-short _ s.requires) ∙ c.if3.true)
 
 returns-4 : tie.Need-returns-4
-unfolding mostTails
+unfolding most_tails
 returns-4 c =
     let s = c.before.before.before.before.before.before.before.before in
     let w = c.before.before.before.before.before in

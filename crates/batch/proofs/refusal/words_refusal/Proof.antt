@@ -1,8 +1,8 @@
--- `batch::refusal::words_refusal` meets its contract: each test's answer is a law of `wordsRefusal`. Assumes nothing.
+-- `batch::refusal::words_refusal` meets its contract: each test's answer is a law of `words_refusal_of`. Assumes nothing.
 use mathlib.Core.Path.{sym, ◌∙◌}
 use native.Mathlib.Omega.{arith}
 use Rattle.turkish.specs.Calls.{limit}
-use Rattle.batch.proofs.Laws.Refusals.{isText-tails, words-front-over, words-joined-over, words-front-no-text, words-tail-no-text, words-texts}
+use Rattle.batch.proofs.Laws.Refusals.{is_text-tails, words-front-over, words-joined-over, words-front-no-text, words-tail-no-text, words-texts}
 use Rattle.batch.proofs.Laws.Tails.{survey-longest}
 use borrow.Author.Tests.{not-true, not-false}
 use borrow.Author.Rules.{rules}
@@ -30,7 +30,7 @@ unfolding limit
 returns-4 c =
     let s = c.before.before.before.before.before.before.before.before.before in
     words-tail-no-text _ _ c.before.before.before.before.before.before.if1.false (omega (arith, survey-longest _ s.requires))
-    (sym (isText-tails _) ∙ sym c.before.is-utf82.ensures ∙ not-true _ c.if4.true)
+    (sym (is_text-tails _) ∙ sym c.before.is-utf82.ensures ∙ not-true _ c.if4.true)
 
 returns-5 : tie.Need-returns-5
 unfolding limit
@@ -38,7 +38,7 @@ returns-5 c =
     let s = c.before.before.before.before.before.before.before.before.before in
     words-texts _ _ c.before.before.before.before.before.before.if1.false (omega (arith, survey-longest _ s.requires))
     (sym c.before.before.before.is-utf8.ensures ∙ not-false _ c.before.before.if3.false)
-    (sym (isText-tails _) ∙ sym c.before.is-utf82.ensures ∙ not-false _ c.if4.false)
+    (sym (is_text-tails _) ∙ sym c.before.is-utf82.ensures ∙ not-false _ c.if4.false)
 
 pub words-refusal-spec : {M : Type 1} → statement M
 words-refusal-spec =

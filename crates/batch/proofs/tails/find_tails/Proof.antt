@@ -6,7 +6,7 @@ use mathlib.Core.Logic.{⊎_elim}
 use native.Mathlib.Omega.{arith}
 use lib.ListN.{length, set}
 use borrow.Author.Rules.{rules}
-use Rattle.batches.specs.BatchCalls.{mostTails}
+use Rattle.batches.specs.BatchCalls.{most_tails}
 use Rattle.batch.proofs.Laws.Tails.{line-ends, line-within, Found, found_none, found-line, found_all}
 use Rattle.batch.proofs.tails.find_tails.Statement.{statement}
 use Rattle.batch.proofs.tails.find_tails.Tie as tie
@@ -18,7 +18,7 @@ abbrev decreases-loop : tie.decreases-loop
 decreases-loop slice ends₀ count₀ longest₀ short₀ at₀ ends count longest short at = length slice - at
 
 loop-holds : tie.Need-loop-init invariant-loop decreases-loop
-unfolding mostTails
+unfolding most_tails
 loop-holds c = found_none _
 
 sub-if1 : tie.Need-overflow-sub-if1 invariant-loop decreases-loop
@@ -37,14 +37,14 @@ loop-less : tie.Need-loop-smaller invariant-loop decreases-loop
 loop-less c = omega (arith, line-ends _ _ c.before.before.before.line_at_lem.ensures)
 
 loop-again : tie.Need-loop-preserved invariant-loop decreases-loop
-unfolding mostTails
+unfolding most_tails
 loop-again c =
     let l = c.before.before.before.before.before.loop in
     let line = c.before.before.before.line_at_lem in
     let end = line.result.end in
-    let stored : l.count < mostTails → c.if2.ends ≡ set l.ends l.count end =
+    let stored : l.count < most_tails → c.if2.ends ≡ set l.ends l.count end =
     ⊎_elim (λ u h. u.1) (λ u h. absurd (omega arith)) c.if2.branch in
-    let kept : mostTails ≤ l.count → c.if2.ends ≡ l.ends =
+    let kept : most_tails ≤ l.count → c.if2.ends ≡ l.ends =
     ⊎_elim (λ u h. absurd (omega arith)) (λ u h. u.1) c.if2.branch in
     let most : c.before.before.if1.longest ≡ max l.longest (end - l.at) =
     ⊎_elim (λ u. omega arith) (λ u. omega arith) c.before.before.if1.branch in

@@ -4,14 +4,14 @@ use mathlib.Core.Path.{◌≡◌, refl, sym, ◌∙◌}
 use mathlib.Core.Bool.{◌&&◌}
 use mathlib.Core.Logic.{⊎_elim}
 use Rattle.encoding.proofs.Laws.Booleans.{and-asked, and-spared}
-use Rattle.encoding.proofs.Laws.PlainRuns.{plainAt, plain-four}
+use Rattle.encoding.proofs.Laws.PlainRuns.{plain_from, plain-four}
 use borrow.Author.Rules.{rules}
 use Rattle.encoding.proofs.plain.are_plain.Statement.{statement}
 use Rattle.encoding.proofs.plain.are_plain.Tie as tie
 
 -- the test after two eights
 abbrev Two : tie.Joined1 → Type 0
-Two c = let t = c.before.before.before.args in c.if1.if2 ≡ plainAt t.w.now t.i && plainAt t.w.now (t.i + 8)
+Two c = let t = c.before.before.before.args in c.if1.if2 ≡ plain_from t.w.now t.i && plain_from t.w.now (t.i + 8)
 
 -- the second is asked for only where the first is plain
 two : (c : tie.Joined1) → Two c
@@ -23,7 +23,7 @@ two c =
 abbrev Three : tie.Joined2 → Type 0
 Three c =
     let t = c.before.before.before.before.args in
-    c.if2.if3 ≡ plainAt t.w.now t.i && plainAt t.w.now (t.i + 8) && plainAt t.w.now (t.i + 16)
+    c.if2.if3 ≡ plain_from t.w.now t.i && plain_from t.w.now (t.i + 8) && plain_from t.w.now (t.i + 16)
 
 -- the third is asked for only where both are
 three : (c : tie.Joined2) → Three c
@@ -39,7 +39,7 @@ returns c =
 returns-2 : tie.Need-returns-2
 returns-2 c =
     let t = c.before.before.before.before.before.args in
-    and-spared (plainAt t.w.now (t.i + 24)) c.if3.false (three c.before) refl ∙ sym (plain-four t.w.now t.i)
+    and-spared (plain_from t.w.now (t.i + 24)) c.if3.false (three c.before) refl ∙ sym (plain-four t.w.now t.i)
 
 pub are-plain-spec : {M : Type 1} → statement M
 are-plain-spec =

@@ -5,19 +5,19 @@ use mathlib.Core.Path.{◌≡◌, refl, sym, ◌∙◌}
 use native.Mathlib.Omega.{arith}
 use lib.ListN.{length}
 use borrow.Author.Rules.{rules}
-use Rattle.encoding.specs.PlainRuns.{runEnd}
+use Rattle.encoding.specs.PlainRuns.{run_end_of}
 use Rattle.encoding.proofs.Laws.PlainRuns.{run_ends, run_short, run_on, run-on-eights}
 use Rattle.encoding.proofs.plain.run_end.Statement.{statement}
 use Rattle.encoding.proofs.plain.run_end.Tie as tie
 
 abbrev invariant-loop : tie.invariant-loop
-invariant-loop w from i₀ i = (i ≤ length w) × (runEnd w i ≡ runEnd w from)
+invariant-loop w from i₀ i = (i ≤ length w) × (run_end_of w i ≡ run_end_of w from)
 
 abbrev decreases-loop : tie.decreases-loop
 decreases-loop w from i₀ i = length w - i
 
 abbrev invariant-loop2 : tie.invariant-loop2
-invariant-loop2 w from i₀ i = (i ≤ length w) × (runEnd w i ≡ runEnd w from)
+invariant-loop2 w from i₀ i = (i ≤ length w) × (run_end_of w i ≡ run_end_of w from)
 
 abbrev decreases-loop2 : tie.decreases-loop2
 decreases-loop2 w from i₀ i = length w - i

@@ -1,7 +1,7 @@
 -- `encoding::short::each_follows` meets its contract: the loop's invariant: what passed so far and the walk from the place are the walk
 -- from the start. The measure is what is left of the word. Assumes nothing.
 use Rattle.encoding.proofs.Laws.Neighbours.{short-at, short-end}
-use Rattle.encoding.specs.Neighbours.{shortAfter}
+use Rattle.encoding.specs.Neighbours.{short_after}
 use Prim.Native.Nat.{◌-◌, ◌≤◌}
 use mathlib.Core.Bool.{◌&&◌}
 use mathlib.Core.Path.{◌≡◌, refl, ◌∙◌}
@@ -12,7 +12,7 @@ use Rattle.encoding.proofs.short.each_follows.Statement.{statement}
 use Rattle.encoding.proofs.short.each_follows.Tie as tie
 
 abbrev invariant-loop : tie.invariant-loop
-invariant-loop w i₀ a₀ ok₀ i a ok = (i ≤ length w) × (ok && shortAfter a (drop i w) ≡ shortAfter 0 w)
+invariant-loop w i₀ a₀ ok₀ i a ok = (i ≤ length w) × (ok && short_after a (drop i w) ≡ short_after 0 w)
 
 abbrev decreases-loop : tie.decreases-loop
 decreases-loop w i₀ a₀ ok₀ i a ok = length w - i

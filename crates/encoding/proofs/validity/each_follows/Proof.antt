@@ -1,7 +1,7 @@
 -- `encoding::validity::each_follows` meets its contract: the loop's invariant: what passed so far and the walk from the place are the
 -- walk from the start. The measure is what is left of the word. Assumes nothing.
 use Rattle.encoding.proofs.Laws.Neighbours.{text_at, text-end}
-use Rattle.encoding.specs.Neighbours.{textAfter}
+use Rattle.encoding.specs.Neighbours.{text_after}
 use Prim.Native.Nat.{◌-◌, ◌≤◌}
 use mathlib.Core.Bool.{◌&&◌}
 use mathlib.Core.Path.{◌≡◌, refl, ◌∙◌}
@@ -12,7 +12,7 @@ use Rattle.encoding.proofs.validity.each_follows.Statement.{statement}
 use Rattle.encoding.proofs.validity.each_follows.Tie as tie
 
 abbrev invariant-loop : tie.invariant-loop
-invariant-loop w i₀ a₀ b₀ c₀ ok₀ i a b c ok = (i ≤ length w) × (ok && textAfter a b c (drop i w) ≡ textAfter 0 0 0 w)
+invariant-loop w i₀ a₀ b₀ c₀ ok₀ i a b c ok = (i ≤ length w) × (ok && text_after a b c (drop i w) ≡ text_after 0 0 0 w)
 
 abbrev decreases-loop : tie.decreases-loop
 decreases-loop w i₀ a₀ b₀ c₀ ok₀ i a b c ok = length w - i

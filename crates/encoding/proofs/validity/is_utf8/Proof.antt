@@ -4,7 +4,7 @@ use Prim.Native.Nat.{ℕ, ◌-◌, ◌≤◌}
 use mathlib.Core.Path.{◌≡◌, sym, ◌∙◌, subst}
 use native.Mathlib.Omega.{arith}
 use lib.ListN.{length, drop}
-use Rattle.encoding.specs.Validity.{isText}
+use Rattle.encoding.specs.Validity.{is_text}
 use Rattle.encoding.proofs.Laws.Booleans.{not-eq-false, not-eq-true}
 use Rattle.encoding.proofs.Laws.Neighbours.{text-after}
 use Rattle.encoding.proofs.Laws.PlainRuns.{run-from, run-upto}
@@ -14,7 +14,7 @@ use Rattle.encoding.proofs.validity.is_utf8.Statement.{statement}
 use Rattle.encoding.proofs.validity.is_utf8.Tie as tie
 
 abbrev invariant-loop : tie.invariant-loop
-invariant-loop w i₀ i = (i ≤ length w) × (isText (drop i w) ≡ isText w)
+invariant-loop w i₀ i = (i ≤ length w) × (is_text (drop i w) ≡ is_text w)
 
 abbrev decreases-loop : tie.decreases-loop
 decreases-loop w i₀ i = length w - i
@@ -45,7 +45,7 @@ loop-again c =
     let end = c.before.before.before.before.part_end.result in
     let p = c.before.before.before.before.part_end.ensures in
     let passes = sym (c.before.before.each-follows.ensures ∙ text-after _) ∙ not-eq-true _ c.before.if2.false in
-    subst (λ (r : ℕ). (r ≤ length w) × (isText (drop r w) ≡ isText w)) (sym c.run-end.ensures)
+    subst (λ (r : ℕ). (r ≤ length w) × (is_text (drop r w) ≡ is_text w)) (sym c.run-end.ensures)
     (run-upto w end p.1.0, text-run w end ∙ text-cut w l.i end (omega arith) p.1.1 passes ∙ l.invariant.1)
 
 returns-3 : tie.Need-returns-3 invariant-loop decreases-loop

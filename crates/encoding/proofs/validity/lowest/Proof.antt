@@ -1,17 +1,17 @@
 -- `encoding::validity::lowest` meets its contract: two rows of table 3-7 raise the least byte, no other. Assumes nothing.
 use Rattle.encoding.proofs.Laws.Table37.{lead_low}
 use Prim.Native.Nat.{ℕ}
-use Rattle.encoding.specs.Validity.{lead, leadIn, table37, due}
+use Rattle.encoding.specs.Validity.{lead, lead_in, table37, due}
 use mathlib.Core.Path.{sym, ap}
 use Rattle.encoding.proofs.validity.lowest.Statement.{statement}
 use Rattle.encoding.proofs.validity.lowest.Tie as tie
 
 returns : tie.Need-returns
-unfolding lead leadIn table37 due
+unfolding lead lead_in table37 due
 returns c = sym (ap (λ (k : ℕ). (lead k).low) c.if1.true)
 
 returns-2 : tie.Need-returns-2
-unfolding lead leadIn table37 due
+unfolding lead lead_in table37 due
 returns-2 c = sym (ap (λ (k : ℕ). (lead k).low) c.if2.true)
 
 returns-3 : tie.Need-returns-3

@@ -5,14 +5,14 @@ use mathlib.Core.Path.{◌≡◌, refl, ◌∙◌}
 use mathlib.Core.Bool.{◌&&◌}
 use native.Mathlib.Omega.{arith}
 use lib.ListN.{drop}
-use Rattle.encoding.specs.Walked.{byteBefore, shortNext}
+use Rattle.encoding.specs.Walked.{byte_before, short_next}
 use Rattle.encoding.proofs.Laws.Walked.{next-at, next-end}
 use borrow.Author.Rules.{rules}
 use Rattle.encoding.proofs.walk.all_follow.Statement.{statement}
 use Rattle.encoding.proofs.walk.all_follow.Tie as tie
 
 abbrev invariant-loop : tie.invariant-loop
-invariant-loop w from to i₀ ok₀ i ok = (from ≤ i) × (i ≤ to) × (ok && shortNext (to - i) (byteBefore w i) (drop i w) ≡ shortNext (to - from) (byteBefore w from) (drop from w))
+invariant-loop w from to i₀ ok₀ i ok = (from ≤ i) × (i ≤ to) × (ok && short_next (to - i) (byte_before w i) (drop i w) ≡ short_next (to - from) (byte_before w from) (drop from w))
 
 abbrev decreases-loop : tie.decreases-loop
 decreases-loop w from to i₀ ok₀ i ok = to - i

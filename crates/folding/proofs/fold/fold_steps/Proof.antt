@@ -2,7 +2,7 @@
 -- Assumes nothing.
 use lib.ListN.{length}
 use borrow.Author.Rules.{rules}
-use Rattle.folding.proofs.Laws.FoldCall.{foldBytes-accepted, fold-short, fold-given, not-fitting, fitting}
+use Rattle.folding.proofs.Laws.FoldCall.{fold_bytes-accepted, fold-short, fold-given, not-fitting, fitting}
 use Rattle.folding.proofs.fold.fold_steps.Statement.{statement}
 use Rattle.folding.proofs.fold.fold_steps.Tie as tie
 
@@ -17,13 +17,13 @@ returns c =
 write-steps-requires : tie.Need-write-steps-requires
 write-steps-requires c κs =
     let s = c.before.before.before.before.before in
-    rw (foldBytes-accepted s.args.w.now s.requires) (fitting _ _ _ c.before.before.fits2.ensures c.before.if1.false)
+    rw (fold_bytes-accepted s.args.w.now s.requires) (fitting _ _ _ c.before.before.fits2.ensures c.before.if1.false)
 
 returns-2 : tie.Need-returns-2
 returns-2 c =
     let s = c.before.before.before.before.before.before.before.before in
     let room = fitting _ _ _ c.before.before.before.before.before.fits2.ensures c.before.before.before.before.if1.false in
-    let written = rw (foldBytes-accepted s.args.w.now s.requires) at c.before.before.write-steps.ensures in
+    let written = rw (fold_bytes-accepted s.args.w.now s.requires) at c.before.before.write-steps.ensures in
     fold-given s.args.w.now s.requires s.args.out.now _ _ room written.0 written.1
 
 pub fold-steps-spec : {M : Type 1} → statement M

@@ -2,16 +2,16 @@
 use mathlib.Core.Path.{◌∙◌}
 use borrow.Author.Rules.{rules}
 use borrow.Author.Tests.{lt-ltb, le-ltb}
-use Rattle.folding.specs.FoldBytes.{longPlain}
+use Rattle.folding.specs.FoldBytes.{long_plain}
 use Rattle.folding.proofs.fold.is_long_plain.Statement.{statement}
 use Rattle.folding.proofs.fold.is_long_plain.Tie as tie
 
 returns : tie.Need-returns
-unfolding longPlain
+unfolding long_plain
 returns c = rw (lt-ltb _ 16 c.if1.true)
 
 returns-2 : tie.Need-returns-2
-unfolding longPlain
+unfolding long_plain
 returns-2 c = c.is_plain.ensures ∙ rw (le-ltb _ 16 c.before.if1.false)
 
 pub is-long-plain-spec : {M : Type 1} → statement M

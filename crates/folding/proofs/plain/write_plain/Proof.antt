@@ -8,13 +8,13 @@ use lib.ListN.{length, take, length-set}
 use borrow.Author.Rules.{rules}
 use Rattle.writing.specs.Put.{put}
 use Rattle.writing.proofs.Laws.Put.{put-nothing}
-use Rattle.folding.specs.FoldBytes.{smallByte}
+use Rattle.folding.specs.FoldBytes.{small_byte}
 use Rattle.folding.proofs.Laws.Plain.{small-stored, small-written}
 use Rattle.folding.proofs.plain.write_plain.Statement.{statement}
 use Rattle.folding.proofs.plain.write_plain.Tie as tie
 
 abbrev invariant-loop : tie.invariant-loop
-invariant-loop w out₀ i₀ out i = (i ≤ length w) × (length out ≡ length out₀) × (out ≡ put 0 (take i (map smallByte w)) out₀)
+invariant-loop w out₀ i₀ out i = (i ≤ length w) × (length out ≡ length out₀) × (out ≡ put 0 (take i (map small_byte w)) out₀)
 
 abbrev decreases-loop : tie.decreases-loop
 decreases-loop w out₀ i₀ out i = length w - i

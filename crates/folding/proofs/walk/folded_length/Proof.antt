@@ -6,15 +6,15 @@ use native.Mathlib.Omega.{arith}
 use lib.ListN.{length, drop}
 use borrow.Author.Rules.{rules}
 use Rattle.turkish.specs.Calls.{limit}
-use Rattle.folding.specs.FoldBytes.{foldBytes}
+use Rattle.folding.specs.FoldBytes.{fold_bytes}
 use Rattle.folding.proofs.Laws.Steps.{stepped-at}
-use Rattle.folding.proofs.Laws.Walks.{length_rest, foldBytes-end}
+use Rattle.folding.proofs.Laws.Walks.{length_rest, fold_bytes-end}
 use Rattle.folding.proofs.walk.folded_length.Statement.{statement}
 use Rattle.folding.proofs.walk.folded_length.Tie as tie
 
 abbrev invariant-loop : tie.invariant-loop
 invariant-loop w total₀ i₀ total i =
-    (i ≤ length w) × (total ≤ 2 * i) × (total + length (foldBytes (drop i w)) ≡ length (foldBytes w))
+    (i ≤ length w) × (total ≤ 2 * i) × (total + length (fold_bytes (drop i w)) ≡ length (fold_bytes w))
 
 abbrev decreases-loop : tie.decreases-loop
 decreases-loop w total₀ i₀ total i = length w - i
@@ -57,7 +57,7 @@ returns : tie.Need-returns invariant-loop decreases-loop
 returns c =
     let l = c.before.loop in
     let w = c.before.before.before.args.w.now in
-    omega (arith, l.invariant.2, ap length (foldBytes-end w l.i c.loop-test.false))
+    omega (arith, l.invariant.2, ap length (fold_bytes-end w l.i c.loop-test.false))
 
 pub folded-length-spec : {M : Type 1} → statement M
 folded-length-spec = tie.close (tie.spec invariant-loop decreases-loop loop-holds (λ c κs. search rules) add_total add-i loop-less loop-again returns)

@@ -6,26 +6,26 @@ use mathlib.Core.Logic.{⊎_elim}
 use native.Mathlib.Omega.{arith}
 use lib.ListN.{length}
 use borrow.Author.Rules.{rules}
-use Rattle.encoding.specs.Encoding.{encodeAll}
+use Rattle.encoding.specs.Encoding.{encode_all}
 use Rattle.writing.proofs.Laws.Put.{Wrote, wrote_nothing}
-use Rattle.vowels.specs.Sounds.{mostVowelBytes}
-use Rattle.fronts.specs.StandIn.{counted, standInRoom}
-use Rattle.fronts.proofs.Laws.StandIn.{so_far, roomFrom, turn-counted, turn-skipped, written_last}
+use Rattle.vowels.specs.Sounds.{most_vowel_bytes}
+use Rattle.fronts.specs.StandIn.{counted, stand_in_room}
+use Rattle.fronts.proofs.Laws.StandIn.{so_far, room_from, turn-counted, turn-skipped, written_last}
 use Rattle.fronts.proofs.stand_in.put_stand_in.Statement.{statement}
 use Rattle.fronts.proofs.stand_in.put_stand_in.Tie as tie
 
 abbrev invariant-loop : tie.invariant-loop
-invariant-loop out₀ s at₀ k₀ out at k = (k ≤ 8) × (length out ≡ length out₀) × Wrote 0 at (so_far s.counts k) out₀ out (roomFrom k)
+invariant-loop out₀ s at₀ k₀ out at k = (k ≤ 8) × (length out ≡ length out₀) × Wrote 0 at (so_far s.counts k) out₀ out (room_from k)
 
 abbrev decreases-loop : tie.decreases-loop
 decreases-loop out₀ s at₀ k₀ out at k = 8 - k
 
 loop-holds : tie.Need-loop-init invariant-loop decreases-loop
-unfolding so_far roomFrom counted encodeAll standInRoom mostVowelBytes
+unfolding so_far room_from counted encode_all stand_in_room most_vowel_bytes
 loop-holds c = (omega arith, refl, wrote_nothing (omega arith))
 
 put-vowel-requires : tie.Need-put-vowel-requires invariant-loop decreases-loop
-unfolding roomFrom mostVowelBytes
+unfolding room_from most_vowel_bytes
 put-vowel-requires c κs = omega (arith, c.before.before.before.before.loop.invariant.2.room)
 
 loop-again : tie.Need-loop-preserved invariant-loop decreases-loop
@@ -39,7 +39,7 @@ loop-again c =
     c.if1.branch
 
 put-vowel-requires-2 : tie.Need-put-vowel-requires-2 invariant-loop decreases-loop
-unfolding roomFrom mostVowelBytes
+unfolding room_from most_vowel_bytes
 put-vowel-requires-2 c κs = omega (arith, c.before.before.loop.invariant.2.room)
 
 returns : tie.Need-returns invariant-loop decreases-loop

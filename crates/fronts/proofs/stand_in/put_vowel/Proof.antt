@@ -4,7 +4,7 @@ use mathlib.Core.Path.{sym, ◌∙◌}
 use native.Mathlib.Omega.{arith}
 use borrow.Author.Rules.{rules}
 use Rattle.writing.proofs.Laws.Put.{wrote_nothing, wrote-bytes, wrote-all}
-use Rattle.vowels.proofs.Laws.Sounds.{soundNumbered-vowel, encodedOf-fits}
+use Rattle.vowels.proofs.Laws.Sounds.{sound_numbered-vowel, encoded_of-fits}
 use Rattle.fronts.proofs.Laws.StandIn.{numbered-none, numbered-written, numbered-fit}
 use Rattle.fronts.proofs.stand_in.put_vowel.Statement.{statement}
 use Rattle.fronts.proofs.stand_in.put_vowel.Tie as tie
@@ -17,7 +17,7 @@ returns c =
 encode-requires : tie.Need-encode-requires
 encode-requires c κs =
     let v = c.before in
-    soundNumbered-vowel v.before.before.before.before.args.number _ (sym v.before.before.numbered.ensures ∙ v.v.given.1)
+    sound_numbered-vowel v.before.before.before.before.args.number _ (sym v.before.before.numbered.ensures ∙ v.v.given.1)
 
 put-bytes-requires : tie.Need-put-bytes-requires
 put-bytes-requires c κs =
@@ -25,7 +25,7 @@ put-bytes-requires c κs =
     let v = letter.before.before in
     let s = v.before.before.before.before in
     let fit = numbered-fit s.args.number _ (sym v.before.before.numbered.ensures ∙ v.v.given.1) letter.encode.ensures in
-    (encodedOf-fits _ letter.encode.ensures, omega (arith, s.requires))
+    (encoded_of-fits _ letter.encode.ensures, omega (arith, s.requires))
 
 returns-2 : tie.Need-returns-2
 returns-2 c =
@@ -35,7 +35,7 @@ returns-2 c =
     let sound = sym v.before.before.numbered.ensures ∙ v.v.given.1 in
     let fit = numbered-fit s.args.number _ sound letter.encode.ensures in
     wrote-all (numbered-written s.args.number _ sound letter.encode.ensures)
-    (wrote-bytes _ _ (encodedOf-fits _ letter.encode.ensures) (wrote_nothing (omega (arith, s.requires))) c.before.before.put-bytes.ensures)
+    (wrote-bytes _ _ (encoded_of-fits _ letter.encode.ensures) (wrote_nothing (omega (arith, s.requires))) c.before.before.put-bytes.ensures)
 
 pub put-vowel-spec : {M : Type 1} → statement M
 put-vowel-spec =

@@ -7,8 +7,8 @@ use native.Mathlib.Omega.{arith}
 use lib.ListN.{length}
 use borrow.Author.Rules.{rules}
 use Rattle.turkish.specs.Letters.{text, any, has}
-use Rattle.turkish.specs.Vowels.{vowels, vowel, lastVowel, beforeLastVowel}
-use Rattle.batches.specs.Summary.{vowelNumber, times, summaryOf}
+use Rattle.turkish.specs.Vowels.{vowels, vowel, last_vowel_of, before_last_vowel}
+use Rattle.batches.specs.Summary.{vowel_number, times, summary_from}
 use Rattle.fronts.proofs.Laws.Summaries.{Passed, passed_none, passed-more, passed_counted, passed-all}
 use Rattle.fronts.proofs.summary.summary_of.Statement.{statement}
 use Rattle.fronts.proofs.summary.summary_of.Tie as tie
@@ -20,7 +20,7 @@ abbrev decreases-loop : tie.decreases-loop
 decreases-loop front n s₀ c₀ s c = length front - c.cursor
 
 loop-holds : tie.Need-loop-init invariant-loop decreases-loop
-unfolding summaryOf vowelNumber vowel vowels text has any lastVowel beforeLastVowel times
+unfolding summary_from vowel_number vowel vowels text has any last_vowel_of before_last_vowel times
 loop-holds c = passed_none c.before.args.front.now _ c.before.requires refl
 
 add-requires : tie.Need-add-requires invariant-loop decreases-loop

@@ -8,7 +8,7 @@ use borrow.Author.Rules.{rules}
 use Rattle.keys.specs.declared.among.Among.TheVariants.{Key}
 use Rattle.keys.specs.Keys.{rows}
 use Rattle.keys.specs.Search.{found_from, found}
-use Rattle.keys.proofs.Laws.Search.{foundFrom-passed, foundFrom-next, foundFrom-end}
+use Rattle.keys.proofs.Laws.Search.{found_from-passed, found_from-next, found_from-end}
 use Rattle.keys.proofs.among.find_among_b.Statement.{statement}
 use Rattle.keys.proofs.among.find_among_b.Tie as tie
 
@@ -41,7 +41,7 @@ returns c =
     let s = c.before.before.before.before.before.before.before in
     let l = c.before.before.before.before.loop in
     ap (Key l.i) c.moved_to.ensures
-    ∙ foundFrom-passed s.args.w.now s.args.s.c s.args.keys.now l.base s.args.width l.i c.before.before.key-before.ensures s.requires.1
+    ∙ found_from-passed s.args.w.now s.args.s.c s.args.keys.now l.base s.args.width l.i c.before.before.key-before.ensures s.requires.1
     c.before.before.before.loop-test.true c.before.if1.true ∙ l.invariant.2
 
 add-base : tie.Need-overflow-add-base invariant-loop decreases-loop
@@ -62,7 +62,7 @@ loop-again c =
     let l = c.before.before.before.loop in (
       omega arith,
       omega arith,
-      foundFrom-next s.args.w.now s.args.s.c s.args.keys.now l.base s.args.width l.i c.before.key-before.ensures s.requires.1
+      found_from-next s.args.w.now s.args.s.c s.args.keys.now l.base s.args.width l.i c.before.key-before.ensures s.requires.1
           c.before.before.loop-test.true c.if1.false ∙ l.invariant.2,
     )
 
@@ -70,7 +70,7 @@ returns-2 : tie.Need-returns-2 invariant-loop decreases-loop
 returns-2 c =
     let s = c.before.before.before.before in
     let l = c.before.loop in
-    foundFrom-end s.args.w.now s.args.s.c s.args.keys.now l.base s.args.width l.i c.loop-test.false ∙ l.invariant.2
+    found_from-end s.args.w.now s.args.s.c s.args.keys.now l.base s.args.width l.i c.loop-test.false ∙ l.invariant.2
 
 pub find-among-b-spec : {M : Type 1} → statement M
 find-among-b-spec =

@@ -10,13 +10,13 @@ use Rattle.utf8.specs.declared.cursor.Cursor.{Cursor}
 use Rattle.utf8.specs.Behind.{Open}
 use Rattle.keys.specs.Keys.{row}
 use Rattle.keys.specs.Search.{over}
-use Rattle.keys.specs.Passed.{notPassed}
+use Rattle.keys.specs.Passed.{not_passed_of}
 use Rattle.keys.proofs.Laws.KeyBefore.{letters-differ, letters-none, letters-one, letters-two, letters-three, letters-left, open-three}
 use Rattle.keys.proofs.among.key_before.Statement.{statement}
 use Rattle.keys.proofs.among.key_before.Tie as tie
 
 returns : tie.Need-returns
-unfolding notPassed
+unfolding not_passed_of
 returns c =
     let e = c.before in
     let s = e.before.before.before.before.before.before in

@@ -7,20 +7,20 @@ use lib.ListN.{length, drop}
 use borrow.Author.Rules.{rules}
 use Rattle.utf8.specs.declared.characters.Read.{Read}
 use Rattle.utf8.specs.Characters.{back}
-use Rattle.utf8.specs.Behind.{readBack}
+use Rattle.utf8.specs.Behind.{read_back_of}
 use Rattle.utf8.proofs.Laws.Characters.{back-le}
 use Rattle.utf8.proofs.Laws.Steps.{stands-within}
-use Rattle.keys.specs.Passed.{notPassed}
+use Rattle.keys.specs.Passed.{not_passed_of}
 use Rattle.keys.specs.Keys.{row}
-use Rattle.utf8.proofs.Laws.Part.{partFrom, length-partFrom}
-use Rattle.keys.proofs.Laws.Search.{overPart, over-overPart, overPart-none, overPart-ends, overPart-differs, overPart-read}
+use Rattle.utf8.proofs.Laws.Part.{part_from, length-part_from}
+use Rattle.keys.proofs.Laws.Search.{over_part, over-over_part, over_part-none, over_part-ends, over_part-differs, over_part-read}
 use Rattle.keys.proofs.among.key_rest.Statement.{statement}
 use Rattle.keys.proofs.among.key_rest.Tie as tie
 
 abbrev invariant-loop : tie.invariant-loop
 invariant-loop w keys from upto low part at₀ j₀ at j =
     (at ≤ length part) × (from ≤ j) × (j ≤ upto)
-    × (overPart low part at 0 (row (upto - j) (drop j keys)) ≡ overPart low part at₀ 0 (row (upto - from) (drop from keys)))
+    × (over_part low part at 0 (row (upto - j) (drop j keys)) ≡ over_part low part at₀ 0 (row (upto - from) (drop from keys)))
 
 abbrev decreases-loop : tie.decreases-loop
 decreases-loop w keys from upto low part at₀ j₀ at j = upto - j
@@ -38,7 +38,7 @@ loop-holds : tie.Need-loop-init invariant-loop decreases-loop
 loop-holds c =
     let s = c.before.before.before.before in
     let within = stands-within _ _ s.requires.0.within in
-    (omega (arith, length-partFrom s.args.w.now s.args.c.limit_backward, within.low, within.high, within.end), omega arith, omega arith, refl)
+    (omega (arith, length-part_from s.args.w.now s.args.c.limit_backward, within.low, within.high, within.end), omega arith, omega arith, refl)
 
 returns : tie.Need-returns invariant-loop decreases-loop
 unfolding back
@@ -49,11 +49,11 @@ returns c =
     let keys = s.args.keys.now in
     let l = c.before.before.before.before.loop in
     c.to.ensures
-    ∙ overPart-ends low (partFrom w low) l.at 0 keys l.j (s.args.upto - l.j) (omega arith) (omega arith) c.before.if1.true
-    ∙ l.invariant.3 ∙ sym (over-overPart w s.args.c (row (s.args.upto - s.args.from) (drop s.args.from keys)))
+    ∙ over_part-ends low (part_from w low) l.at 0 keys l.j (s.args.upto - l.j) (omega arith) (omega arith) c.before.if1.true
+    ∙ l.invariant.3 ∙ sym (over-over_part w s.args.c (row (s.args.upto - s.args.from) (drop s.args.from keys)))
 
 returns-2 : tie.Need-returns-2 invariant-loop decreases-loop
-unfolding notPassed readBack
+unfolding not_passed_of read_back_of
 returns-2 c =
     let s = c.before.before.before.before.before.before.before.before.before.before.before in
     let w = s.args.w.now in
@@ -61,12 +61,12 @@ returns-2 c =
     let keys = s.args.keys.now in
     let l = c.before.before.before.before.before.before.loop in
     let read = ap (λ (x : Read). x.ch) c.before.before.read_back.ensures in
-    overPart-differs low (partFrom w low) l.at 0 keys l.j (s.args.upto - l.j) (omega arith) (omega arith)
+    over_part-differs low (part_from w low) l.at 0 keys l.j (s.args.upto - l.j) (omega arith) (omega arith)
     c.before.before.before.if1.false (λ e. c.if2.true (read ∙ sym e))
-    ∙ l.invariant.3 ∙ sym (over-overPart w s.args.c (row (s.args.upto - s.args.from) (drop s.args.from keys)))
+    ∙ l.invariant.3 ∙ sym (over-over_part w s.args.c (row (s.args.upto - s.args.from) (drop s.args.from keys)))
 
 loop-again : tie.Need-loop-preserved invariant-loop decreases-loop
-unfolding readBack
+unfolding read_back_of
 loop-again c =
     let s = c.before.before.before.before.before.before.before.before.before.before.before in
     let w = s.args.w.now in
@@ -74,11 +74,11 @@ loop-again c =
     let keys = s.args.keys.now in
     let l = c.before.before.before.before.before.before.loop in
     let read = ap (λ (x : Read). x.at) c.before.before.read_back.ensures in
-    let le = back-le (partFrom w low) l.at 1 in (
+    let le = back-le (part_from w low) l.at 1 in (
       omega (arith, read, le),
       omega arith,
       omega arith,
-      overPart-read low (partFrom w low) l.at keys l.j s.args.upto _ c.before.before.read_back.ensures
+      over_part-read low (part_from w low) l.at keys l.j s.args.upto _ c.before.before.read_back.ensures
           c.before.before.before.before.before.loop-test.true (omega arith)
           c.before.before.before.if1.false c.if2.false ∙ l.invariant.3,
     )
@@ -92,8 +92,8 @@ returns-3 c =
     let keys = s.args.keys.now in
     let l = c.before.before.loop in
     c.to2.ensures
-    ∙ overPart-none low (partFrom w low) l.at 0 keys l.j (s.args.upto - l.j) (omega arith)
-    ∙ l.invariant.3 ∙ sym (over-overPart w s.args.c (row (s.args.upto - s.args.from) (drop s.args.from keys)))
+    ∙ over_part-none low (part_from w low) l.at 0 keys l.j (s.args.upto - l.j) (omega arith)
+    ∙ l.invariant.3 ∙ sym (over-over_part w s.args.c (row (s.args.upto - s.args.from) (drop s.args.from keys)))
 
 pub key-rest-spec : {M : Type 1} → statement M
 key-rest-spec =

@@ -6,7 +6,7 @@ use mathlib.Core.Bool.{false, not}
 use native.Mathlib.Omega.{arith}
 use Rattle.turkish.specs.Letters.{text}
 use Rattle.turkish.specs.Source.{U}
-use Rattle.keys.specs.Passed.{notPassed}
+use Rattle.keys.specs.Passed.{not_passed_of}
 use Rattle.utf8.proofs.Laws.Part.{low-length-le, low-cursor-le, cursor-length-le, cursor-part-le}
 use Rattle.keys.proofs.Laws.Reads.{first-le}
 use Rattle.keys.proofs.Laws.Optional.{has-U, second-there, passes-short, passes-wrong, passes-joined, passes-free}
@@ -26,7 +26,7 @@ read-back-requires : tie.Need-read-back-requires
 read-back-requires c κs = cursor-part-le _ _ c.before.before.before.requires
 
 returns : tie.Need-returns
-unfolding notPassed
+unfolding not_passed_of
 returns c =
     let a = c.before.before in
     let s = a.before.before.before.before in
@@ -41,7 +41,7 @@ read-back-requires-2 c κs =
     omega (arith, cursor-part-le w r s.requires, first-le w r a.read_back.ensures)
 
 returns-2 : tie.Need-returns-2
-unfolding notPassed
+unfolding not_passed_of
 returns-2 c =
     let b = c.before.before in
     let a = b.before.before.before in

@@ -6,7 +6,7 @@ use mathlib.Core.Bool.{true}
 use mathlib.Core.List.{[], ◌∷◌}
 use native.Mathlib.Omega.{arith}
 use borrow.Author.Tests.{eq-eqb, ne_eqb, not-true, not-false}
-use Rattle.keys.specs.Passed.{notPassed}
+use Rattle.keys.specs.Passed.{not_passed_of}
 use Rattle.utf8.proofs.Laws.Part.{low-length-le, low-cursor-le, cursor-length-le, cursor-part-le}
 use Rattle.keys.proofs.Laws.Reads.{first-le}
 use Rattle.keys.proofs.Laws.Optional.{has_one, second-vowel, passes-wrong, passes-joined, passes-free}
@@ -33,7 +33,7 @@ read-short-back-requires-2 c κs =
     omega (arith, cursor-part-le w r s.requires, first-le w r c.read-short-back.ensures)
 
 returns : tie.Need-returns
-unfolding notPassed
+unfolding not_passed_of
 returns c =
     let b = c.before.before in
     let a = b.before in

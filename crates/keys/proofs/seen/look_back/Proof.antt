@@ -6,7 +6,7 @@ use native.Mathlib.Omega.{arith}
 use lib.ListN.{get_or}
 use borrow.Author.Rules.{rules}
 use Rattle.utf8.proofs.Laws.Part.{low-cursor-le, cursor-length-le}
-use Rattle.keys.proofs.Laws.Reads.{seenFrom-three, all_plain, seenAt-plain}
+use Rattle.keys.proofs.Laws.Reads.{seen_from-three, all_plain, seen_at-plain}
 use Rattle.keys.proofs.seen.look_back.Statement.{statement}
 use Rattle.keys.proofs.seen.look_back.Tie as tie
 
@@ -26,7 +26,7 @@ sub-if1 : tie.Need-overflow-sub-if1
 sub-if1 c = low-cursor-le _ _ c.before.before.requires
 
 returns : tie.Need-returns
-returns c = c.from.ensures ∙ seenFrom-three _ _ c.before.read-three.ensures
+returns c = c.from.ensures ∙ seen_from-three _ _ c.before.read-three.ensures
 
 shared-slice-read-x : tie.Need-shared-slice-read-x
 shared-slice-read-x c = let s = c.before.before.before.before in omega (arith, cursor-length-le _ _ s.requires)
@@ -50,10 +50,10 @@ returns-2 : tie.Need-returns-2
 returns-2 c =
     let s = start c in
     let small = plain c in
-    seenAt-plain s.args.w.now s.args.c s.pre c.before.before.before.before.if1.false _ _ _ refl refl refl small.0 small.1 small.2
+    seen_at-plain s.args.w.now s.args.c s.pre c.before.before.before.before.if1.false _ _ _ refl refl refl small.0 small.1 small.2
 
 returns-3 : tie.Need-returns-3
-returns-3 c = c.from2.ensures ∙ seenFrom-three _ _ c.before.read-three2.ensures
+returns-3 c = c.from2.ensures ∙ seen_from-three _ _ c.before.read-three2.ensures
 
 pub look-back-spec : {M : Type 1} → statement M
 look-back-spec =

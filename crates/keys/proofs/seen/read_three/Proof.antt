@@ -1,7 +1,7 @@
 -- `letters::seen::read_three` meets its contract: three characters read one after the other. Assumes nothing.
 use native.Mathlib.Omega.{arith}
 use Rattle.utf8.proofs.Laws.Part.{low-length-le, low-cursor-le, cursor-length-le, cursor-part-le}
-use Rattle.keys.proofs.Laws.Reads.{first-le, second-le, third-le, threeAt-made}
+use Rattle.keys.proofs.Laws.Reads.{first-le, second-le, third-le, three_at-made}
 use borrow.Author.Rules.{rules}
 use Rattle.keys.proofs.seen.read_three.Statement.{statement}
 use Rattle.keys.proofs.seen.read_three.Tie as tie
@@ -66,7 +66,7 @@ returns c =
     let b = d.before in
     let a = b.before in
     let s = a.before.before.before.before in
-    threeAt-made s.args.w.now s.args.c a.read-short-back.ensures b.read-short-back2.ensures d.read-short-back3.ensures
+    three_at-made s.args.w.now s.args.c a.read-short-back.ensures b.read-short-back2.ensures d.read-short-back3.ensures
 
 pub read-three-spec : {M : Type 1} → statement M
 read-three-spec =

@@ -7,8 +7,8 @@ use native.Mathlib.Omega.{arith}
 use lib.ListN.{length, take, length-set}
 use borrow.Author.Rules.{rules}
 use Rattle.turkish.specs.Calls.{written}
-use Rattle.turkish.specs.PieceCalls.{told, unused, mostPieces, piecesRoom, buffer}
-use Rattle.theorems.specs.PieceTerms.{mostBytes}
+use Rattle.turkish.specs.PieceCalls.{told, unused, most_pieces, pieces_room, buffer}
+use Rattle.theorems.specs.PieceTerms.{most_bytes}
 use Rattle.kinds.specs.Entries.{entry}
 use Rattle.kinds.proofs.Laws.Written.{written-nothing, length-mapped}
 use Rattle.kinds.proofs.Laws.Entries.{set-entry}
@@ -33,14 +33,14 @@ sub_out c =
     omega (arith, s.requires.0.behind t.before.loop.i t.loop-test.true)
 
 cast-out : tie.Need-overflow-cast-out invariant-loop decreases-loop
-unfolding entry unused mostBytes
+unfolding entry unused most_bytes
 cast-out c =
     let t = c.before.before.before in
     let s = t.before.before.before in
     omega (arith, s.requires.0.whole t.before.loop.i t.loop-test.true, s.requires.0.near t.before.loop.i t.loop-test.true)
 
 slice-write-out-2 : tie.Need-slice-write-out-2 invariant-loop decreases-loop
-unfolding mostPieces piecesRoom
+unfolding most_pieces pieces_room
 slice-write-out-2 c = rw length-set (omega arith)
 
 sub-out-2 : tie.Need-overflow-sub-out-2 invariant-loop decreases-loop
@@ -51,18 +51,18 @@ sub-out-2 c =
     omega (arith, s.requires.0.behind t.before.loop.i t.loop-test.true, s.requires.0.whole t.before.loop.i t.loop-test.true)
 
 cast-out-2 : tie.Need-overflow-cast-out-2 invariant-loop decreases-loop
-unfolding entry unused mostBytes
+unfolding entry unused most_bytes
 cast-out-2 c =
     let t = c.before.before.before.before in
     let s = t.before.before.before in
     omega (arith, s.requires.0.near t.before.loop.i t.loop-test.true)
 
 slice-write-out-3 : tie.Need-slice-write-out-3 invariant-loop decreases-loop
-unfolding mostPieces piecesRoom
+unfolding most_pieces pieces_room
 slice-write-out-3 c = rw (length-set, length-set) (omega arith)
 
 loop-again : tie.Need-loop-preserved invariant-loop decreases-loop
-unfolding mostPieces piecesRoom
+unfolding most_pieces pieces_room
 loop-again c =
     let t = c.before.before.before.before in
     let s = t.before.before.before in
@@ -76,7 +76,7 @@ returns c =
     cc
 
 pub put-pieces-spec : {M : Type 1} → statement M
-unfolding mostPieces piecesRoom
+unfolding most_pieces pieces_room
 put-pieces-spec =
     tie.close
     (tie.spec invariant-loop decreases-loop loop-holds (λ c. search rules) (λ c. search rules) (λ c κs. search rules) (λ c. search rules) (λ c. search rules)

@@ -5,7 +5,7 @@ use mathlib.Core.Bool.{Bool}
 use borrow.Author.Rules.{rules}
 use borrow.Author.Tests.{ne_eqb}
 use Rattle.turkish.specs.declared.endings.Kind.TheVariants.{YUm, YUz, YDU, YsA, YmUs, Yken}
-use Rattle.kinds.specs.Kinds.{joiningBy, kind_at}
+use Rattle.kinds.specs.Kinds.{joining_by, kind_at}
 use Rattle.kinds.proofs.kind.kind_of.Statement.{statement}
 use Rattle.kinds.proofs.kind.kind_of.Tie as tie
 
@@ -20,7 +20,7 @@ returns-12 c =
     let r11 = c.match.rest in
     let r7 = r11.0.0.0.0 in
     let r3 = r7.0.0.0.0 in
-    let last : kind_at n c.before.before.args.y ≡ Yken (joiningBy c.before.before.args.y) = simp (
+    let last : kind_at n c.before.before.args.y ≡ Yken (joining_by c.before.before.args.y) = simp (
       ne_eqb n 1 r3.0.0.1,
       ne_eqb n 2 r3.0.1,
       ne_eqb n 3 r3.1,

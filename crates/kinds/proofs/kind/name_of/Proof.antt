@@ -2,15 +2,15 @@
 use mathlib.Core.Path.{sym, ap}
 use borrow.Author.Rules.{rules}
 use Rattle.turkish.specs.Letters.{text}
-use Rattle.turkish.specs.Pieces.{kindNames, nameFrom, kindName}
+use Rattle.turkish.specs.Pieces.{kind_names, name_from, kind_name}
 use Rattle.turkish.specs.Calls.{written}
-use Rattle.turkish.specs.PieceCalls.{kindNumber}
+use Rattle.turkish.specs.PieceCalls.{kind_number}
 use Rattle.kinds.specs.Kinds.{name_of}
 use Rattle.kinds.proofs.kind.name_of.Statement.{statement}
 use Rattle.kinds.proofs.kind.name_of.Tie as tie
 
 pub name-of-spec : {M : Type 1} → statement M
-unfolding name_of written kindNumber kindName nameFrom kindNames text
+unfolding name_of written kind_number kind_name name_from kind_names text
 name-of-spec =
     tie.close
     (tie.spec (λ c. search rules) (λ c. search rules) (λ c. search rules) (λ c. search rules) (λ c. search rules) (λ c. search rules)

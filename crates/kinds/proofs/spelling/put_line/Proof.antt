@@ -6,12 +6,12 @@ use native.Mathlib.Omega.{arith}
 use lib.ListN.{length}
 use borrow.Author.Rules.{rules}
 use Rattle.turkish.specs.Letters.{tab, lf}
-use Rattle.turkish.specs.PieceCalls.{told, pieceLine}
+use Rattle.turkish.specs.PieceCalls.{told, piece_line}
 use Rattle.writing.proofs.Laws.Put.{wrote_nothing, wrote-byte, wrote-bytes, wrote-all}
 use Rattle.writing.proofs.put.put_byte.Reads as put-byte-reads
 use Rattle.writing.proofs.put.put_bytes.Reads as put-bytes-reads
-use Rattle.kinds.proofs.Laws.Kinds.{nameOf-letters, nameOf-fits}
-use Rattle.kinds.proofs.Laws.Spelling.{letters-fit, pieceLine-parts, length-pieceLine}
+use Rattle.kinds.proofs.Laws.Kinds.{name_of-letters, name_of-fits}
+use Rattle.kinds.proofs.Laws.Spelling.{letters-fit, piece_line-parts, length-piece_line}
 use Rattle.kinds.proofs.kind.name_of.Reads as name-of-reads
 use Rattle.kinds.proofs.spelling.put_line.Statement.{statement}
 use Rattle.kinds.proofs.spelling.put_line.Tie as tie
@@ -28,14 +28,14 @@ Named =
 
 -- the name has the letters that are asked of it
 enough : (named : Named) → named.name_of.result.n ≤ length named.name_of.result.letters
-enough named = nameOf-fits _ named.name_of.ensures
+enough named = name_of-fits _ named.name_of.ensures
 
 -- and the line is as long as its parts
-line-size : (named : Named) → length (pieceLine named.before.before.before.args.w.now (told named.before.before.before.args.p))
+line-size : (named : Named) → length (piece_line named.before.before.before.args.w.now (told named.before.before.before.args.p))
     ≡ named.name_of.result.n + (1 + (named.before.before.before.args.p.last + 1 - named.before.before.before.args.p.first + 1))
 line-size named =
     let s = named.before.before.before in
-    length-pieceLine _ _ s.pre.0 s.pre.1.0 _ _ (enough named) (nameOf-letters _ named.name_of.ensures)
+    length-piece_line _ _ s.pre.0 s.pre.1.0 _ _ (enough named) (name_of-letters _ named.name_of.ensures)
 
 put-bytes-requires : tie.Need-put-bytes-requires
 put-bytes-requires c κs =
@@ -80,7 +80,7 @@ returns c =
     let first = tabbed.before.before.before.before in
     let named = first.before.before.before.before in
     let s = named.before.before.before in
-    wrote-all (pieceLine-parts _ _ s.requires.0 s.requires.1.0 _ _ (enough named) (nameOf-letters _ named.name_of.ensures))
+    wrote-all (piece_line-parts _ _ s.requires.0 s.requires.1.0 _ _ (enough named) (name_of-letters _ named.name_of.ensures))
     (wrote-byte _
     (wrote-bytes _ _ (letters-fit s.args.w.now s.args.p s.requires.0 s.requires.1.0)
     (wrote-byte _

@@ -2,14 +2,14 @@
 -- Assumes nothing.
 use borrow.Author.Rules.{rules}
 use Rattle.turkish.specs.Letters.{tab}
-use Rattle.lines.specs.Line.{yesNo, oneZero, answers}
+use Rattle.lines.specs.Line.{yes_no, one_zero, answers}
 use Rattle.writing.proofs.Laws.Put.{wrote_nothing, wrote-byte, wrote-all}
 use Rattle.lines.proofs.Laws.LineText.{answers-bytes}
 use Rattle.lines.proofs.line.put_answers.Statement.{statement}
 use Rattle.lines.proofs.line.put_answers.Tie as tie
 
 returns : tie.Need-returns
-unfolding answers tab yesNo oneZero
+unfolding answers tab yes_no one_zero
 returns c =
     let f = c.before.before in
     let e = f.before.before.before.before in

@@ -4,32 +4,32 @@ use mathlib.Core.Path.{refl}
 use native.Mathlib.Omega.{arith}
 use borrow.Author.Rules.{rules}
 use Rattle.turkish.specs.Letters.{tab, lf}
-use Rattle.turkish.specs.Calls.{chars, passText, wholeText}
-use Rattle.lines.specs.Room.{lineRoom}
+use Rattle.turkish.specs.Calls.{chars, pass_text, whole_text}
+use Rattle.lines.specs.Room.{line_room}
 use Rattle.writing.proofs.Laws.Put.{wrote_nothing, wrote-text, wrote-byte, wrote-bytes, wrote-whole, wrote-all}
 use Rattle.lines.proofs.Laws.LineText.{length-answers, fields-parts, fields-sizes}
 use Rattle.lines.proofs.line.put_fields.Statement.{statement}
 use Rattle.lines.proofs.line.put_fields.Tie as tie
 
 put-bytes-requires : tie.Need-put-bytes-requires
-unfolding lineRoom
+unfolding line_room
 put-bytes-requires c κs =
     let stem = c.before in
-    let sizes = fields-sizes _ _ stem.before.before.before.before.requires.0 stem.stem-nominal-verb-suffixes.ensures in
+    let sizes = fields-sizes _ _ stem.before.before.before.before.requires.0 stem.stem_nominal_verb_suffixes.ensures in
     (omega arith, omega arith)
 
 put-answers-requires : tie.Need-put-answers-requires
-unfolding lineRoom
+unfolding line_room
 put-answers-requires c κs =
     let stem = c.before.before.before.before.before in
-    let sizes = fields-sizes _ _ stem.before.before.before.before.requires.0 stem.stem-nominal-verb-suffixes.ensures in
+    let sizes = fields-sizes _ _ stem.before.before.before.before.requires.0 stem.stem_nominal_verb_suffixes.ensures in
     omega arith
 
 put-bytes-requires-2 : tie.Need-put-bytes-requires-2
-unfolding lineRoom
+unfolding line_room
 put-bytes-requires-2 c κs =
     let stem = c.before.before.before.before.before.before.before.before.before in
-    let sizes = fields-sizes _ _ stem.before.before.before.before.requires.0 stem.stem-nominal-verb-suffixes.ensures in
+    let sizes = fields-sizes _ _ stem.before.before.before.before.requires.0 stem.stem_nominal_verb_suffixes.ensures in
     (omega arith, omega arith)
 
 -- the place behind the stage, from before what is written after the text kept and what follows it, and the function's entry: a `let` would
@@ -53,37 +53,37 @@ abbrev start : tie.After-stem-nominal-verb-suffixes → tie.Start
 start c = c.before.before.before.before
 
 put-byte-requires : tie.Need-put-byte-requires
-unfolding lineRoom
+unfolding line_room
 put-byte-requires c κs =
-    let sizes = fields-sizes _ _ (start (stem-kept c)).requires.0 (stem-kept c).stem-nominal-verb-suffixes.ensures in
+    let sizes = fields-sizes _ _ (start (stem-kept c)).requires.0 (stem-kept c).stem_nominal_verb_suffixes.ensures in
     omega (arith, (start (stem-kept c)).requires.1)
 
 put-pass-requires : tie.Need-put-pass-requires
-unfolding chars lineRoom
+unfolding chars line_room
 put-pass-requires c κs =
-    let sizes = fields-sizes _ _ (start (stem c)).requires.0 (stem c).stem-nominal-verb-suffixes.ensures in
-    ((start (stem c)).requires.0, ((stem c).before.more-than-one-syllable-word.ensures, ((stem c).stem-nominal-verb-suffixes.ensures, omega (arith, (start (stem c)).requires.1))))
+    let sizes = fields-sizes _ _ (start (stem c)).requires.0 (stem c).stem_nominal_verb_suffixes.ensures in
+    ((start (stem c)).requires.0, ((stem c).before.more_than_one_syllable_word.ensures, ((stem c).stem_nominal_verb_suffixes.ensures, omega (arith, (start (stem c)).requires.1))))
 
 put-byte-requires-2 : tie.Need-put-byte-requires-2
-unfolding lineRoom
+unfolding line_room
 put-byte-requires-2 c κs =
-    let sizes = fields-sizes _ _ (start (stem-tab c)).requires.0 (stem-tab c).stem-nominal-verb-suffixes.ensures in
+    let sizes = fields-sizes _ _ (start (stem-tab c)).requires.0 (stem-tab c).stem_nominal_verb_suffixes.ensures in
     omega (arith, (start (stem-tab c)).requires.1)
 
 put-whole-requires : tie.Need-put-whole-requires
-unfolding chars lineRoom
+unfolding chars line_room
 put-whole-requires c κs =
-    let sizes = fields-sizes _ _ (start (stem-whole c)).requires.0 (stem-whole c).stem-nominal-verb-suffixes.ensures in
-    ((start (stem-whole c)).requires.0, ((stem-whole c).before.more-than-one-syllable-word.ensures, ((stem-whole c).stem-nominal-verb-suffixes.ensures, omega (arith, (start (stem-whole c)).requires.1))))
+    let sizes = fields-sizes _ _ (start (stem-whole c)).requires.0 (stem-whole c).stem_nominal_verb_suffixes.ensures in
+    ((start (stem-whole c)).requires.0, ((stem-whole c).before.more_than_one_syllable_word.ensures, ((stem-whole c).stem_nominal_verb_suffixes.ensures, omega (arith, (start (stem-whole c)).requires.1))))
 
 put-byte-requires-3 : tie.Need-put-byte-requires-3
-unfolding lineRoom
+unfolding line_room
 put-byte-requires-3 c κs =
-    let sizes = fields-sizes _ _ (start (stem-lf c)).requires.0 (stem-lf c).stem-nominal-verb-suffixes.ensures in
+    let sizes = fields-sizes _ _ (start (stem-lf c)).requires.0 (stem-lf c).stem_nominal_verb_suffixes.ensures in
     omega (arith, (start (stem-lf c)).requires.1)
 
 returns : tie.Need-returns
-unfolding chars tab lf lineRoom
+unfolding chars tab lf line_room
 returns c =
     let g = c.before.before in
     let whole = g.before.before.before.before in
@@ -96,13 +96,13 @@ returns c =
     let stem = a.before.before in
     let start = stem.before.before.before.before in
     let w = start.args.w.now in
-    let q = stem.stem-nominal-verb-suffixes.ensures in
+    let q = stem.stem_nominal_verb_suffixes.ensures in
     let sizes = fields-sizes _ _ start.requires.0 q in
-    wrote-all (fields-parts _ _ _ start.requires.0 stem.before.more-than-one-syllable-word.ensures q)
+    wrote-all (fields-parts _ _ _ start.requires.0 stem.before.more_than_one_syllable_word.ensures q)
     (wrote-byte _
-    (wrote-text (wholeText w) _ refl
+    (wrote-text (whole_text w) _ refl
     (wrote-byte _
-    (wrote-text (passText w) _ refl
+    (wrote-text (pass_text w) _ refl
     (wrote-byte _
     (wrote-bytes _ _ sizes.1
     (wrote-text _ 7 (length-answers _ _ _) (wrote-whole w (wrote_nothing (omega arith)) a.put-bytes.ensures) b.put-answers.ensures)

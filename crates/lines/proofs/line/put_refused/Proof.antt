@@ -3,13 +3,13 @@
 use mathlib.Core.Path.{refl}
 use borrow.Author.Rules.{rules}
 use Rattle.turkish.specs.Letters.{tab, lf}
-use Rattle.lines.specs.Line.{refusedLine}
+use Rattle.lines.specs.Line.{refused_line}
 use Rattle.writing.proofs.Laws.Put.{wrote_nothing, wrote-byte, wrote-all}
 use Rattle.lines.proofs.line.put_refused.Statement.{statement}
 use Rattle.lines.proofs.line.put_refused.Tie as tie
 
 returns : tie.Need-returns
-unfolding tab lf refusedLine
+unfolding tab lf refused_line
 returns c =
     let d = c.before.before in
     let third = d.before.before.before.before in

@@ -6,7 +6,7 @@ use lib.Seq.{length-take-le}
 use borrow.Author.Rules.{rules}
 use Rattle.turkish.specs.Calls.{limit}
 use Rattle.writing.proofs.Laws.Put.{put-equal}
-use Rattle.lines.specs.Line.{listLine}
+use Rattle.lines.specs.Line.{list_line}
 use Rattle.lines.proofs.Laws.Listed.{call-refused, call_fits, call-text}
 use Rattle.lines.proofs.listed.put_folded.Statement.{statement}
 use Rattle.lines.proofs.listed.put_folded.Tie as tie
@@ -16,7 +16,7 @@ unfolding limit
 returns c =
     let test = c.before.before.before.before in
     let call = test.before.before.before.fold_word in
-    put-equal _ _ (ap listLine (call-refused _ _ _ _ (omega arith) call.ensures test.if1.true)) c.before.before.put-line.ensures
+    put-equal _ _ (ap list_line (call-refused _ _ _ _ (omega arith) call.ensures test.if1.true)) c.before.before.put-line.ensures
 
 array-share-prefix-text : tie.Need-array-share-prefix-text
 unfolding limit
@@ -32,7 +32,7 @@ unfolding limit
 returns-2 c =
     let test = c.before.before.before.before.before in
     let call = test.before.before.before.fold_word in
-    put-equal _ _ (ap listLine (call-text _ _ _ _ (omega arith) call.ensures test.if1.false)) c.before.before.put-line2.ensures
+    put-equal _ _ (ap list_line (call-text _ _ _ _ (omega arith) call.ensures test.if1.false)) c.before.before.put-line2.ensures
 
 pub put-folded-spec : {M : Type 1} → statement M
 put-folded-spec =

@@ -5,16 +5,16 @@ use mathlib.Core.Path.{◌≡◌, refl, sym, ◌∙◌}
 use native.Mathlib.Omega.{arith}
 use lib.ListN.{length, drop, get_or}
 use Rattle.turkish.specs.Calls.{limit}
-use Rattle.lines.specs.Room.{lineRoom}
-use Rattle.listing.specs.Fed.{standing, feedBytes, feeding}
-use Rattle.listing.proofs.Laws.Fed.{feedBytes-full, feedBytes-end, feedBytes-turn, left-parts, Within, within-turn}
+use Rattle.lines.specs.Room.{line_room}
+use Rattle.listing.specs.Fed.{standing, feed_bytes, feeding}
+use Rattle.listing.proofs.Laws.Fed.{feed_bytes-full, feed_bytes-end, feed_bytes-turn, left-parts, Within, within-turn}
 use Rattle.listing.proofs.feed.feed.Statement.{statement}
 use Rattle.listing.proofs.feed.feed.Tie as tie
 
 abbrev invariant-loop : tie.invariant-loop
 invariant-loop folded block from line₀ held out₀ i₀ h₀ o₀ line out i h o =
     (i ≤ length block) × (Within (standing i line h out o)) × (length out ≡ length out₀)
-    × (feedBytes folded (drop i block) (standing i line h out o) ≡ feeding folded block from line₀ held out₀)
+    × (feed_bytes folded (drop i block) (standing i line h out o) ≡ feeding folded block from line₀ held out₀)
 
 abbrev decreases-loop : tie.decreases-loop
 decreases-loop folded block from line₀ held out₀ i₀ h₀ o₀ line out i h o = length block - i
@@ -24,17 +24,17 @@ unfolding feeding
 loop-holds c = (omega arith, record { line-length = omega arith; held-le = omega arith; written-le = omega arith }, omega arith, refl)
 
 returns : tie.Need-returns invariant-loop decreases-loop
-unfolding lineRoom limit
+unfolding line_room limit
 returns c =
     let l = c.before.before.loop in
-    left-parts (sym (feedBytes-full _ _ l.i _ (omega arith)) ∙ l.invariant.3)
+    left-parts (sym (feed_bytes-full _ _ l.i _ (omega arith)) ∙ l.invariant.3)
 
 feed-byte-requires : tie.Need-feed-byte-requires invariant-loop decreases-loop
-unfolding lineRoom limit
+unfolding line_room limit
 feed-byte-requires c κs = (omega arith, (omega arith, omega arith))
 
 loop-again : tie.Need-loop-preserved invariant-loop decreases-loop
-unfolding lineRoom limit
+unfolding line_room limit
 loop-again c =
     let byte = c.before.before.before.before in
     let l = byte.before.before.before.before.before.before.loop in
@@ -44,11 +44,11 @@ loop-again c =
       omega arith,
       within-turn a.folded (get_or block l.i 0) l.i l.line l.h l.out l.o f.1 l.invariant.1,
       omega arith,
-      feedBytes-turn a.folded block l.i l.line l.h l.out l.o (omega arith) (omega arith) f.1 l.invariant.3,
+      feed_bytes-turn a.folded block l.i l.line l.h l.out l.o (omega arith) (omega arith) f.1 l.invariant.3,
     )
 
 returns-2 : tie.Need-returns-2 invariant-loop decreases-loop
-returns-2 c = let l = c.before.loop in left-parts (sym (feedBytes-end _ _ l.i _ (omega arith)) ∙ l.invariant.3)
+returns-2 c = let l = c.before.loop in left-parts (sym (feed_bytes-end _ _ l.i _ (omega arith)) ∙ l.invariant.3)
 
 pub feed-spec : {M : Type 1} → statement M
 feed-spec =

@@ -6,7 +6,7 @@ use native.Mathlib.Omega.{arith}
 use borrow.Author.Rules.{rules}
 use Rattle.turkish.specs.Calls.{limit}
 use Rattle.listing.specs.Feed.{most}
-use Rattle.listing.proofs.Laws.Held.{heldNext-more, heldNext-full}
+use Rattle.listing.proofs.Laws.Held.{held_next-more, held_next-full}
 use Rattle.listing.proofs.feed.hold_byte.Statement.{statement}
 use Rattle.listing.proofs.feed.hold_byte.Tie as tie
 
@@ -20,11 +20,11 @@ add-result c = search rules
 
 returns : tie.Need-returns
 unfolding most limit
-returns c = (heldNext-more _ (omega arith), refl)
+returns c = (held_next-more _ (omega arith), refl)
 
 returns-2 : tie.Need-returns-2
 unfolding most limit
-returns-2 c = (heldNext-full _ (omega arith), sym (set_out _ _ _ (omega arith)))
+returns-2 c = (held_next-full _ (omega arith), sym (set_out _ _ _ (omega arith)))
 
 pub hold-byte-spec : {M : Type 1} → statement M
 hold-byte-spec = tie.close (tie.spec slice-write-line add-result (λ c. search rules) returns returns-2)

@@ -6,20 +6,20 @@ use native.Mathlib.Omega.{arith}
 use borrow.Author.Tests.{not-true, not-false}
 use borrow.Author.Rules.{rules}
 use Rattle.utf8.specs.declared.step.Step.{Step}
-use Rattle.keys.specs.Passed.{notPassed}
+use Rattle.keys.specs.Passed.{not_passed_of}
 use Rattle.marks.proofs.Laws.Yken.{yken-keyless, yken-bytes, yken-short, yken-joined, yken-apart}
 use Rattle.marks.proofs.mark.back_over_yken.Statement.{statement}
 use Rattle.marks.proofs.mark.back_over_yken.Tie as tie
 
 returns : tie.Need-returns
-unfolding notPassed
+unfolding not_passed_of
 returns c =
     let k = c.before.before in
     let s = k.before.before.before.before in
     yken-keyless s.args.w.now s.args.c s.requires k.back-over.result k.back-over.ensures (not-true _ c.if1.true)
 
 returns-2 : tie.Need-returns-2
-unfolding notPassed
+unfolding not_passed_of
 returns-2 c =
     let l = c.before.before in
     let k = l.before.before in
@@ -41,7 +41,7 @@ char-at-requires c κs =
     yken-bytes s.args.w.now s.args.c s.requires k.back-over.result k.back-over.ensures (not-false _ p.if2.false)
 
 returns-3 : tie.Need-returns-3
-unfolding notPassed
+unfolding not_passed_of
 returns-3 c =
     let b = c.before in
     let v = b.before in
@@ -54,7 +54,7 @@ returns-3 c =
     (not-false _ l.if1.false) j.if3.true (not-false _ p.if2.false) v.char-at.ensures false (sym b.is-vowel.ensures ∙ not-true _ c.if4.true)
 
 returns-4 : tie.Need-returns-4
-unfolding notPassed
+unfolding not_passed_of
 returns-4 c =
     let b = c.before.before in
     let v = b.before in
@@ -67,7 +67,7 @@ returns-4 c =
     (not-false _ l.if1.false) j.if3.true (not-false _ p.if2.false) v.char-at.ensures true (sym b.is-vowel.ensures ∙ not-false _ c.before.if4.false)
 
 returns-5 : tie.Need-returns-5
-unfolding notPassed
+unfolding not_passed_of
 returns-5 c =
     let b = c.before in
     let v = b.before in
@@ -79,7 +79,7 @@ returns-5 c =
     (not-false _ l.if1.false) j.if3.false (ap (λ (x : Step). x.ch) v.previous-char.ensures) false (sym b.is-vowel2.ensures ∙ not-true _ c.if5.true)
 
 returns-6 : tie.Need-returns-6
-unfolding notPassed
+unfolding not_passed_of
 returns-6 c =
     let b = c.before.before in
     let v = b.before in

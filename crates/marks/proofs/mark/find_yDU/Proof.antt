@@ -3,58 +3,58 @@ use Prim.Native.Nat.{ℕ}
 use mathlib.Core.Path.{sym, ap, ◌∙◌}
 use borrow.Author.Rules.{rules}
 use borrow.Author.Tests.{ne_eqb}
-use Rattle.turkish.specs.Letters.{text, fromEnd}
+use Rattle.turkish.specs.Letters.{text, from_end}
 use Rattle.theorems.specs.Simple.Marks.{marked, yDU}
-use Rattle.keys.specs.Ends.{endingIn}
-use Rattle.keys.specs.Keys.{upToZero, row, rowsWithin, rows}
+use Rattle.keys.specs.Ends.{ending_in}
+use Rattle.keys.specs.Keys.{up_to_zero, row, rows_within, rows}
 use Rattle.keys.specs.Search.{found_from, found}
 use Rattle.marks.proofs.mark.find_yDU.Statement.{statement}
 use Rattle.marks.proofs.mark.find_yDU.Tie as tie
 
 returns : tie.Need-returns
-unfolding rows rowsWithin row upToZero endingIn yDU marked fromEnd text
+unfolding rows rows_within row up_to_zero ending_in yDU marked from_end text
 returns c =
     let s = c.before.before.before.before.before in
-    c.find-among-b.ensures ∙ ap (λ (a : ℕ). found (endingIn a yDU.keys) s.args.w.now s.args.s.c) (sym c.before.before.before.match.keys1)
+    c.find-among-b.ensures ∙ ap (λ (a : ℕ). found (ending_in a yDU.keys) s.args.w.now s.args.s.c) (sym c.before.before.before.match.keys1)
 
 returns-2 : tie.Need-returns-2
-unfolding rows rowsWithin row upToZero endingIn yDU marked fromEnd text
+unfolding rows rows_within row up_to_zero ending_in yDU marked from_end text
 returns-2 c =
     let s = c.before.before.before.before.before in
-    c.find-among-b2.ensures ∙ ap (λ (a : ℕ). found (endingIn a yDU.keys) s.args.w.now s.args.s.c) (sym c.before.before.before.match.keys2)
+    c.find-among-b2.ensures ∙ ap (λ (a : ℕ). found (ending_in a yDU.keys) s.args.w.now s.args.s.c) (sym c.before.before.before.match.keys2)
 
 returns-3 : tie.Need-returns-3
-unfolding rows rowsWithin row upToZero endingIn yDU marked fromEnd text
+unfolding rows rows_within row up_to_zero ending_in yDU marked from_end text
 returns-3 c =
     let s = c.before.before.before.before.before in
-    c.find-among-b3.ensures ∙ ap (λ (a : ℕ). found (endingIn a yDU.keys) s.args.w.now s.args.s.c) (sym c.before.before.before.match.keys3)
+    c.find-among-b3.ensures ∙ ap (λ (a : ℕ). found (ending_in a yDU.keys) s.args.w.now s.args.s.c) (sym c.before.before.before.match.keys3)
 
 returns-4 : tie.Need-returns-4
-unfolding rows rowsWithin row upToZero endingIn yDU marked fromEnd text
+unfolding rows rows_within row up_to_zero ending_in yDU marked from_end text
 returns-4 c =
     let s = c.before.before.before.before.before in
-    c.find-among-b4.ensures ∙ ap (λ (a : ℕ). found (endingIn a yDU.keys) s.args.w.now s.args.s.c) (sym c.before.before.before.match.keys4)
+    c.find-among-b4.ensures ∙ ap (λ (a : ℕ). found (ending_in a yDU.keys) s.args.w.now s.args.s.c) (sym c.before.before.before.match.keys4)
 
 returns-5 : tie.Need-returns-5
-unfolding rows rowsWithin row upToZero endingIn yDU marked fromEnd text
+unfolding rows rows_within row up_to_zero ending_in yDU marked from_end text
 returns-5 c =
     let s = c.before.before.before.before.before in
-    c.find-among-b5.ensures ∙ ap (λ (a : ℕ). found (endingIn a yDU.keys) s.args.w.now s.args.s.c) (sym c.before.before.before.match.keys5)
+    c.find-among-b5.ensures ∙ ap (λ (a : ℕ). found (ending_in a yDU.keys) s.args.w.now s.args.s.c) (sym c.before.before.before.match.keys5)
 
 returns-6 : tie.Need-returns-6
-unfolding rows rowsWithin row upToZero endingIn yDU marked fromEnd text
+unfolding rows rows_within row up_to_zero ending_in yDU marked from_end text
 returns-6 c =
     let s = c.before.before.before.before.before in
-    c.find-among-b6.ensures ∙ ap (λ (a : ℕ). found (endingIn a yDU.keys) s.args.w.now s.args.s.c) (sym c.before.before.before.match.keys6)
+    c.find-among-b6.ensures ∙ ap (λ (a : ℕ). found (ending_in a yDU.keys) s.args.w.now s.args.s.c) (sym c.before.before.before.match.keys6)
 
 returns-7 : tie.Need-returns-7
-unfolding rows rowsWithin row upToZero endingIn yDU marked fromEnd text
+unfolding rows rows_within row up_to_zero ending_in yDU marked from_end text
 returns-7 c =
     let s = c.before.before.before.before.before in
-    c.find-among-b7.ensures ∙ ap (λ (a : ℕ). found (endingIn a yDU.keys) s.args.w.now s.args.s.c) (sym c.before.before.before.match.keys7)
+    c.find-among-b7.ensures ∙ ap (λ (a : ℕ). found (ending_in a yDU.keys) s.args.w.now s.args.s.c) (sym c.before.before.before.match.keys7)
 
 returns-8 : tie.Need-returns-8
-unfolding found found_from endingIn yDU marked fromEnd text
+unfolding found found_from ending_in yDU marked from_end text
 returns-8 c =
     let a = c.before.before.args.s.last in
     let r7 = c.match.rest in

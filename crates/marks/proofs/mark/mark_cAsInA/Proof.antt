@@ -2,13 +2,13 @@
 use mathlib.Core.Path.{◌≡◌, refl, sym, ◌∙◌}
 use borrow.Author.Rules.{rules}
 use borrow.Author.Tests.{not-true}
-use Rattle.turkish.specs.Letters.{text, fromEnd}
+use Rattle.turkish.specs.Letters.{text, from_end}
 use Rattle.theorems.specs.Simple.Marks.{unjoined, marked, cAsInA}
 use Rattle.theorems.proofs.Laws.Tests.{every}
 use Rattle.keys.specs.Ends.{is_a}
-use Rattle.keys.specs.Keys.{upToZero, row, rowsWithin, rows}
+use Rattle.keys.specs.Keys.{up_to_zero, row, rows_within, rows}
 use Rattle.keys.specs.Search.{found}
-use Rattle.keys.proofs.Laws.Ends.{lastPasses, begins}
+use Rattle.keys.proofs.Laws.Ends.{last_passes, begins}
 use Rattle.marks.proofs.Laws.Marks.{mark-unfit, mark-nothing, mark-kept, key-alone}
 use Rattle.marks.proofs.mark.mark_cAsInA.Statement.{statement}
 use Rattle.marks.proofs.mark.mark_cAsInA.Tie as tie
@@ -16,11 +16,11 @@ use Rattle.marks.proofs.mark.mark_cAsInA.Tie as tie
 -- the table computes to the mark's keys
 searched : (c : tie.After-find-among-b)
     → let s = c.before.before.before.before.before in c.find-among-b.result ≡ found cAsInA.keys s.args.w.now s.args.s.c
-unfolding rows rowsWithin row upToZero cAsInA marked fromEnd text
+unfolding rows rows_within row up_to_zero cAsInA marked from_end text
 searched c = c.find-among-b.ensures
 
 returns : tie.Need-returns
-unfolding begins every lastPasses cAsInA marked fromEnd text is_a
+unfolding begins every last_passes cAsInA marked from_end text is_a
 returns c = let s = c.before.before.before in mark-unfit cAsInA is_a refl _ s.args.s s.requires (sym c.before.is-A.ensures ∙ not-true _ c.if1.true)
 
 returns-2 : tie.Need-returns-2

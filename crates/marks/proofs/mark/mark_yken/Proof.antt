@@ -3,17 +3,17 @@ use mathlib.Core.Path.{refl}
 use lib.Dec.{eqb}
 use borrow.Author.Rules.{rules}
 use borrow.Author.Tests.{ne_eqb}
-use Rattle.turkish.specs.Letters.{text, fromEnd}
+use Rattle.turkish.specs.Letters.{text, from_end}
 use Rattle.theorems.specs.Simple.Grammar.{mark_of, asking}
 use Rattle.theorems.specs.Simple.Marks.{marked, yken}
 use Rattle.theorems.proofs.Laws.Tests.{every}
-use Rattle.keys.proofs.Laws.Ends.{lastPasses, begins}
+use Rattle.keys.proofs.Laws.Ends.{last_passes, begins}
 use Rattle.marks.proofs.Laws.Marks.{keyed, mark-unfit, mark-kept}
 use Rattle.marks.proofs.mark.mark_yken.Statement.{statement}
 use Rattle.marks.proofs.mark.mark_yken.Tie as tie
 
 returns : tie.Need-returns
-unfolding begins every lastPasses yken marked fromEnd text
+unfolding begins every last_passes yken marked from_end text
 returns c = let s = c.before.before.before in mark-unfit yken (λ a. eqb a 0x6E) refl _ s.args.s s.requires (ne_eqb _ 0x6E c.if1.true)
 
 returns-2 : tie.Need-returns-2

@@ -3,14 +3,14 @@ use mathlib.Core.Bool.{◌||◌}
 use mathlib.Core.Path.{◌≡◌, refl}
 use borrow.Author.Rules.{rules}
 use borrow.Author.Tests.{not-true}
-use Rattle.turkish.specs.Letters.{text, fromEnd}
+use Rattle.turkish.specs.Letters.{text, from_end}
 use Rattle.theorems.specs.Simple.Grammar.{joining}
-use Rattle.theorems.specs.Simple.Marks.{byY, marked, ysA}
+use Rattle.theorems.specs.Simple.Marks.{by_y, marked, ysA}
 use Rattle.theorems.proofs.Laws.Tests.{every}
-use Rattle.keys.specs.Ends.{is_a, isKMN}
-use Rattle.keys.specs.Keys.{upToZero, row, rowsWithin, rows}
+use Rattle.keys.specs.Ends.{is_a, is_kmn_of}
+use Rattle.keys.specs.Keys.{up_to_zero, row, rows_within, rows}
 use Rattle.keys.specs.Search.{found}
-use Rattle.keys.proofs.Laws.Ends.{lastPasses, begins}
+use Rattle.keys.proofs.Laws.Ends.{last_passes, begins}
 use Rattle.marks.proofs.Laws.Marks.{mark-unfit, mark-nothing, mark-kept, key-open, key-joined}
 use Rattle.marks.proofs.mark.mark_ysA.Statement.{statement}
 use Rattle.marks.proofs.mark.mark_ysA.Tie as tie
@@ -18,12 +18,12 @@ use Rattle.marks.proofs.mark.mark_ysA.Tie as tie
 -- the table computes to the mark's keys
 searched : (c : tie.After-find-among-b)
     → let s = c.before.before.before.before.before.before in c.find-among-b.result ≡ found ysA.keys s.args.w.now s.args.s.c
-unfolding rows rowsWithin row upToZero ysA marked fromEnd text
+unfolding rows rows_within row up_to_zero ysA marked from_end text
 searched c = c.find-among-b.ensures
 
 returns : tie.Need-returns
-unfolding begins every lastPasses ysA marked fromEnd text is_a isKMN
-returns c = let s = c.before.before.before.before in mark-unfit ysA (λ a. is_a a || isKMN a) refl _ s.args.s s.requires
+unfolding begins every last_passes ysA marked from_end text is_a is_kmn_of
+returns c = let s = c.before.before.before.before in mark-unfit ysA (λ a. is_a a || is_kmn_of a) refl _ s.args.s s.requires
     (rw (← c.before.before.is-A.ensures, ← c.before.is-kmn.ensures) (not-true _ c.if1.true))
 
 returns-2 : tie.Need-returns-2
@@ -35,7 +35,7 @@ mark-suffix-with-optional-consonant-requires c κs =
     key-open ysA ysA.keys _ _ refl (searched c.before.before.before) c.before.d.given.1 s.requires.opens
 
 returns-3 : tie.Need-returns-3
-unfolding joining byY ysA marked text
+unfolding joining by_y ysA marked text
 returns-3 c =
     let p = key-joined ysA ysA.keys _ _ refl (searched c.before.before.before.before.before) c.before.before.before.d.given.1
     c.before.mark-suffix-with-optional-consonant.ensures in

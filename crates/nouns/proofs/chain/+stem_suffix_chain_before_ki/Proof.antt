@@ -40,4 +40,4 @@ pub +stem-suffix-chain-before-ki-spec : {M : Type 1} → statement M
     let m = c.before in
     let l = m.before.before.before.before in
     let on = chain-calls _ _ l.before.before.requires.1 l.one_link.ensures m.before.before.p2.given.1 m.moved_to.ensures in
-    c.stem-suffix-chain-before-ki.ensures ∙ on.same)
+    c.stem_suffix_chain_before_ki.ensures ∙ on.same)

@@ -1,10 +1,10 @@
 -- `nouns::mark::mark_DAn` meets its contract: by the key found in its table alone and harmony. Assumes nothing.
 use mathlib.Core.Path.{◌≡◌, refl}
 use borrow.Author.Rules.{rules}
-use Rattle.turkish.specs.Letters.{text, fromEnd}
+use Rattle.turkish.specs.Letters.{text, from_end}
 use Rattle.theorems.specs.Simple.Marks.{unjoined, marked}
 use Rattle.theorems.specs.Simple.NounMarks.{DAn}
-use Rattle.keys.specs.Keys.{upToZero, row, rowsWithin, rows}
+use Rattle.keys.specs.Keys.{up_to_zero, row, rows_within, rows}
 use Rattle.keys.specs.Search.{found}
 use Rattle.marks.proofs.Laws.Marks.{mark-nothing, mark-in-harmony, key-alone}
 use Rattle.nouns.proofs.mark.mark_DAn.Statement.{statement}
@@ -12,7 +12,7 @@ use Rattle.nouns.proofs.mark.mark_DAn.Tie as tie
 
 -- the table computes to the mark's keys
 searched : (c : tie.After-find-among-b) → let s = c.before.before.before in c.find-among-b.result ≡ found DAn.keys s.args.w.now s.args.s.c
-unfolding rows rowsWithin row upToZero DAn marked fromEnd text
+unfolding rows rows_within row up_to_zero DAn marked from_end text
 searched c = c.find-among-b.ensures
 
 returns : tie.Need-returns

@@ -1,11 +1,11 @@
 -- `nouns::mark::mark_nUn` meets its contract: by the key found in its table, what joins it and harmony. Assumes nothing.
 use mathlib.Core.Path.{◌≡◌, refl}
 use borrow.Author.Rules.{rules}
-use Rattle.turkish.specs.Letters.{text, fromEnd}
+use Rattle.turkish.specs.Letters.{text, from_end}
 use Rattle.theorems.specs.Simple.Grammar.{joining}
 use Rattle.theorems.specs.Simple.Marks.{marked}
-use Rattle.theorems.specs.Simple.NounMarks.{byN, nUn}
-use Rattle.keys.specs.Keys.{upToZero, row, rowsWithin, rows}
+use Rattle.theorems.specs.Simple.NounMarks.{by_n, nUn}
+use Rattle.keys.specs.Keys.{up_to_zero, row, rows_within, rows}
 use Rattle.keys.specs.Search.{found}
 use Rattle.marks.proofs.Laws.Marks.{mark-nothing, mark-in-harmony, key-open, key-joined}
 use Rattle.nouns.proofs.mark.mark_nUn.Statement.{statement}
@@ -13,7 +13,7 @@ use Rattle.nouns.proofs.mark.mark_nUn.Tie as tie
 
 -- the table computes to the mark's keys
 searched : (c : tie.After-find-among-b) → let s = c.before.before.before in c.find-among-b.result ≡ found nUn.keys s.args.w.now s.args.s.c
-unfolding rows rowsWithin row upToZero nUn marked fromEnd text
+unfolding rows rows_within row up_to_zero nUn marked from_end text
 searched c = c.find-among-b.ensures
 
 returns : tie.Need-returns
@@ -25,7 +25,7 @@ mark-suffix-with-optional-consonant-requires c κs =
     key-open nUn nUn.keys _ _ refl (searched c.before.before.before) c.before.d.given.1 s.requires.opens
 
 returns-2 : tie.Need-returns-2
-unfolding joining byN nUn marked text
+unfolding joining by_n nUn marked text
 returns-2 c =
     let k = searched c.before.before.before.before.before in
     let p = key-joined nUn nUn.keys _ _ refl k c.before.before.before.d.given.1 c.before.mark-suffix-with-optional-consonant.ensures in

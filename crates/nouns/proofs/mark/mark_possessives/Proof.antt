@@ -1,11 +1,11 @@
 -- `nouns::mark::mark_possessives` meets its contract: by the key found in its table and what joins it. Assumes nothing.
 use mathlib.Core.Path.{◌≡◌, refl}
 use borrow.Author.Rules.{rules}
-use Rattle.turkish.specs.Letters.{text, fromEnd}
+use Rattle.turkish.specs.Letters.{text, from_end}
 use Rattle.theorems.specs.Simple.Grammar.{joining}
 use Rattle.theorems.specs.Simple.Marks.{marked}
-use Rattle.theorems.specs.Simple.NounMarks.{byU, possessives}
-use Rattle.keys.specs.Keys.{upToZero, row, rowsWithin, rows}
+use Rattle.theorems.specs.Simple.NounMarks.{by_U, possessives}
+use Rattle.keys.specs.Keys.{up_to_zero, row, rows_within, rows}
 use Rattle.keys.specs.Search.{found}
 use Rattle.marks.proofs.Laws.Marks.{mark-nothing, mark-kept, key-open, key-joined}
 use Rattle.nouns.proofs.mark.mark_possessives.Statement.{statement}
@@ -13,7 +13,7 @@ use Rattle.nouns.proofs.mark.mark_possessives.Tie as tie
 
 -- the table computes to the mark's keys
 searched : (c : tie.After-find-among-b) → let s = c.before.before.before in c.find-among-b.result ≡ found possessives.keys s.args.w.now s.args.s.c
-unfolding rows rowsWithin row upToZero possessives marked fromEnd text
+unfolding rows rows_within row up_to_zero possessives marked from_end text
 searched c = c.find-among-b.ensures
 
 returns : tie.Need-returns
@@ -25,10 +25,10 @@ mark-suffix-with-optional-U-vowel-requires c κs =
     key-open possessives possessives.keys _ _ refl (searched c.before.before.before) c.before.d.given.1 s.requires.opens
 
 returns-2 : tie.Need-returns-2
-unfolding joining byU possessives marked text
+unfolding joining by_U possessives marked text
 returns-2 c =
     let k = searched c.before.before.before.before.before in
-    let p = key-joined possessives possessives.keys _ _ refl k c.before.before.before.d.given.1 c.before.mark-suffix-with-optional-U-vowel.ensures in
+    let p = key-joined possessives possessives.keys _ _ refl k c.before.before.before.d.given.1 c.before.mark_suffix_with_optional_U_vowel.ensures in
     mark-kept possessives _ _ p refl c.kept.ensures
 
 pub mark-possessives-spec : {M : Type 1} → statement M

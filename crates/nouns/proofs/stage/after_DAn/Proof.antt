@@ -5,36 +5,36 @@ use borrow.Author.Rules.{rules}
 use borrow.Author.Tests.{not-true, not-false}
 use Rattle.theorems.specs.Simple.Grammar.{mark_of}
 use Rattle.theorems.specs.Simple.NounMarks.{DAn}
-use Rattle.theorems.specs.Simple.Nouns.{perhaps, afterDAn}
-use Rattle.nouns.specs.Stage.{nearDAn}
-use Rattle.keys.specs.Passed.{notPassed}
+use Rattle.theorems.specs.Simple.Nouns.{perhaps, after_DAn_of}
+use Rattle.nouns.specs.Stage.{near_DAn_of}
+use Rattle.keys.specs.Passed.{not_passed_of}
 use Rattle.marks.proofs.Laws.Marks.{place-reach}
 use Rattle.nouns.proofs.Laws.Passing.{leads-moved, leads-open, both-none, both-perhaps}
 use Rattle.nouns.proofs.stage.after_DAn.Statement.{statement}
 use Rattle.nouns.proofs.stage.after_DAn.Tie as tie
 
 returns : tie.Need-returns
-unfolding afterDAn nearDAn notPassed
+unfolding after_DAn_of near_DAn_of not_passed_of
 returns c =
     let m = c.before.before in
-    let is = place-reach DAn _ _ m.before.mark-DAn.ensures m.place.ensures in
-    both-none _ _ (mark_of DAn) (perhaps nearDAn) is (not-true _ c.if1.true)
+    let is = place-reach DAn _ _ m.before.mark_DAn.ensures m.place.ensures in
+    both-none _ _ (mark_of DAn) (perhaps near_DAn_of) is (not-true _ c.if1.true)
 
 near-DAn-requires : tie.Need-near-DAn-requires
 near-DAn-requires c κs =
     let m = c.before.before.before in
-    let is = place-reach DAn _ _ m.before.mark-DAn.ensures m.place.ensures in
+    let is = place-reach DAn _ _ m.before.mark_DAn.ensures m.place.ensures in
     let lead = leads-moved _ _ _ is (not-false _ c.before.if1.false) c.moved_to.ensures in
     leads-open _ _ lead m.before.before.before.requires.opens
 
 returns-2 : tie.Need-returns-2
-unfolding afterDAn nearDAn
+unfolding after_DAn_of near_DAn_of
 returns-2 c =
     let d = c.before.before in
     let m = d.before.before.before in
-    let is = place-reach DAn _ _ m.before.mark-DAn.ensures m.place.ensures in
+    let is = place-reach DAn _ _ m.before.mark_DAn.ensures m.place.ensures in
     let lead = leads-moved _ _ _ is (not-false _ d.before.if1.false) d.moved_to.ensures in
-    c.to.ensures ∙ both-perhaps _ _ (mark_of DAn) nearDAn lead c.before.near-DAn.ensures
+    c.to.ensures ∙ both-perhaps _ _ (mark_of DAn) near_DAn_of lead c.before.near-DAn.ensures
 
 pub after-DAn-spec : {M : Type 1} → statement M
 after-DAn-spec =

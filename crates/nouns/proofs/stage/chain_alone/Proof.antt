@@ -3,7 +3,7 @@
 use mathlib.Core.Path.{◌∙◌}
 use borrow.Author.Rules.{rules}
 use borrow.Author.Tests.{not-true}
-use Rattle.keys.specs.Passed.{notPassed}
+use Rattle.keys.specs.Passed.{not_passed_of}
 use Rattle.theorems.specs.Simple.NounMarks.{ki}
 use Rattle.marks.proofs.Laws.Marks.{place-reach}
 use Rattle.nouns.proofs.Laws.Passing.{chain-kiless, chain-none, chain-moved}
@@ -11,19 +11,19 @@ use Rattle.nouns.proofs.stage.chain_alone.Statement.{statement}
 use Rattle.nouns.proofs.stage.chain_alone.Tie as tie
 
 returns : tie.Need-returns
-unfolding notPassed
-returns c = chain-kiless _ _ (place-reach ki _ _ c.before.before.before.mark-ki.ensures c.before.before.place.ensures) (not-true _ c.if1.true)
+unfolding not_passed_of
+returns c = chain-kiless _ _ (place-reach ki _ _ c.before.before.before.mark_ki.ensures c.before.before.place.ensures) (not-true _ c.if1.true)
 
 returns-2 : tie.Need-returns-2
-unfolding notPassed
+unfolding not_passed_of
 returns-2 c =
     let k = c.before.before in
-    chain-none _ _ k.before.before.before.before.before.before.requires.opens k.stem-suffix-chain-before-ki.ensures c.if2.true
+    chain-none _ _ k.before.before.before.before.before.before.requires.opens k.stem_suffix_chain_before_ki.ensures c.if2.true
 
 returns-3 : tie.Need-returns-3
 returns-3 c =
     let k = c.before.before.before in
-    c.to.ensures ∙ chain-moved _ _ k.before.before.before.before.before.before.requires.opens k.stem-suffix-chain-before-ki.ensures c.before.if2.false
+    c.to.ensures ∙ chain-moved _ _ k.before.before.before.before.before.before.requires.opens k.stem_suffix_chain_before_ki.ensures c.before.if2.false
 
 pub chain-alone-spec : {M : Type 1} → statement M
 chain-alone-spec =

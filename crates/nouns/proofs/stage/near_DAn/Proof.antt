@@ -3,7 +3,7 @@
 use borrow.Author.Rules.{rules}
 use Rattle.theorems.specs.Simple.Nouns.{either, chain, plural, possessed}
 use Rattle.keys.proofs.Laws.Sees.{sees-made}
-use Rattle.nouns.specs.Stage.{nearDAn}
+use Rattle.nouns.specs.Stage.{near_DAn_of}
 use Rattle.nouns.proofs.Laws.Passing.{passes-seen, place-either, place-else}
 use Rattle.nouns.proofs.stage.near_DAn.Statement.{statement}
 use Rattle.nouns.proofs.stage.near_DAn.Tie as tie
@@ -15,14 +15,14 @@ plural-requires : tie.Need-plural-requires
 plural-requires c κs = possessed-requires c.before.before κs
 
 returns : tie.Need-returns
-unfolding nearDAn
+unfolding near_DAn_of
 returns c =
     let s = c.before.before in
     let is = passes-seen _ _ (possessed chain) s.look-back.ensures c.before.possessed.ensures in
     place-either _ _ (possessed chain) (either (plural chain) chain) is c.if1.true
 
 returns-2 : tie.Need-returns-2
-unfolding nearDAn
+unfolding near_DAn_of
 returns-2 c =
     let l = c.before in
     let p = l.before.before in
@@ -33,7 +33,7 @@ returns-2 c =
     (place-either _ _ (plural chain) chain next c.if2.true)
 
 returns-3 : tie.Need-returns-3
-unfolding nearDAn
+unfolding near_DAn_of
 returns-3 c =
     let l = c.before.before in
     let p = l.before.before in
@@ -41,7 +41,7 @@ returns-3 c =
     let is = passes-seen _ _ (possessed chain) s.look-back.ensures p.possessed.ensures in
     let next = passes-seen _ _ (plural chain) s.look-back.ensures l.plural.ensures in
     place-else _ _ (possessed chain) (either (plural chain) chain) is l.before.if1.false
-    (place-else _ _ (plural chain) chain next c.before.if2.false c.stem-suffix-chain-before-ki.ensures)
+    (place-else _ _ (plural chain) chain next c.before.if2.false c.stem_suffix_chain_before_ki.ensures)
 
 pub near-DAn-spec : {M : Type 1} → statement M
 near-DAn-spec = tie.close (tie.spec (λ c κs. search rules) possessed-requires returns plural-requires returns-2 (λ c κs. search rules) returns-3)

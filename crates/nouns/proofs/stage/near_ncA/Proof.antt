@@ -5,7 +5,7 @@ use Rattle.theorems.specs.Simple.Grammar.{mark_of}
 use Rattle.theorems.specs.Simple.NounMarks.{lArI}
 use Rattle.theorems.specs.Simple.Nouns.{either, chain, plural, owned}
 use Rattle.keys.proofs.Laws.Sees.{sees-made}
-use Rattle.nouns.specs.Stage.{nearNcA}
+use Rattle.nouns.specs.Stage.{near_ncA_of}
 use Rattle.nouns.proofs.Laws.Passing.{passes-seen, mark-seen, place-either, place-else, place-perhaps, place_none}
 use Rattle.nouns.proofs.stage.near_ncA.Statement.{statement}
 use Rattle.nouns.proofs.stage.near_ncA.Tie as tie
@@ -17,30 +17,30 @@ owned-requires : tie.Need-owned-requires
 owned-requires c κs = mark-lArI-requires c.before.before.before κs
 
 returns : tie.Need-returns
-unfolding nearNcA
+unfolding near_ncA_of
 returns c =
     let s = c.before.before.before in
-    let is = mark-seen _ _ lArI s.look-back.ensures c.before.before.mark-lArI.ensures c.before.place.ensures in
+    let is = mark-seen _ _ lArI s.look-back.ensures c.before.before.mark_lArI.ensures c.before.place.ensures in
     place-either _ _ (mark_of lArI) (either (owned chain) (plural chain)) is c.if1.true
 
 returns-2 : tie.Need-returns-2
-unfolding nearNcA
+unfolding near_ncA_of
 returns-2 c =
     let o = c.before in
     let l = o.before.before in
     let s = l.before.before in
-    let is = mark-seen _ _ lArI s.look-back.ensures l.before.mark-lArI.ensures l.place.ensures in
+    let is = mark-seen _ _ lArI s.look-back.ensures l.before.mark_lArI.ensures l.place.ensures in
     let next = passes-seen _ _ (owned chain) s.look-back.ensures o.owned.ensures in
     place-else _ _ (mark_of lArI) (either (owned chain) (plural chain)) is o.before.if1.false
     (place-either _ _ (owned chain) (plural chain) next c.if2.true)
 
 returns-3 : tie.Need-returns-3
-unfolding nearNcA
+unfolding near_ncA_of
 returns-3 c =
     let o = c.before.before.before in
     let l = o.before.before in
     let s = l.before.before in
-    let is = mark-seen _ _ lArI s.look-back.ensures l.before.mark-lArI.ensures l.place.ensures in
+    let is = mark-seen _ _ lArI s.look-back.ensures l.before.mark_lArI.ensures l.place.ensures in
     let next = passes-seen _ _ (owned chain) s.look-back.ensures o.owned.ensures in
     let last = passes-seen _ _ (plural chain) s.look-back.ensures c.before.plural.ensures in
     place-else _ _ (mark_of lArI) (either (owned chain) (plural chain)) is o.before.if1.false
@@ -48,12 +48,12 @@ returns-3 c =
     (place-perhaps _ _ (plural chain) last c.if3.true))
 
 returns-4 : tie.Need-returns-4
-unfolding nearNcA
+unfolding near_ncA_of
 returns-4 c =
     let o = c.before.before.before in
     let l = o.before.before in
     let s = l.before.before in
-    let is = mark-seen _ _ lArI s.look-back.ensures l.before.mark-lArI.ensures l.place.ensures in
+    let is = mark-seen _ _ lArI s.look-back.ensures l.before.mark_lArI.ensures l.place.ensures in
     let next = passes-seen _ _ (owned chain) s.look-back.ensures o.owned.ensures in
     let last = passes-seen _ _ (plural chain) s.look-back.ensures c.before.plural.ensures in
     place-else _ _ (mark_of lArI) (either (owned chain) (plural chain)) is o.before.if1.false

@@ -5,33 +5,33 @@ use borrow.Author.Rules.{rules}
 use borrow.Author.Tests.{not-true, not-false}
 use Rattle.theorems.specs.Simple.Grammar.{mark_of}
 use Rattle.theorems.specs.Simple.NounMarks.{sU}
-use Rattle.theorems.specs.Simple.Nouns.{perhaps, chain, plural, ownedBySU}
-use Rattle.keys.specs.Passed.{notPassed}
+use Rattle.theorems.specs.Simple.Nouns.{perhaps, chain, plural, owned_by_sU_of}
+use Rattle.keys.specs.Passed.{not_passed_of}
 use Rattle.marks.proofs.Laws.Marks.{place-reach}
 use Rattle.nouns.proofs.Laws.Passing.{leads-moved, leads-open, both-none, both-perhaps}
 use Rattle.nouns.proofs.stage.owned_by_sU.Statement.{statement}
 use Rattle.nouns.proofs.stage.owned_by_sU.Tie as tie
 
 returns : tie.Need-returns
-unfolding ownedBySU notPassed
+unfolding owned_by_sU_of not_passed_of
 returns c =
     let m = c.before.before in
-    let is = place-reach sU _ _ m.before.mark-sU.ensures m.place.ensures in
+    let is = place-reach sU _ _ m.before.mark_sU.ensures m.place.ensures in
     both-none _ _ (mark_of sU) (perhaps (plural chain)) is (not-true _ c.if1.true)
 
 try-plural-requires : tie.Need-try-plural-requires
 try-plural-requires c κs =
     let m = c.before.before.before in
-    let is = place-reach sU _ _ m.before.mark-sU.ensures m.place.ensures in
+    let is = place-reach sU _ _ m.before.mark_sU.ensures m.place.ensures in
     let lead = leads-moved _ _ _ is (not-false _ c.before.if1.false) c.moved_to.ensures in
     leads-open _ _ lead m.before.before.before.requires.opens
 
 returns-2 : tie.Need-returns-2
-unfolding ownedBySU
+unfolding owned_by_sU_of
 returns-2 c =
     let d = c.before.before in
     let m = d.before.before.before in
-    let is = place-reach sU _ _ m.before.mark-sU.ensures m.place.ensures in
+    let is = place-reach sU _ _ m.before.mark_sU.ensures m.place.ensures in
     let lead = leads-moved _ _ _ is (not-false _ d.before.if1.false) d.moved_to.ensures in
     c.to.ensures ∙ both-perhaps _ _ (mark_of sU) (plural chain) lead c.before.try-plural.ensures
 

@@ -13,14 +13,14 @@ returns : tie.Need-returns
 unfolding pronominal
 returns c =
     let m = c.before in
-    either-moved _ _ (mark_of ndA) (mark_of nA) (place-reach ndA _ _ m.before.mark-ndA.ensures m.place.ensures) c.if1.true
+    either-moved _ _ (mark_of ndA) (mark_of nA) (place-reach ndA _ _ m.before.mark_ndA.ensures m.place.ensures) c.if1.true
 
 returns-2 : tie.Need-returns-2
 unfolding pronominal
 returns-2 c =
     let m = c.before.before.before in
-    either-else _ _ (mark_of ndA) (mark_of nA) (place-reach ndA _ _ m.before.mark-ndA.ensures m.place.ensures) c.before.before.if1.false
-    (place-reach nA _ _ c.before.mark-nA.ensures c.place2.ensures)
+    either-else _ _ (mark_of ndA) (mark_of nA) (place-reach ndA _ _ m.before.mark_ndA.ensures m.place.ensures) c.before.before.if1.false
+    (place-reach nA _ _ c.before.mark_nA.ensures c.place2.ensures)
 
 pub pronominal-spec : {M : Type 1} → statement M
 pronominal-spec = tie.close (tie.spec (λ c κs. search rules) (λ c κs. search rules) returns (λ c κs. search rules) (λ c κs. search rules) returns-2)

@@ -6,12 +6,12 @@ use native.Mathlib.Omega.{arith}
 use borrow.Author.Rules.{rules}
 use Rattle.utf8.specs.Behind.{behind}
 use Rattle.utf8.proofs.Laws.Behind.{open-start}
-use Rattle.theorems.specs.Simple.Nouns.{Rest, chain, plural, afterNcA, whole}
+use Rattle.theorems.specs.Simple.Nouns.{Rest, chain, plural, after_ncA_of, whole}
 use Rattle.keys.proofs.Laws.Sees.{sees-made}
-use Rattle.nouns.specs.Stage.{left_at, uninflectedOf, laterLines, pronominalRest}
+use Rattle.nouns.specs.Stage.{left_at, uninflected_of, later_lines_of, pronominal_rest}
 use Rattle.nouns.specs.declared.stage.Uninflected.{Uninflected}
 use Rattle.nouns.proofs.Laws.Passing.{passes-seen}
-use Rattle.nouns.proofs.Laws.Lines.{left-seen, left_cut, left-else, or_yes, or_no, fromLater, fromPronominal, fromNcA, end_of, left-lines}
+use Rattle.nouns.proofs.Laws.Lines.{left-seen, left_cut, left-else, or_yes, or_no, from_later, from_pronominal, from_ncA, end_of, left-lines}
 use Rattle.nouns.proofs.stage.stem_noun_suffixes.Statement.{statement}
 use Rattle.nouns.proofs.stage.stem_noun_suffixes.Tie as tie
 
@@ -22,27 +22,27 @@ abbrev Left : tie.Start → (List ℕ → Rest) → Type 0
 Left c r =
     let w = c.args.w.now in
     let n = c.args.n in
-    (u : Uninflected) → u ≡ left_at w (end_of n) (r (behind w (end_of n))) → u ≡ uninflectedOf w n
+    (u : Uninflected) → u ≡ left_at w (end_of n) (r (behind w (end_of n))) → u ≡ uninflected_of w n
 
 -- where a plural does not fit, those from ncA on
-left2 : (c : tie.Else1) → Left c.before.before.before.before fromNcA
+left2 : (c : tie.Else1) → Left c.before.before.before.before from_ncA
 left2 c x e =
     let p = c.before in
     let is = passes-seen _ _ (plural chain) p.before.look-back.ensures p.plural.ensures in
     left-lines _ _ (left-else _ _ _ is _ c.if1.false e)
 
 -- where that does not, those from ndA or nA on
-left3 : (c : tie.Else2) → Left c.before.before.before.before.before.before fromPronominal
+left3 : (c : tie.Else2) → Left c.before.before.before.before.before.before from_pronominal
 left3 c x e =
     let p = c.before in
-    let is = passes-seen _ _ afterNcA p.before.before.before.look-back.ensures p.after-ncA.ensures in
+    let is = passes-seen _ _ after_ncA_of p.before.before.before.look-back.ensures p.after-ncA.ensures in
     left2 p.before _ (left-else _ _ _ is _ c.if2.false e)
 
 -- and where those do not, the later ones
-left4 : (c : tie.Else3) → Left c.before.before.before.before.before.before.before.before fromLater
+left4 : (c : tie.Else3) → Left c.before.before.before.before.before.before.before.before from_later
 left4 c x e =
     let p = c.before in
-    let is = left-seen _ _ pronominalRest p.before.before.before.before.before.look-back.ensures p.after-pronominal.ensures in
+    let is = left-seen _ _ pronominal_rest p.before.before.before.before.before.look-back.ensures p.after-pronominal.ensures in
     left3 p.before _ (or_no _ _ _ _ is c.if3.false e)
 
 -- ---- the needs ----
@@ -62,26 +62,26 @@ returns c =
 returns-2 : tie.Need-returns-2
 returns-2 c =
     let p = c.before.before in
-    let is = passes-seen _ _ afterNcA p.before.before.before.look-back.ensures p.after-ncA.ensures in
+    let is = passes-seen _ _ after_ncA_of p.before.before.before.look-back.ensures p.after-ncA.ensures in
     c.cut2.ensures ∙ left2 p.before _ (left_cut _ _ _ is _ c.before.if2.true)
 
 returns-3 : tie.Need-returns-3
 returns-3 c =
     let p = c.before in
-    let is = left-seen _ _ pronominalRest p.before.before.before.before.before.look-back.ensures p.after-pronominal.ensures in
+    let is = left-seen _ _ pronominal_rest p.before.before.before.before.before.look-back.ensures p.after-pronominal.ensures in
     left3 p.before _ (or_yes _ _ _ _ is c.if3.true)
 
 returns-4 : tie.Need-returns-4
 returns-4 c =
     let p = c.before.before in
-    let is = passes-seen _ _ laterLines p.before.before.before.before.before.before.before.look-back.ensures p.later-lines.ensures in
+    let is = passes-seen _ _ later_lines_of p.before.before.before.before.before.before.before.look-back.ensures p.later-lines.ensures in
     c.cut3.ensures ∙ left4 p.before _ (left_cut _ _ _ is _ c.before.if4.true)
 
 returns-5 : tie.Need-returns-5
 unfolding left_at
 returns-5 c =
     let p = c.before.before in
-    let is = passes-seen _ _ laterLines p.before.before.before.before.before.before.before.look-back.ensures p.later-lines.ensures in
+    let is = passes-seen _ _ later_lines_of p.before.before.before.before.before.before.before.look-back.ensures p.later-lines.ensures in
     c.whole.ensures ∙ left4 p.before _ (left-else _ _ _ is whole c.before.if4.false refl)
 
 pub stem-noun-suffixes-spec : {M : Type 1} → statement M

@@ -14,12 +14,12 @@ mark-lAr-requires c κs = sees-made _ _ c.look-back.ensures c.before.before.requ
 returns : tie.Need-returns
 returns c =
     let s = c.before.before.before in
-    place-perhaps _ _ (mark_of lAr) (mark-seen _ _ lAr s.look-back.ensures c.before.before.mark-lAr.ensures c.before.place.ensures) c.if1.true
+    place-perhaps _ _ (mark_of lAr) (mark-seen _ _ lAr s.look-back.ensures c.before.before.mark_lAr.ensures c.before.place.ensures) c.if1.true
 
 returns-2 : tie.Need-returns-2
 returns-2 c =
     let s = c.before.before.before in
-    place_none _ _ (mark_of lAr) (mark-seen _ _ lAr s.look-back.ensures c.before.before.mark-lAr.ensures c.before.place.ensures)
+    place_none _ _ (mark_of lAr) (mark-seen _ _ lAr s.look-back.ensures c.before.before.mark_lAr.ensures c.before.place.ensures)
     c.if1.false s.before.before.requires
 
 pub try-lAr-spec : {M : Type 1} → statement M

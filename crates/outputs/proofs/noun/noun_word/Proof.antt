@@ -1,29 +1,29 @@
--- `outputs::noun::noun_word` meets its contract: the number found says which case of `nounCall` and `nounOut` holds; what is left fits
+-- `outputs::noun::noun_word` meets its contract: the number found says which case of `noun_call` and `noun_out` holds; what is left fits
 -- the output. Assumes nothing.
 use Rattle.refusals.proofs.Laws.Refusals.{into-room}
-use Rattle.outputs.proofs.Laws.Runs.{leftRun-fits}
-use Rattle.outputs.proofs.Laws.RunCalls.{nounCall-nounOut-refused, nounCall-nounOut-given}
+use Rattle.outputs.proofs.Laws.Runs.{left_run-fits}
+use Rattle.outputs.proofs.Laws.RunCalls.{noun_call-noun_out-refused, noun_call-noun_out-given}
 use borrow.Author.Rules.{rules}
 use Rattle.outputs.proofs.noun.noun_word.Statement.{statement}
 use Rattle.outputs.proofs.noun.noun_word.Tie as tie
 
 returns : tie.Need-returns
-returns c = nounCall-nounOut-refused _ _ _ c.before.refusal-into.ensures c.if1.true
+returns c = noun_call-noun_out-refused _ _ _ c.before.refusal-into.ensures c.if1.true
 
 write-run-requires : tie.Need-write-run-requires
 write-run-requires c κs =
     let at-noun = c.before.before in
     let at-number = at-noun.before in
     let room = into-room _ _ _ _ at-number.before.refusal-into.ensures at-number.if1.false in
-    leftRun-fits _ _ room _ at-noun.stem-noun-suffixes.ensures _ c.before.left.ensures
+    left_run-fits _ _ room _ at-noun.stem_noun_suffixes.ensures _ c.before.left.ensures
 
 returns-2 : tie.Need-returns-2
 returns-2 c =
     let at-run = c.before.before in
     let at-noun = at-run.before.before.before in
     let at-number = at-noun.before in
-    nounCall-nounOut-given _ _ _ at-number.before.refusal-into.ensures at-number.if1.false _
-    at-noun.stem-noun-suffixes.ensures _
+    noun_call-noun_out-given _ _ _ at-number.before.refusal-into.ensures at-number.if1.false _
+    at-noun.stem_noun_suffixes.ensures _
     at-run.before.before.left.ensures _ _
     at-run.write-run.ensures.0
     at-run.write-run.ensures.1

@@ -1,8 +1,8 @@
--- `outputs::pass::pass_word` meets its contract: the number, the syllable answer and the flag say which case of `passCall` and
--- `passOut` holds. Assumes nothing.
+-- `outputs::pass::pass_word` meets its contract: the number, the syllable answer and the flag say which case of `pass_call` and
+-- `pass_out` holds. Assumes nothing.
 use Rattle.refusals.proofs.Laws.Refusals.{into-room}
 use Rattle.outputs.proofs.Laws.RepairCalls.{word_fits, front_fits, repair-fits}
-use Rattle.outputs.proofs.Laws.RepairCalls.{passCall-passOut-refused, passCall-passOut-short, passCall-passOut-kept, passCall-passOut-repaired}
+use Rattle.outputs.proofs.Laws.RepairCalls.{pass_call-pass_out-refused, pass_call-pass_out-short, pass_call-pass_out-kept, pass_call-pass_out-repaired}
 use Rattle.outputs.proofs.Laws.Writing.{copy_written}
 use Rattle.stages.proofs.Laws.Kept.{kept-le, kept-length-take}
 use Rattle.turkish.specs.Calls.{chars}
@@ -13,7 +13,7 @@ use Rattle.outputs.proofs.pass.pass_word.Statement.{statement}
 use Rattle.outputs.proofs.pass.pass_word.Tie as tie
 
 returns : tie.Need-returns
-returns c = passCall-passOut-refused _ _ _ c.before.refusal-into.ensures c.if1.true
+returns c = pass_call-pass_out-refused _ _ _ c.before.refusal-into.ensures c.if1.true
 
 copy-requires : tie.Need-copy-requires
 copy-requires c κs =
@@ -26,19 +26,19 @@ returns-2 c =
     let at_copy = c.before.before in
     let at-syllable = at_copy.before.before in
     let at-number = at-syllable.before.before in
-    let no = sym at-syllable.before.more-than-one-syllable-word.ensures ∙ not-true _ at-syllable.if2.true in
-    passCall-passOut-short _ _ _ at-number.before.refusal-into.ensures at-number.if1.false no _ _
+    let no = sym at-syllable.before.more_than_one_syllable_word.ensures ∙ not-true _ at-syllable.if2.true in
+    pass_call-pass_out-short _ _ _ at-number.before.refusal-into.ensures at-number.if1.false no _ _
     at_copy.copy.ensures.0
     (at_copy.copy.ensures.1 ∙ copy_written _ _)
 
 slice-aggregate-copy : tie.Need-slice-aggregate-copy
-slice-aggregate-copy c = kept-length-take _ _ c.before.before.before.stem-nominal-verb-suffixes.ensures
+slice-aggregate-copy c = kept-length-take _ _ c.before.before.before.stem_nominal_verb_suffixes.ensures
 
 copy-requires-2 : tie.Need-copy-requires-2
 copy-requires-2 c κs =
     let at_stage = c.before.before.before.before in
     let at-number = at_stage.before.before.before in
-    front_fits _ _ _ at-number.before.refusal-into.ensures at-number.if1.false at_stage.stem-nominal-verb-suffixes.result.kept
+    front_fits _ _ _ at-number.before.refusal-into.ensures at-number.if1.false at_stage.stem_nominal_verb_suffixes.result.kept
 
 returns-3 : tie.Need-returns-3
 unfolding chars
@@ -48,22 +48,22 @@ returns-3 c =
     let at_stage = at_flag.before.before in
     let at-syllable = at_stage.before in
     let at-number = at-syllable.before.before in
-    let yes = sym at-syllable.before.more-than-one-syllable-word.ensures ∙ not-false _ at-syllable.if2.false in
-    passCall-passOut-kept _ _ _ at-number.before.refusal-into.ensures at-number.if1.false yes _
-    at_stage.stem-nominal-verb-suffixes.ensures
+    let yes = sym at-syllable.before.more_than_one_syllable_word.ensures ∙ not-false _ at-syllable.if2.false in
+    pass_call-pass_out-kept _ _ _ at-number.before.refusal-into.ensures at-number.if1.false yes _
+    at_stage.stem_nominal_verb_suffixes.ensures
     (not-true _ at_flag.if3.true) _ _
     at_copy.copy2.ensures.0
     (at_copy.copy2.ensures.1 ∙ copy_written _ _)
 
 postlude-requires : tie.Need-postlude-requires
-postlude-requires c κs = kept-le _ _ c.before.before.stem-nominal-verb-suffixes.ensures
+postlude-requires c κs = kept-le _ _ c.before.before.stem_nominal_verb_suffixes.ensures
 
 write-repair-requires : tie.Need-write-repair-requires
 write-repair-requires c κs =
     let at_stage = c.before.before.before.before in
     let at-number = at_stage.before.before.before in
     let room = into-room _ _ _ _ at-number.before.refusal-into.ensures at-number.if1.false in
-    let front = kept-le _ _ at_stage.stem-nominal-verb-suffixes.ensures in
+    let front = kept-le _ _ at_stage.stem_nominal_verb_suffixes.ensures in
     let fits = repair-fits _ _ _ _ c.before.postlude.ensures front room in
     search rules
 
@@ -75,9 +75,9 @@ returns-4 c =
     let at_stage = at_flag.before.before in
     let at-syllable = at_stage.before in
     let at-number = at-syllable.before.before in
-    let yes = sym at-syllable.before.more-than-one-syllable-word.ensures ∙ not-false _ at-syllable.if2.false in
-    passCall-passOut-repaired _ _ _ at-number.before.refusal-into.ensures at-number.if1.false yes _
-    at_stage.stem-nominal-verb-suffixes.ensures
+    let yes = sym at-syllable.before.more_than_one_syllable_word.ensures ∙ not-false _ at-syllable.if2.false in
+    pass_call-pass_out-repaired _ _ _ at-number.before.refusal-into.ensures at-number.if1.false yes _
+    at_stage.stem_nominal_verb_suffixes.ensures
     (not-false _ at_flag.if3.false) _
     at-repair.before.before.postlude.ensures _ _
     at-repair.write-repair.ensures.0

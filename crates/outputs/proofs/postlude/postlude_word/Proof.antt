@@ -1,14 +1,14 @@
--- `outputs::postlude::postlude_word` meets its contract: the number found says which case of `postludeCall` and `postludeOut` holds;
+-- `outputs::postlude::postlude_word` meets its contract: the number found says which case of `postlude_call` and `postlude_out` holds;
 -- the repair fits the output. Assumes nothing.
 use Rattle.refusals.proofs.Laws.Refusals.{into-room}
-use Rattle.outputs.proofs.Laws.RepairCalls.{repair-fits, postludeCall-postludeOut-refused, postludeCall-postludeOut-given}
+use Rattle.outputs.proofs.Laws.RepairCalls.{repair-fits, postlude_call-postlude_out-refused, postlude_call-postlude_out-given}
 use native.Mathlib.Omega.{arith}
 use borrow.Author.Rules.{rules}
 use Rattle.outputs.proofs.postlude.postlude_word.Statement.{statement}
 use Rattle.outputs.proofs.postlude.postlude_word.Tie as tie
 
 returns : tie.Need-returns
-returns c = postludeCall-postludeOut-refused _ _ _ c.before.refusal-into.ensures c.if1.true
+returns c = postlude_call-postlude_out-refused _ _ _ c.before.refusal-into.ensures c.if1.true
 
 write-repair-requires : tie.Need-write-repair-requires
 write-repair-requires c κs =
@@ -22,7 +22,7 @@ returns-2 c =
     let at-repair = c.before.before in
     let at-postlude = at-repair.before.before in
     let at-number = at-postlude.before in
-    postludeCall-postludeOut-given _ _ _ at-number.before.refusal-into.ensures at-number.if1.false _
+    postlude_call-postlude_out-given _ _ _ at-number.before.refusal-into.ensures at-number.if1.false _
     at-postlude.postlude.ensures _ _
     at-repair.write-repair.ensures.0
     at-repair.write-repair.ensures.1

@@ -1,13 +1,13 @@
 -- `outputs::run::whole_of` meets its contract: the flag and the place where letters stay say which of the three runs it is. Assumes nothing.
 use borrow.Author.Tests.{not-true, not-false}
 use Rattle.stages.proofs.Laws.Kept.{kept-le}
-use Rattle.outputs.proofs.Laws.Runs.{uninflectedOf-front, wholeRunOf-front, wholeRunOf-left, wholeRunOf-repaired}
+use Rattle.outputs.proofs.Laws.Runs.{uninflected_of-front, whole_run_of-front, whole_run_of-left, whole_run_of-repaired}
 use borrow.Author.Rules.{rules}
 use Rattle.outputs.proofs.run.whole_of.Statement.{statement}
 use Rattle.outputs.proofs.run.whole_of.Tie as tie
 
 returns : tie.Need-returns
-returns c = wholeRunOf-front _ _ c.before.before.before.before.requires (not-true _ c.before.if1.true) _ c.front.ensures
+returns c = whole_run_of-front _ _ c.before.before.before.before.requires (not-true _ c.before.if1.true) _ c.front.ensures
 
 stem-noun-suffixes-requires : tie.Need-stem-noun-suffixes-requires
 stem-noun-suffixes-requires c κs = kept-le _ _ c.before.before.before.requires
@@ -16,18 +16,18 @@ returns-2 : tie.Need-returns-2
 returns-2 c =
     let at-noun = c.before.before.before in
     let at_flag = at-noun.before in
-    wholeRunOf-left _ _ at_flag.before.before.before.requires (not-false _ at_flag.if1.false) _ at-noun.stem-noun-suffixes.ensures
+    whole_run_of-left _ _ at_flag.before.before.before.requires (not-false _ at_flag.if1.false) _ at-noun.stem_noun_suffixes.ensures
     c.before.if2.true _
     c.left.ensures
 
 postlude-requires : tie.Need-postlude-requires
-postlude-requires c κs = uninflectedOf-front _ _ (kept-le _ _ c.before.before.before.before.before.before.requires) _ c.before.before.stem-noun-suffixes.ensures
+postlude-requires c κs = uninflected_of-front _ _ (kept-le _ _ c.before.before.before.before.before.before.requires) _ c.before.before.stem_noun_suffixes.ensures
 
 returns-3 : tie.Need-returns-3
 returns-3 c =
     let at-noun = c.before.before.before in
     let at_flag = at-noun.before in
-    wholeRunOf-repaired _ _ at_flag.before.before.before.requires (not-false _ at_flag.if1.false) _ at-noun.stem-noun-suffixes.ensures
+    whole_run_of-repaired _ _ at_flag.before.before.before.requires (not-false _ at_flag.if1.false) _ at-noun.stem_noun_suffixes.ensures
     c.before.if2.false _
     c.postlude.ensures
 

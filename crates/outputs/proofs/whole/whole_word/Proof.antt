@@ -1,4 +1,4 @@
--- `outputs::whole::whole_word` meets its contract: the number and the syllable answer say which case of `wholeCall` and `wholeOut` holds; the
+-- `outputs::whole::whole_word` meets its contract: the number and the syllable answer say which case of `whole_call` and `whole_out` holds; the
 -- run fits the output. Assumes nothing.
 use mathlib.Core.Path.{sym, ◌∙◌}
 use borrow.Author.Tests.{not-true, not-false}
@@ -6,14 +6,14 @@ use Rattle.turkish.specs.Calls.{chars}
 use Rattle.refusals.proofs.Laws.Refusals.{into-accepted, into-room}
 use Rattle.outputs.proofs.Laws.RepairCalls.{word_fits}
 use Rattle.outputs.proofs.Laws.Writing.{copy_written}
-use Rattle.outputs.proofs.Laws.Runs.{wholeText-short, wholeRunOf-text, wholeRunOf-fits}
-use Rattle.outputs.proofs.Laws.RunCalls.{wholeCall-wholeOut-refused, wholeCall-wholeOut-given}
+use Rattle.outputs.proofs.Laws.Runs.{whole_text-short, whole_run_of-text, whole_run_of-fits}
+use Rattle.outputs.proofs.Laws.RunCalls.{whole_call-whole_out-refused, whole_call-whole_out-given}
 use borrow.Author.Rules.{rules}
 use Rattle.outputs.proofs.whole.whole_word.Statement.{statement}
 use Rattle.outputs.proofs.whole.whole_word.Tie as tie
 
 returns : tie.Need-returns
-returns c = wholeCall-wholeOut-refused _ _ _ c.before.refusal-into.ensures c.if1.true
+returns c = whole_call-whole_out-refused _ _ _ c.before.refusal-into.ensures c.if1.true
 
 copy-requires : tie.Need-copy-requires
 copy-requires c κs =
@@ -28,8 +28,8 @@ returns-2 c =
     let at-number = at-syllable.before.before in
     let found = at-number.before.refusal-into.ensures in
     let none = at-number.if1.false in
-    let one = sym at-syllable.before.more-than-one-syllable-word.ensures ∙ not-true _ at-syllable.if2.true in
-    wholeCall-wholeOut-given _ _ _ found none _ (sym (wholeText-short _ (into-accepted _ _ _ _ found none) one)) _ _
+    let one = sym at-syllable.before.more_than_one_syllable_word.ensures ∙ not-true _ at-syllable.if2.true in
+    whole_call-whole_out-given _ _ _ found none _ (sym (whole_text-short _ (into-accepted _ _ _ _ found none) one)) _ _
     at_copy.copy.ensures.0
     (at_copy.copy.ensures.1 ∙ copy_written _ _)
 
@@ -37,7 +37,7 @@ write-run-requires : tie.Need-write-run-requires
 write-run-requires c κs =
     let at-number = c.before.before.before.before.before in
     let room = into-room _ _ _ _ at-number.before.refusal-into.ensures at-number.if1.false in
-    wholeRunOf-fits _ _ room _ c.before.whole_of.ensures
+    whole_run_of-fits _ _ room _ c.before.whole_of.ensures
 
 returns-3 : tie.Need-returns-3
 unfolding chars
@@ -48,8 +48,8 @@ returns-3 c =
     let at-number = at-syllable.before.before in
     let found = at-number.before.refusal-into.ensures in
     let none = at-number.if1.false in
-    let more = sym at-syllable.before.more-than-one-syllable-word.ensures ∙ not-false _ at-syllable.if2.false in
-    wholeCall-wholeOut-given _ _ _ found none _ (wholeRunOf-text _ (into-accepted _ _ _ _ found none) more _ at-whole.whole_of.ensures) _ _
+    let more = sym at-syllable.before.more_than_one_syllable_word.ensures ∙ not-false _ at-syllable.if2.false in
+    whole_call-whole_out-given _ _ _ found none _ (whole_run_of-text _ (into-accepted _ _ _ _ found none) more _ at-whole.whole_of.ensures) _ _
     at-run.write-run.ensures.0
     at-run.write-run.ensures.1
 

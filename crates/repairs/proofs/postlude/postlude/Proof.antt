@@ -5,12 +5,12 @@ use borrow.Author.Rules.{rules}
 use Rattle.utf8.specs.Characters.{before}
 use Rattle.utf8.proofs.Laws.Behind.{open-start}
 use Rattle.repairs.specs.Repairs.{ending}
-use Rattle.repairs.proofs.Laws.Repairs.{appended-short, repairOf-reserved, repairOf-gains, repairOf-hardens}
+use Rattle.repairs.proofs.Laws.Repairs.{appended-short, repair_of-reserved, repair_of-gains, repair_of-hardens}
 use Rattle.repairs.proofs.postlude.postlude.Statement.{statement}
 use Rattle.repairs.proofs.postlude.postlude.Tie as tie
 
 returns : tie.Need-returns
-returns c = repairOf-reserved _ _ _ (sym c.before.before.is-reserved-word.ensures ∙ c.before.if1.true) c.unchanged.ensures
+returns c = repair_of-reserved _ _ _ (sym c.before.before.is_reserved_word.ensures ∙ c.before.if1.true) c.unchanged.ensures
 
 look-back-requires : tie.Need-look-back-requires
 look-back-requires c κs = let s = c.before.before.before in open-start s.args.w.now s.args.n s.args.n (omega arith) s.requires
@@ -25,9 +25,9 @@ followed-requires c κs = let a = c.before.before.before.before.before.before.ar
 
 returns-2 : tie.Need-returns-2
 returns-2 c =
-    let free = sym c.before.before.before.before.before.is-reserved-word.ensures ∙ c.before.before.before.before.if1.false in
-    let gains = c.before.before.append-U-to-stems-ending-with-d-or-g.ensures in
-    repairOf-gains _ _ _ _ free gains c.before.if2.true c.followed.ensures
+    let free = sym c.before.before.before.before.before.is_reserved_word.ensures ∙ c.before.before.before.before.if1.false in
+    let gains = c.before.before.append_U_to_stems_ending_with_d_or_g.ensures in
+    repair_of-gains _ _ _ _ free gains c.before.if2.true c.followed.ensures
 
 post-process-last-consonants-requires : tie.Need-post-process-last-consonants-requires
 unfolding ending
@@ -35,9 +35,9 @@ post-process-last-consonants-requires c κs = (c.before.before.before.before.bef
 
 returns-3 : tie.Need-returns-3
 returns-3 c =
-    let free = sym c.before.before.before.before.before.is-reserved-word.ensures ∙ c.before.before.before.before.if1.false in
-    let gains = c.before.before.append-U-to-stems-ending-with-d-or-g.ensures in
-    repairOf-hardens _ _ _ _ free gains c.before.if2.false c.post-process-last-consonants.ensures
+    let free = sym c.before.before.before.before.before.is_reserved_word.ensures ∙ c.before.before.before.before.if1.false in
+    let gains = c.before.before.append_U_to_stems_ending_with_d_or_g.ensures in
+    repair_of-hardens _ _ _ _ free gains c.before.if2.false c.post_process_last_consonants.ensures
 
 pub postlude-spec : {M : Type 1} → statement M
 postlude-spec =

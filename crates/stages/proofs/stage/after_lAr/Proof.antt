@@ -10,15 +10,15 @@ returns : tie.Need-returns
 unfolding trace
 returns c =
     let x1 = c.before.before.before in
-    reach-first _ _ _ _ x1.mark-DUr.ensures c.before.c.given.1
+    reach-first _ _ _ _ x1.mark_DUr.ensures c.before.c.given.1
 
 returns-2 : tie.Need-returns-2
 unfolding trace
 returns-2 c =
     let x2 = c.before.before.before in
     let x1 = x2.before.before.before in
-    reach-next _ _ _ _ x1.mark-DUr.ensures x2.before.enum_told.given.1
-    (reach-first _ _ _ _ x2.mark-yDU.ensures c.before.c2.given.1)
+    reach-next _ _ _ _ x1.mark_DUr.ensures x2.before.enum_told.given.1
+    (reach-first _ _ _ _ x2.mark_yDU.ensures c.before.c2.given.1)
 
 returns-3 : tie.Need-returns-3
 unfolding trace
@@ -26,9 +26,9 @@ returns-3 c =
     let x3 = c.before.before.before in
     let x2 = x3.before.before.before in
     let x1 = x2.before.before.before in
-    reach-next _ _ _ _ x1.mark-DUr.ensures x2.before.enum_told.given.1
-    (reach-next _ _ _ _ x2.mark-yDU.ensures x3.before.enum-told2.given.1
-    (reach-first _ _ _ _ x3.mark-ysA.ensures c.before.c3.given.1))
+    reach-next _ _ _ _ x1.mark_DUr.ensures x2.before.enum_told.given.1
+    (reach-next _ _ _ _ x2.mark_yDU.ensures x3.before.enum-told2.given.1
+    (reach-first _ _ _ _ x3.mark_ysA.ensures c.before.c3.given.1))
 
 returns-4 : tie.Need-returns-4
 unfolding trace
@@ -37,10 +37,10 @@ returns-4 c =
     let x3 = x4.before.before.before in
     let x2 = x3.before.before.before in
     let x1 = x2.before.before.before in
-    reach-next _ _ _ _ x1.mark-DUr.ensures x2.before.enum_told.given.1
-    (reach-next _ _ _ _ x2.mark-yDU.ensures x3.before.enum-told2.given.1
-    (reach-next _ _ _ _ x3.mark-ysA.ensures x4.before.enum-told3.given.1
-    x4.mark-ymUs-.ensures))
+    reach-next _ _ _ _ x1.mark_DUr.ensures x2.before.enum_told.given.1
+    (reach-next _ _ _ _ x2.mark_yDU.ensures x3.before.enum-told2.given.1
+    (reach-next _ _ _ _ x3.mark_ysA.ensures x4.before.enum-told3.given.1
+    x4.mark_ymUs_.ensures))
 
 pub after-lAr-spec : {M : Type 1} → statement M
 after-lAr-spec =

@@ -10,15 +10,15 @@ returns : tie.Need-returns
 unfolding trace
 returns c =
     let x1 = c.before.before.before in
-    reach-first _ _ _ _ x1.mark-sUnUz.ensures c.before.c.given.1
+    reach-first _ _ _ _ x1.mark_sUnUz.ensures c.before.c.given.1
 
 returns-2 : tie.Need-returns-2
 unfolding trace
 returns-2 c =
     let x2 = c.before.before.before in
     let x1 = x2.before.before.before in
-    reach-next _ _ _ _ x1.mark-sUnUz.ensures x2.before.enum_told.given.1
-    (reach-first _ _ _ _ x2.mark-lAr.ensures c.before.c2.given.1)
+    reach-next _ _ _ _ x1.mark_sUnUz.ensures x2.before.enum_told.given.1
+    (reach-first _ _ _ _ x2.mark_lAr.ensures c.before.c2.given.1)
 
 returns-3 : tie.Need-returns-3
 unfolding trace
@@ -26,9 +26,9 @@ returns-3 c =
     let x3 = c.before.before.before in
     let x2 = x3.before.before.before in
     let x1 = x2.before.before.before in
-    reach-next _ _ _ _ x1.mark-sUnUz.ensures x2.before.enum_told.given.1
-    (reach-next _ _ _ _ x2.mark-lAr.ensures x3.before.enum-told2.given.1
-    (reach-first _ _ _ _ x3.mark-yUm.ensures c.before.c3.given.1))
+    reach-next _ _ _ _ x1.mark_sUnUz.ensures x2.before.enum_told.given.1
+    (reach-next _ _ _ _ x2.mark_lAr.ensures x3.before.enum-told2.given.1
+    (reach-first _ _ _ _ x3.mark_yUm.ensures c.before.c3.given.1))
 
 returns-4 : tie.Need-returns-4
 unfolding trace
@@ -37,10 +37,10 @@ returns-4 c =
     let x3 = x4.before.before.before in
     let x2 = x3.before.before.before in
     let x1 = x2.before.before.before in
-    reach-next _ _ _ _ x1.mark-sUnUz.ensures x2.before.enum_told.given.1
-    (reach-next _ _ _ _ x2.mark-lAr.ensures x3.before.enum-told2.given.1
-    (reach-next _ _ _ _ x3.mark-yUm.ensures x4.before.enum-told3.given.1
-    (reach-first _ _ _ _ x4.mark-sUn.ensures c.before.c4.given.1)))
+    reach-next _ _ _ _ x1.mark_sUnUz.ensures x2.before.enum_told.given.1
+    (reach-next _ _ _ _ x2.mark_lAr.ensures x3.before.enum-told2.given.1
+    (reach-next _ _ _ _ x3.mark_yUm.ensures x4.before.enum-told3.given.1
+    (reach-first _ _ _ _ x4.mark_sUn.ensures c.before.c4.given.1)))
 
 returns-5 : tie.Need-returns-5
 unfolding trace
@@ -50,11 +50,11 @@ returns-5 c =
     let x3 = x4.before.before.before in
     let x2 = x3.before.before.before in
     let x1 = x2.before.before.before in
-    reach-next _ _ _ _ x1.mark-sUnUz.ensures x2.before.enum_told.given.1
-    (reach-next _ _ _ _ x2.mark-lAr.ensures x3.before.enum-told2.given.1
-    (reach-next _ _ _ _ x3.mark-yUm.ensures x4.before.enum-told3.given.1
-    (reach-next _ _ _ _ x4.mark-sUn.ensures x5.before.enum-told4.given.1
-    x5.mark-yUz.ensures)))
+    reach-next _ _ _ _ x1.mark_sUnUz.ensures x2.before.enum_told.given.1
+    (reach-next _ _ _ _ x2.mark_lAr.ensures x3.before.enum-told2.given.1
+    (reach-next _ _ _ _ x3.mark_yUm.ensures x4.before.enum-told3.given.1
+    (reach-next _ _ _ _ x4.mark_sUn.ensures x5.before.enum-told4.given.1
+    x5.mark_yUz.ensures)))
 
 pub person-spec : {M : Type 1} → statement M
 person-spec =

@@ -3,7 +3,7 @@
 use mathlib.Core.Path.{sym, ap, ◌∙◌}
 use borrow.Author.Rules.{rules}
 use Rattle.theorems.specs.Simple.Marks.{ymUs}
-use Rattle.theorems.specs.Simple.Pieces.{traceOf, trace}
+use Rattle.theorems.specs.Simple.Pieces.{trace_of, trace}
 use Rattle.keys.proofs.Laws.Sees.{sees-made}
 use Rattle.marks.proofs.Laws.Marks.{reach-fails}
 use Rattle.stages.specs.Trail.{along}
@@ -29,8 +29,8 @@ unfolding trace
 returns-2 c =
     let l = c.before.before.before in
     let step = steps-person _ _ c.before.before.before.before.before.before.before.person.ensures c.before.before.before.before.before.d.given.1 in
-    let is = along-seen _ _ (traceOf ymUs) l.look-back.ensures c.before.before.ymUs-alone2.ensures in
-    along-none _ _ _ (then-none _ _ step (traceOf ymUs) (along-unfit _ _ _ is c.enum-told2.given.1))
+    let is = along-seen _ _ (trace_of ymUs) l.look-back.ensures c.before.before.ymUs-alone2.ensures in
+    along-none _ _ _ (then-none _ _ step (trace_of ymUs) (along-unfit _ _ _ is c.enum-told2.given.1))
 
 returns-3 : tie.Need-returns-3
 unfolding trace
@@ -38,8 +38,8 @@ returns-3 c =
     let l = c.before.before.before.before.before in
     let step = steps-person _ _ c.before.before.before.before.before.before.before.before.before.person.ensures
     c.before.before.before.before.before.before.before.d.given.1 in
-    let is = along-seen _ _ (traceOf ymUs) l.look-back.ensures c.before.before.before.before.ymUs-alone2.ensures in
-    then-along _ _ step (traceOf ymUs) (sym c.before.before.e.given.1 ∙ is) c.behind.ensures
+    let is = along-seen _ _ (trace_of ymUs) l.look-back.ensures c.before.before.before.before.ymUs-alone2.ensures in
+    then-along _ _ step (trace_of ymUs) (sym c.before.before.e.given.1 ∙ is) c.behind.ensures
 
 pub person-and-ymUs-spec : {M : Type 1} → statement M
 person-and-ymUs-spec =

@@ -15,11 +15,11 @@ use Rattle.stages.proofs.stage.second_branch.Tie as tie
 
 returns : tie.Need-returns
 unfolding trace branch2
-returns c = cut-none _ _ _ (after_none _ _ (reach-fails _ _ _ c.before.before.mark-cAsInA.ensures c.enum_told.given.1))
+returns c = cut-none _ _ _ (after_none _ _ (reach-fails _ _ _ c.before.before.mark_cAsInA.ensures c.enum_told.given.1))
 
 look-back-requires : tie.Need-look-back-requires
 look-back-requires c κs =
-    open_step _ _ (steps-mark _ _ cAsInA c.before.before.before.mark-cAsInA.ensures c.before.c.given.1)
+    open_step _ _ (steps-mark _ _ cAsInA c.before.before.before.mark_cAsInA.ensures c.before.c.given.1)
     c.before.before.before.before.before.requires.opens
 
 person-and-ymUs-requires : tie.Need-person-and-ymUs-requires
@@ -29,7 +29,7 @@ returns-2 : tie.Need-returns-2
 unfolding trace branch2
 returns-2 c =
     let l = c.before.before.before in
-    let step = steps-mark _ _ cAsInA c.before.before.before.before.before.before.before.mark-cAsInA.ensures
+    let step = steps-mark _ _ cAsInA c.before.before.before.before.before.before.before.mark_cAsInA.ensures
     c.before.before.before.before.before.c.given.1 in
     let is = along-seen _ _ (trace (person then mark ymUs)) l.look-back.ensures c.before.before.person-and-ymUs.ensures in
     cut-none _ _ _ (then-none _ _ step (trace (person then mark ymUs)) (along-unfit _ _ _ is c.enum-told2.given.1))
@@ -38,7 +38,7 @@ returns-3 : tie.Need-returns-3
 unfolding trace branch2
 returns-3 c =
     let l = c.before.before.before.before.before.before in
-    let step = steps-mark _ _ cAsInA c.before.before.before.before.before.before.before.before.before.before.mark-cAsInA.ensures
+    let step = steps-mark _ _ cAsInA c.before.before.before.before.before.before.before.before.before.before.mark_cAsInA.ensures
     c.before.before.before.before.before.before.before.before.c.given.1 in
     let is = along-seen _ _ (trace (person then mark ymUs)) l.look-back.ensures c.before.before.before.before.before.person-and-ymUs.ensures in
     then-cut _ _ step (trace (person then mark ymUs)) (sym c.before.before.before.d.given.1 ∙ is) c.before.deleted.ensures c.behind.ensures

@@ -6,10 +6,10 @@ use Rattle.theorems.specs.Simple.Grammar.{mark, ◌then◌, try}
 use Rattle.theorems.specs.Simple.Marks.{DUr, ymUs}
 use Rattle.theorems.specs.Simple.Pieces.{trace}
 use Rattle.theorems.specs.Simple.Stage.{person, branch6}
-use Rattle.vowels.specs.Accord.{noAccord}
+use Rattle.vowels.specs.Accord.{no_accord}
 use Rattle.keys.proofs.Laws.Sees.{sees-made}
 use Rattle.marks.proofs.Laws.Marks.{reach-fails}
-use Rattle.stages.specs.Trail.{noStop, noTrail, noWay}
+use Rattle.stages.specs.Trail.{without_stop, no_trail, no_way}
 use Rattle.stages.proofs.Laws.Trails.{steps-mark, along-unfit, cut-none, after_none, open-cut, try-cut, try-none}
 use Rattle.stages.proofs.Laws.Branches.{along-seen}
 use Rattle.stages.proofs.stage.sixth_branch.Statement.{statement}
@@ -17,21 +17,21 @@ use Rattle.stages.proofs.stage.sixth_branch.Tie as tie
 
 returns : tie.Need-returns
 unfolding trace branch6
-returns c = cut-none _ _ _ (after_none _ _ (reach-fails _ _ _ c.before.before.mark-DUr.ensures c.enum_told.given.1))
+returns c = cut-none _ _ _ (after_none _ _ (reach-fails _ _ _ c.before.before.mark_DUr.ensures c.enum_told.given.1))
 
 look-back-requires : tie.Need-look-back-requires
 look-back-requires c κs =
-    open-cut _ _ (steps-mark _ _ DUr c.before.before.before.before.mark-DUr.ensures c.before.before.c.given.1) c.deleted.ensures
+    open-cut _ _ (steps-mark _ _ DUr c.before.before.before.before.mark_DUr.ensures c.before.before.c.given.1) c.deleted.ensures
     c.before.before.before.before.before.before.requires.opens
 
 person-and-ymUs-requires : tie.Need-person-and-ymUs-requires
 person-and-ymUs-requires c κs = sees-made _ _ c.look-back.ensures (look-back-requires c.before κs)
 
 returns-2 : tie.Need-returns-2
-unfolding trace try branch6 noWay noTrail noStop noAccord
+unfolding trace try branch6 no_way no_trail without_stop no_accord
 returns-2 c =
     let l = c.before.before.before.before in
-    let step = steps-mark _ _ DUr c.before.before.before.before.before.before.before.before.before.mark-DUr.ensures
+    let step = steps-mark _ _ DUr c.before.before.before.before.before.before.before.before.before.mark_DUr.ensures
     c.before.before.before.before.before.before.before.c.given.1 in
     let is = along-seen _ _ (trace (person then mark ymUs)) l.look-back.ensures c.before.before.before.person-and-ymUs.ensures in
     try-none _ _ step (trace (person then mark ymUs)) l.before.deleted.ensures
@@ -42,7 +42,7 @@ returns-3 : tie.Need-returns-3
 unfolding trace try branch6
 returns-3 c =
     let l = c.before.before.before.before.before.before in
-    let step = steps-mark _ _ DUr c.before.before.before.before.before.before.before.before.before.before.before.mark-DUr.ensures
+    let step = steps-mark _ _ DUr c.before.before.before.before.before.before.before.before.before.before.before.mark_DUr.ensures
     c.before.before.before.before.before.before.before.before.before.c.given.1 in
     let is = along-seen _ _ (trace (person then mark ymUs)) l.look-back.ensures c.before.before.before.before.before.person-and-ymUs.ensures in
     try-cut _ _ step (trace (person then mark ymUs)) l.before.deleted.ensures (sym c.before.before.before.e.given.1 ∙ is) c.before.deleted2.ensures

@@ -15,13 +15,13 @@ use Rattle.theorems.specs.Simple.Stage.{branch1, branch2, branch3, branch4, bran
 use Rattle.theorems.specs.Simple.Pieces.{none, trace}
 use Rattle.turkish.specs.Calls.{chars}
 use Rattle.theorems.proofs.Laws.Flag.{branch1-keeps, branch2-keeps, branch3-lowers, branch4-keeps, branch5-keeps, branch6-keeps}
-use Rattle.vowels.specs.Accord.{noAccord}
+use Rattle.vowels.specs.Accord.{no_accord}
 use Rattle.keys.specs.Ends.{is_a}
 use Rattle.keys.specs.Seen.{seen_at, Sees}
 use Rattle.keys.proofs.Laws.Sees.{sees-made}
-use Rattle.stages.specs.Groups.{firstEnds, fifthEnds}
+use Rattle.stages.specs.Groups.{first_ends_of, fifth_ends}
 use Rattle.stages.specs.Outcome.{whole}
-use Rattle.stages.specs.Trail.{noStop, noTrail}
+use Rattle.stages.specs.Trail.{without_stop, no_trail}
 use Rattle.stages.proofs.Laws.Branches.{first-begins, second-begins, third-begins, fourth-begins, fifth-begins, sixth-begins, passed_over}
 use Rattle.stages.proofs.Laws.Branches.{open-whole, branch-out, branch-unfit, outcome-none, outcome-last, outcome-cut}
 use Rattle.stages.proofs.stage.stem_nominal_verb_suffixes.Statement.{statement}
@@ -81,7 +81,7 @@ left2 c =
     left1 c.before
     ∙ passed_over branch1 _ _
     (⊎_elim (λ b. branch-unfit _ (ended (end2 c)) branch1 b.1.ensures b.3.given.1)
-    (λ g. branch-out _ (ended (end2 c)) firstEnds branch1 first-begins (sym c.before.ends-first.ensures ∙ g.left)) c.if1.branch)
+    (λ g. branch-out _ (ended (end2 c)) first_ends_of branch1 first-begins (sym c.before.ends-first.ensures ∙ g.left)) c.if1.branch)
 
 -- past that, those from the third on
 left3 : (c : tie.Joined2) → Left (end3 c) (branch3 or branch4 or branch5 or branch6)
@@ -113,7 +113,7 @@ left6 c =
     left5 c.before.before
     ∙ passed_over branch5 _ _
     (⊎_elim (λ b. branch-unfit _ (ended (end6 c)) branch5 b.1.ensures b.3.given.1)
-    (λ g. branch-out _ (ended (end6 c)) fifthEnds branch5 fifth-begins (sym c.before.ends-fifth.ensures ∙ g.left)) c.if5.branch)
+    (λ g. branch-out _ (ended (end6 c)) fifth_ends branch5 fifth-begins (sym c.before.ends-fifth.ensures ∙ g.left)) c.if5.branch)
 
 -- past that, nothing
 left7 : (c : tie.Joined6) → trace branches (chars (word (end7 c))) ≡ none
@@ -171,7 +171,7 @@ returns-6 c =
     c.of6.ensures ∙ outcome-last _ (ended (end6 j)) branch6 b.sixth-branch.ensures (branch6-keeps _) a.c6.given.1 (left6 j)
 
 returns-7 : tie.Need-returns-7
-unfolding noTrail noStop noAccord
+unfolding no_trail without_stop no_accord
 returns-7 c = c.of7.ensures ∙ outcome-none _ (left7 c.before)
 
 pub stem-nominal-verb-suffixes-spec : {M : Type 1} → statement M

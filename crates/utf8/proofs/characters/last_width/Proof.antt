@@ -1,7 +1,7 @@
 -- `utf8::characters::last_width` meets its contract: the first byte, going back, that does not go on tells the width. Assumes
 -- nothing.
 use Rattle.utf8.proofs.Laws.Widths.{width_one, width_two, width_three, width-fourth}
-use Rattle.utf8.specs.Characters.{lastWidth}
+use Rattle.utf8.specs.Characters.{last_width_of}
 use borrow.Author.Tests.{not-true, not-false}
 use mathlib.Core.Path.{sym, ◌∙◌}
 use borrow.Author.Rules.{rules}
@@ -9,17 +9,17 @@ use Rattle.utf8.proofs.characters.last_width.Statement.{statement}
 use Rattle.utf8.proofs.characters.last_width.Tie as tie
 
 returns : tie.Need-returns
-unfolding lastWidth
+unfolding last_width_of
 returns c = sym (width_one _ _ _ (sym c.before.goes_on.ensures ∙ not-true _ c.if1.true))
 
 returns-2 : tie.Need-returns-2
-unfolding lastWidth
+unfolding last_width_of
 returns-2 c =
     let first = sym c.before.before.before.goes_on.ensures ∙ not-false _ c.before.before.if1.false in
     sym (width_two _ _ _ first (sym c.before.goes-on2.ensures ∙ not-true _ c.if2.true))
 
 returns-3 : tie.Need-returns-3
-unfolding lastWidth
+unfolding last_width_of
 returns-3 c =
     let b = c.before.before in
     let first = sym b.before.before.before.goes_on.ensures ∙ not-false _ b.before.before.if1.false in
@@ -27,7 +27,7 @@ returns-3 c =
     sym (width_three _ _ _ first second (sym c.before.goes-on3.ensures ∙ not-true _ c.if3.true))
 
 returns-4 : tie.Need-returns-4
-unfolding lastWidth
+unfolding last_width_of
 returns-4 c =
     let b = c.before.before in
     let first = sym b.before.before.before.goes_on.ensures ∙ not-false _ b.before.before.if1.false in

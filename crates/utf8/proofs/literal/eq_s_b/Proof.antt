@@ -1,5 +1,5 @@
 -- `utf8::literal::eq_s_b` meets its contract: the tests that led to each `return` are the laws' hypotheses. Assumes nothing.
-use Rattle.utf8.proofs.Laws.Steps.{stands-within, eqSB-out, eqSB-short, eqSB-differs, eqSB-made, within-back}
+use Rattle.utf8.proofs.Laws.Steps.{stands-within, eq_s_b_of-out, eq_s_b_of-short, eq_s_b_of-differs, eq_s_b_of-made, within-back}
 use borrow.Author.Tests.{not-true, not-false}
 use mathlib.Core.Path.{sym, ◌∙◌}
 use borrow.Author.Rules.{rules}
@@ -7,13 +7,13 @@ use Rattle.utf8.proofs.literal.eq_s_b.Statement.{statement}
 use Rattle.utf8.proofs.literal.eq_s_b.Tie as tie
 
 returns : tie.Need-returns
-returns c = c.not-passed.ensures ∙ sym (eqSB-out _ _ _ (sym c.before.before.stands-in.ensures ∙ not-true _ c.before.if1.true))
+returns c = c.not-passed.ensures ∙ sym (eq_s_b_of-out _ _ _ (sym c.before.before.stands-in.ensures ∙ not-true _ c.before.if1.true))
 
 sub-if2 : tie.Need-overflow-sub-if2
 sub-if2 c = (stands-within _ _ (sym c.before.before.stands-in.ensures ∙ not-false _ c.before.if1.false)).low
 
 returns-2 : tie.Need-returns-2
-returns-2 c = c.not-passed2.ensures ∙ sym (eqSB-short _ _ _ c.before.if2.true)
+returns-2 c = c.not-passed2.ensures ∙ sym (eq_s_b_of-short _ _ _ c.before.if2.true)
 
 stands-at-requires : tie.Need-stands-at-requires
 stands-at-requires c κs =
@@ -22,14 +22,14 @@ stands-at-requires c κs =
     within-back a.w.now a.s.now a.r (sym p.before.stands-in.ensures ∙ not-false _ p.if1.false) c.if2.false
 
 returns-3 : tie.Need-returns-3
-returns-3 c = c.not-passed3.ensures ∙ sym (eqSB-differs _ _ _ (sym c.before.before.stands_at.ensures ∙ not-true _ c.before.if3.true))
+returns-3 c = c.not-passed3.ensures ∙ sym (eq_s_b_of-differs _ _ _ (sym c.before.before.stands_at.ensures ∙ not-true _ c.before.if3.true))
 
 returns-4 : tie.Need-returns-4
 returns-4 c =
     let p = c.before.before.before.before.before in
     let stood = sym p.before.stands-in.ensures ∙ not-false _ p.if1.false in
     let equal = sym c.before.before.stands_at.ensures ∙ not-false _ c.before.if3.false in
-    eqSB-made _ _ _ _ stood c.before.before.before.if2.false equal c.moved_to.ensures
+    eq_s_b_of-made _ _ _ _ stood c.before.before.before.if2.false equal c.moved_to.ensures
 
 pub eq-s-b-spec : {M : Type 1} → statement M
 eq-s-b-spec =

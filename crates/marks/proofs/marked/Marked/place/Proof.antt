@@ -1,13 +1,13 @@
 -- `marks::marked::Marked::place` meets its contract. Assumes nothing.
 use mathlib.Core.Path.{sym, ap, ◌∙◌}
 use borrow.Author.Rules.{rules}
-use Rattle.keys.specs.Passed.{notPassed}
+use Rattle.keys.specs.Passed.{not_passed_of}
 use Rattle.marks.specs.Reach.{place_of}
 use Rattle.marks.proofs.marked.Marked.place.Statement.{statement}
 use Rattle.marks.proofs.marked.Marked.place.Tie as tie
 
 returns : tie.Need-returns
-unfolding place_of notPassed
+unfolding place_of not_passed_of
 returns c = sym (ap place_of c.enum_told.given.1)
 
 returns-2 : tie.Need-returns-2

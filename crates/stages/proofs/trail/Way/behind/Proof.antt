@@ -3,13 +3,13 @@ use mathlib.Core.Path.{ap₂}
 use Rattle.vowels.specs.declared.harmony.Accord.{Accord}
 use Rattle.stages.specs.declared.trail.Trail.{Trail}
 use Rattle.stages.specs.declared.trail.Way.{Way}
-use Rattle.stages.specs.Trail.{behindWay}
+use Rattle.stages.specs.Trail.{behind_way}
 use borrow.Author.Rules.{rules}
 use Rattle.stages.proofs.trail.Way.behind.Statement.{statement}
 use Rattle.stages.proofs.trail.Way.behind.Tie as tie
 
 returns : tie.Need-returns
-unfolding behindWay
+unfolding behind_way
 returns c = ap₂ {C = Way} (λ (t : Trail) (h : Accord). record { trail = t; heard = h }) c.before.behind.ensures c.or_else.ensures
 
 pub behind-spec : {M : Type 1} → statement M

@@ -5,9 +5,9 @@ use mathlib.Core.Path.{◌≡◌, sym, ap}
 use native.Mathlib.Omega.{arith}
 use Rattle.turkish.specs.Letters.{text, any, has}
 use Rattle.turkish.specs.Vowels.{vowels, vowel}
-use Rattle.theorems.specs.Simple.Harmony.{partnersIn, partnerTable, toFirst}
-use Rattle.vowels.specs.Sounds.{vowelOf, soundOf, vowelNumbered, soundFirst, soundNumbered}
-use Rattle.vowels.proofs.Laws.Sounds.{soundNumbered-none}
+use Rattle.theorems.specs.Simple.Harmony.{partners_in, partner_table, to_first}
+use Rattle.vowels.specs.Sounds.{vowel_of, sound_of, vowel_numbered, sound_first, sound_numbered}
+use Rattle.vowels.proofs.Laws.Sounds.{sound_numbered-none}
 use Rattle.vowels.proofs.vowel.Vowel.numbered.Statement.{statement}
 use Rattle.vowels.proofs.vowel.Vowel.numbered.Tie as tie
 
@@ -22,19 +22,19 @@ returns-9 c =
     let r4 = r8.0.0.0.0 in
     let four : 0 < n → 4 < n = λ l. above (above (above (above l r4.0.0.0.1) r4.0.0.1) r4.0.1) r4.1 in
     let eight : 0 < n → 8 < n = λ l. above (above (above (above (four l) r8.0.0.0.1) r8.0.0.1) r8.0.1) r8.1 in
-    sym (soundNumbered-none n eight)
+    sym (sound_numbered-none n eight)
 
 pub numbered-spec : {M : Type 1} → statement M
-unfolding soundNumbered soundFirst vowelNumbered soundOf vowel vowels text has any vowelOf partnersIn partnerTable toFirst
+unfolding sound_numbered sound_first vowel_numbered sound_of vowel vowels text has any vowel_of partners_in partner_table to_first
 numbered-spec =
     tie.close
     (tie.spec
-    (λ c. sym (ap soundNumbered c.match.keys1))
-    (λ c. sym (ap soundNumbered c.match.keys2))
-    (λ c. sym (ap soundNumbered c.match.keys3))
-    (λ c. sym (ap soundNumbered c.match.keys4))
-    (λ c. sym (ap soundNumbered c.match.keys5))
-    (λ c. sym (ap soundNumbered c.match.keys6))
-    (λ c. sym (ap soundNumbered c.match.keys7))
-    (λ c. sym (ap soundNumbered c.match.keys8))
+    (λ c. sym (ap sound_numbered c.match.keys1))
+    (λ c. sym (ap sound_numbered c.match.keys2))
+    (λ c. sym (ap sound_numbered c.match.keys3))
+    (λ c. sym (ap sound_numbered c.match.keys4))
+    (λ c. sym (ap sound_numbered c.match.keys5))
+    (λ c. sym (ap sound_numbered c.match.keys6))
+    (λ c. sym (ap sound_numbered c.match.keys7))
+    (λ c. sym (ap sound_numbered c.match.keys8))
     returns-9)
