@@ -16,7 +16,7 @@ use writing::put;
 const ROOM: usize = 18 + LIMIT;
 
 // What the stage removes of a word: how many bytes, with its yes or no and the flag.
-#[derive(Drop)]
+#[derive(Clone, Copy)]
 pub struct Removal {
     pub bytes: usize,
     pub yes: bool,

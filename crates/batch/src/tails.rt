@@ -17,14 +17,14 @@ const LEAST: usize = 16;
 pub(crate) const TAILS: usize = 64;
 
 // A line of the slice: the place where it ends, and how many bytes in it begin a character.
-#[derive(Drop)]
+#[derive(Clone, Copy)]
 pub struct Line {
     pub end: usize,
     pub chars: usize,
 }
 
 // The tails of a slice: how many there are, the bytes of the longest, and whether some has fewer than 16 characters.
-#[derive(Drop)]
+#[derive(Clone, Copy)]
 pub struct Survey {
     pub count: usize,
     pub longest: usize,
@@ -32,7 +32,7 @@ pub struct Survey {
 }
 
 // And the places where the first 64 end, zeros where there are fewer.
-#[derive(Drop)]
+#[derive(Clone, Copy)]
 pub struct Tails {
     pub survey: Survey,
     pub ends: [usize; TAILS],

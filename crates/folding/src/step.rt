@@ -4,7 +4,7 @@ ghost use Rattle.std.specs.Prelude.{◌≡◌, ◌<◌, length, drop};
 ghost use Rattle.folding.specs.FoldBytes.{one, two, small_byte, alone, second, paired, pair, fold_step};
 
 // How many bytes are taken and how many given, and the first and the last of those; they are one where one is given.
-#[derive(Drop)]
+#[derive(Clone, Copy)]
 pub struct FoldStep {
     pub taken: usize,
     pub given: usize,

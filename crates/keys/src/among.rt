@@ -12,7 +12,7 @@ use utf8::characters;
 use utf8::cursor::Cursor;
 
 // The place of the key that ends the text, from 0 in the table's order, and the record before it; or that none does.
-#[derive(Drop)]
+#[derive(Clone, Copy)]
 pub enum Among {
     Key(usize, Cursor),
     Nothing,

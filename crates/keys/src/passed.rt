@@ -2,7 +2,7 @@
 ghost use Rattle.std.specs.Prelude.{◌≡◌};
 ghost use Rattle.keys.specs.Passed.{passed_to};
 
-#[derive(Drop)]
+#[derive(Clone, Copy)]
 pub struct Passed {
     pub moved: bool,
     pub at: usize,

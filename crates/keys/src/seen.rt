@@ -7,7 +7,7 @@ use utf8::characters;
 use utf8::cursor::Cursor;
 
 // The record; the last character before it, the one before that and the third (0 where there is none); and the place before each.
-#[derive(Drop)]
+#[derive(Clone, Copy)]
 pub struct Seen {
     pub c: Cursor,
     pub one: usize,
@@ -20,7 +20,7 @@ pub struct Seen {
 
 // The three characters and the places alone. The record goes past the function that reads them: copied into its answer it would come back
 // by moves that wait for the stores before them.
-#[derive(Drop)]
+#[derive(Clone, Copy)]
 pub struct Three {
     pub one: usize,
     pub two: usize,

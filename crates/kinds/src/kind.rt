@@ -57,7 +57,7 @@ pub fn number_of(kind: Kind) -> u8
 }
 
 // A name: the first n of these letters. Those behind it are dots.
-#[derive(Drop)]
+#[derive(Clone, Copy)]
 pub struct Name {
     pub letters: [u8; 6],
     pub n: usize,

@@ -1,5 +1,6 @@
 // The two backward steps over one lent cursor record, and one function with plain parameters that serves the library with them.
 // Nothing here is offered to the host.
+#![tactic(auto)]
 ghost use Rattle.std.specs.Prelude.{◌≡◌};
 ghost use Rattle.utf8.specs.Steps.{previous_char_of, eq_s_b_of};
 ghost use Rattle.lent.specs.Over.{over};
@@ -29,7 +30,7 @@ pub fn literal_back(w: &[u8], s: &[u8], c: &mut Cursor) -> bool
 
 // Whether the literal stood, whether the joint stood before it, whether a character stood before both, the record before that character, and
 // the record after it.
-#[derive(Drop)]
+#[derive(Clone, Copy)]
 pub struct Over {
     pub literal: bool,
     pub joined: bool,

@@ -16,7 +16,7 @@ pub const HELD: usize = refusal::LIMIT + 1;
 const LINE: usize = 4 * refusal::LIMIT + 15;
 
 // How much of the block was taken, how many bytes of the line are held, and how many bytes of the output are written.
-#[derive(Drop)]
+#[derive(Clone, Copy)]
 pub struct Progress {
     pub used: usize,
     pub held: usize,

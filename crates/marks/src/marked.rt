@@ -9,7 +9,7 @@ use utf8::cursor::Cursor;
 use vowels::harmony;
 use vowels::harmony::Accord;
 
-#[derive(Drop)]
+#[derive(Clone, Copy)]
 pub enum Marked {
     To(Cursor, u32, Accord),
     Fails,

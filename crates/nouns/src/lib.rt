@@ -1,4 +1,5 @@
 // The port of the noun stage: its marks, the chain before `ki`, and the stage.
+#![tactic(auto)]
 mod chain;
 mod link;
 mod mark;

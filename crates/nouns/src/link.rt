@@ -10,7 +10,7 @@ use marks::mark::mark_lAr;
 use utf8::cursor::Cursor;
 
 // It does not fit; or it takes the text from this place on, and the chain ends there or may go on there.
-#[derive(Drop)]
+#[derive(Clone, Copy)]
 pub enum Link {
     Unfit,
     Ends(usize),

@@ -21,7 +21,7 @@ use marks::mark::mark_lAr;
 use utf8::cursor::Cursor;
 
 // The text that the stage leaves of the first n bytes: those before `front`, and those from `from` on; and whether it is another text.
-#[derive(Drop)]
+#[derive(Clone, Copy)]
 pub struct Uninflected {
     pub front: usize,
     pub from: usize,

@@ -14,7 +14,7 @@ use stages::stage::Outcome;
 use writing::put;
 
 // The repair's text, and behind it the word's bytes from place `from` up to `upto`.
-#[derive(Drop)]
+#[derive(Clone, Copy)]
 pub struct Run {
     pub repair: Repair,
     pub from: usize,

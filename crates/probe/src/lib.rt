@@ -1,6 +1,7 @@
 // For the comparison with the Rust: the UTF-8 check's plain runs; the cursor's steps, the record going in and coming out as plain numbers;
 // the suffix stage's part, copied, since no exported call can hand back a slice; and the list of a removed ending's pieces, laid out flat,
 // since none can hand back an enum. No host links this.
+#![tactic(auto)]
 ghost use Rattle.std.specs.Prelude.{◌≡◌, length};
 ghost use Rattle.encoding.specs.PlainRuns.{run_end_of};
 ghost use Rattle.utf8.specs.Steps.{previous_char_of, next_char_of, eq_s_b_of, eq_s_of};
@@ -30,7 +31,7 @@ pub extern "C" fn probe_run_end(w: &[u8], from: usize) -> usize
 
 // A step's answer, laid out flat; ch is 0 for a literal.
 #[repr(C)]
-#[derive(Drop)]
+#[derive(Clone, Copy)]
 pub struct ProbeStep {
     pub moved: bool,
     pub ch: u32,
@@ -144,7 +145,7 @@ pub extern "C" fn probe_stage_part(w: &[u8], out: &mut [u8]) -> usize
 // The list of a removed ending's pieces, laid out flat: kinds by number; joinings 0 for none, 1 with a y, 2 after a vowel and one
 // character. Entries that are not used are laid out as they are.
 #[repr(C)]
-#[derive(Drop)]
+#[derive(Clone, Copy)]
 pub struct ProbeRemoved {
     pub refusal: u32,
     pub length: usize,

@@ -16,7 +16,7 @@ use vowels::vowel::{Sound, Vowel};
 use vowels::walk;
 
 // A text as the first `keep` bytes of a word and `more` bytes after them, none, `a`, or `a` and `b`; and the postlude's answer.
-#[derive(Drop)]
+#[derive(Clone, Copy)]
 pub struct Repair {
     pub keep: usize,
     pub more: usize,

@@ -22,7 +22,7 @@ use utf8::cursor::Cursor;
 
 // The place before which the text kept stands, whether an ending was removed, and the flag; whether a mark kept tests harmony, for the first
 // that does the places of the two vowels, and whether a vowel was skipped between them; and the marks kept.
-#[derive(Drop)]
+#[derive(Clone, Copy)]
 pub struct Outcome {
     pub kept: usize,
     pub yes: bool,

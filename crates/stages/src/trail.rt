@@ -7,7 +7,7 @@ use utf8::cursor::Cursor;
 use vowels::harmony::Accord;
 
 // A mark kept: its number, and the place at which it begins; both 0 where there is none.
-#[derive(Drop)]
+#[derive(Clone, Copy)]
 pub struct Stop {
     pub kind: u32,
     pub at: usize,
@@ -18,7 +18,7 @@ impl Stop {
 }
 
 // The first of them ends at the word's end, each further one where the one before it begins.
-#[derive(Drop)]
+#[derive(Clone, Copy)]
 pub struct Trail {
     pub first: Stop,
     pub second: Stop,
@@ -47,7 +47,7 @@ impl Trail {
 }
 
 // What a branch keeps on its way: its marks, and what the first of them found that tests harmony.
-#[derive(Drop)]
+#[derive(Clone, Copy)]
 pub struct Way {
     pub trail: Trail,
     pub heard: Accord,
@@ -73,7 +73,7 @@ impl Way {
 }
 
 // A branch's answer: the record after it and what it keeps, or that it does not fit.
-#[derive(Drop)]
+#[derive(Clone, Copy)]
 pub enum Branch {
     Fits(Cursor, Way),
     Unfit,

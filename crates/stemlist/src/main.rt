@@ -1,6 +1,7 @@
 // stemlist [--fold] [--] [FILE ...]: reads words, one a line, from the files named or from standard input, and writes a line for each
 // (document 01, "stemlist"). The lines are made by the proved library `listing`; here arguments are taken, and blocks are read, handed
 // over and written, in fixed memory.
+#![tactic(auto)]
 ghost use Rattle.std.specs.Prelude.{◌≡◌, true, ◌≤◌, length, take};
 ghost use Rattle.writing.specs.Put.{put};
 ghost use Rattle.lines.specs.Room.{line_room};
@@ -10,7 +11,7 @@ use libc::{STDERR_FILENO, STDIN_FILENO, STDOUT_FILENO};
 use listing::feed;
 
 // Whether all was written, and how many bytes of the line are held.
-#[derive(Drop)]
+#[derive(Clone, Copy)]
 struct Drained {
     ok: bool,
     held: usize,

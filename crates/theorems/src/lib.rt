@@ -1,1 +1,2 @@
 // No code: the stages in a simpler form stand in specs/, and the theorems in proofs/.
+#![tactic(auto)]

@@ -2,7 +2,7 @@
 
 // The syllable check: two or more vowels.
 #[repr(C)]
-#[derive(Drop)]
+#[derive(Clone, Copy)]
 pub struct SyllableAnswer {
     pub refusal: u32,
     pub yes: bool,
@@ -12,7 +12,7 @@ pub struct SyllableAnswer {
 // a piece of the ending tests harmony, and for the first that does the offsets at which the last vowel and its nearest partner start, and
 // whether a vowel stands between them: a loan candidate. 0 and no where none does.
 #[repr(C)]
-#[derive(Drop)]
+#[derive(Clone, Copy)]
 pub struct StageAnswer {
     pub refusal: u32,
     pub length: usize,
@@ -26,7 +26,7 @@ pub struct StageAnswer {
 
 // The postlude: its text's length, and no where the word is reserved.
 #[repr(C)]
-#[derive(Drop)]
+#[derive(Clone, Copy)]
 pub struct PostludeAnswer {
     pub refusal: u32,
     pub length: usize,
@@ -35,7 +35,7 @@ pub struct PostludeAnswer {
 
 // The fold: its text's length.
 #[repr(C)]
-#[derive(Drop)]
+#[derive(Clone, Copy)]
 pub struct FoldAnswer {
     pub refusal: u32,
     pub length: usize,
@@ -43,7 +43,7 @@ pub struct FoldAnswer {
 
 // The word pass: its text's length, the syllable answer, the stage's answer and the flag.
 #[repr(C)]
-#[derive(Drop)]
+#[derive(Clone, Copy)]
 pub struct PassAnswer {
     pub refusal: u32,
     pub length: usize,
@@ -54,7 +54,7 @@ pub struct PassAnswer {
 
 // The noun stage: its text's length, and whether it is another text.
 #[repr(C)]
-#[derive(Drop)]
+#[derive(Clone, Copy)]
 pub struct NounAnswer {
     pub refusal: u32,
     pub length: usize,
@@ -63,7 +63,7 @@ pub struct NounAnswer {
 
 // The whole run: its text's length.
 #[repr(C)]
-#[derive(Drop)]
+#[derive(Clone, Copy)]
 pub struct WholeAnswer {
     pub refusal: u32,
     pub length: usize,
@@ -71,7 +71,7 @@ pub struct WholeAnswer {
 
 // The pieces of the removed ending: the kept text's length, and how many pieces the buffer holds.
 #[repr(C)]
-#[derive(Drop)]
+#[derive(Clone, Copy)]
 pub struct PiecesAnswer {
     pub refusal: u32,
     pub length: usize,
@@ -80,7 +80,7 @@ pub struct PiecesAnswer {
 
 // The pieces as lines: the length of their text.
 #[repr(C)]
-#[derive(Drop)]
+#[derive(Clone, Copy)]
 pub struct PiecesTextAnswer {
     pub refusal: u32,
     pub length: usize,
@@ -88,7 +88,7 @@ pub struct PiecesTextAnswer {
 
 // The batch: how many tails were answered.
 #[repr(C)]
-#[derive(Drop)]
+#[derive(Clone, Copy)]
 pub struct BatchAnswer {
     pub refusal: u32,
     pub count: usize,

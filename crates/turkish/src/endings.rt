@@ -2,14 +2,14 @@
 // values for each case.
 
 // How a piece joined: with a y, or after a vowel and one character.
-#[derive(Drop)]
+#[derive(Clone, Copy)]
 pub enum Joining {
     WithY,
     AfterVowel,
 }
 
 // The twelve marks, in the order of document 01's mark tables with yken last; six of them tell how they joined.
-#[derive(Drop)]
+#[derive(Clone, Copy)]
 pub enum Kind {
     YUm(Joining),
     SUn,
@@ -26,7 +26,7 @@ pub enum Kind {
 }
 
 // A piece: its kind, and the offsets of its first and its last byte in the word.
-#[derive(Drop)]
+#[derive(Clone, Copy)]
 pub struct Piece {
     pub kind: Kind,
     pub first: usize,
@@ -44,7 +44,7 @@ impl Piece {
 
 // What the suffix stage removed: the kept text's length in bytes, and so many pieces; entries past them are UNUSED. A refused call has
 // its number and no pieces.
-#[derive(Drop)]
+#[derive(Clone, Copy)]
 pub struct Removed {
     pub refusal: u32,
     pub length: usize,

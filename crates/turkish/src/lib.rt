@@ -1,4 +1,5 @@
 // What the calls answer. The meaning of the stages stands in specs/.
+#![tactic(auto)]
 pub mod answer;
 pub mod endings;
 pub mod summary;

@@ -2,7 +2,7 @@
 
 // The last vowel's number, from 1 in the order of turkish.sbl's `vowel`, 0 where there is none; and how often each of the eight stands
 // before it.
-#[derive(Drop)]
+#[derive(Clone, Copy)]
 pub struct Summary {
     pub last: usize,
     pub counts: [usize; 8],

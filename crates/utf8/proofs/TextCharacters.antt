@@ -1,7 +1,7 @@
 -- The characters of a text, seen from the end and from the start of one of them; and what stands before a place in a text.
 -- Assumes nothing.
 use Prim.Native.Nat.{ℕ, zero, suc, ◌+◌, ◌-◌, ◌<◌}
-use mathlib.Core.Path.{◌≡◌, refl, sym, ap, ◌∙◌}
+use mathlib.Core.Path.{◌≡◌, refl, sym, ap, ◌∙◌, subst}
 use mathlib.Core.Bool.{true, false, ◌&&◌, and_assoc}
 use mathlib.Core.List.{List, [], ◌∷◌, ◌++◌, reverse, append_assoc, append-nil, reverse-cons, reverse-reverse}
 use native.Mathlib.Omega.{arith}
@@ -151,8 +151,14 @@ unfolding back encode_all
 take-back-reverse cs q zero h = rw take-append_seam
 take-back-reverse [] q (suc n) h = ap (λ (k : ℕ). take k q) (back-zero q (suc n))
 take-back-reverse (c ∷ cs) q (suc n) h =
-    rw (encode_all-reverse, last_start-encoded (encode_all (reverse cs)) q c, append_assoc)
-    (take-back-reverse cs (encode c ++ q) n (scalars-tail c cs h))
+    let f : List ℕ = encode_all (reverse cs) in
+    let y : List ℕ = f ++ (encode c ++ q) in
+    let there : List ℕ → ℕ → Type 0 = λ x k. take (back x k n) x ≡ encode_all (reverse (drop n cs)) in
+    let whole : (f ++ encode c) ++ q ≡ y = append_assoc f (encode c) q in
+    let near : there ((f ++ encode c) ++ q) (length (f ++ encode c) - last_width_of ((f ++ encode c) ++ q) (length (f ++ encode c))) =
+    subst (there ((f ++ encode c) ++ q)) (sym (last_start-encoded f q c))
+    (subst (λ (x : List ℕ). there x (length f)) (sym whole) (take-back-reverse cs (encode c ++ q) n (scalars-tail c cs h))) in
+    subst (λ (x : List ℕ). take (back (x ++ q) (length x) (suc n)) (x ++ q) ≡ encode_all (reverse (drop n cs))) (sym (encode_all-reverse c cs)) near
 
 -- scalar values reversed are scalar values
 pub scalars-reverse : (cs : List ℕ) → scalars cs ≡ true → scalars (reverse cs) ≡ true

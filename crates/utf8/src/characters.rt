@@ -122,7 +122,7 @@ pub fn char_at(w: &[u8], i: usize, n: usize) -> u32
 }
 
 // A character and the place where it begins.
-#[derive(Drop)]
+#[derive(Clone, Copy)]
 pub struct Read {
     pub ch: u32,
     pub at: usize,

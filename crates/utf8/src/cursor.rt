@@ -3,7 +3,7 @@ ghost use Rattle.std.specs.Prelude.{◌≡◌};
 ghost use Rattle.utf8.specs.Steps.{stands, move_to};
 ghost use Rattle.utf8.specs.Behind.{deleted};
 
-#[derive(Drop)]
+#[derive(Clone, Copy)]
 pub struct Cursor {
     pub cursor: usize,
     pub limit: usize,

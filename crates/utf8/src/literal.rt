@@ -5,7 +5,7 @@ ghost use Rattle.utf8.specs.Steps.{stands_at_of, not_passed_of, eq_s_b_of, eq_s_
 use crate::cursor::Cursor;
 
 // Whether the cursor moved, and the record after the step.
-#[derive(Drop)]
+#[derive(Clone, Copy)]
 pub struct Literal {
     pub moved: bool,
     pub next: Cursor,

@@ -6,7 +6,7 @@ use crate::characters;
 use crate::cursor::Cursor;
 
 // Whether the cursor moved, the character that it passed (0 where it did not), and the record after the step.
-#[derive(Drop)]
+#[derive(Clone, Copy)]
 pub struct Step {
     pub moved: bool,
     pub ch: u32,

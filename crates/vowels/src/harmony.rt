@@ -9,7 +9,7 @@ use utf8::cursor::Cursor;
 
 // What is known of harmony before a cursor: its answer, and where that is yes the places at which the last vowel and its nearest partner
 // start. The answer is one number: flags beside the places would be copied by moves that overlap.
-#[derive(Drop)]
+#[derive(Clone, Copy)]
 pub struct Accord {
     pub last: usize,
     pub partner: usize,

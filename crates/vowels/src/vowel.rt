@@ -5,7 +5,7 @@ ghost use Rattle.vowels.specs.Sounds.{sound_of, sound_numbered, partners, encode
 
 // A vowel: its own code point, its number, from 1 in the order of turkish.sbl's `vowel`, and its partners, up to four code points; where there
 // are fewer, the last is named again.
-#[derive(Drop)]
+#[derive(Clone, Copy)]
 pub struct Vowel {
     pub ch: u32,
     pub number: usize,
@@ -16,14 +16,14 @@ pub struct Vowel {
 }
 
 // What a character is to harmony.
-#[derive(Drop)]
+#[derive(Clone, Copy)]
 pub enum Sound {
     AVowel(Vowel),
     NoVowel,
 }
 
 // A vowel in UTF-8: the first n of these bytes. Behind one byte stands a zero.
-#[derive(Drop)]
+#[derive(Clone, Copy)]
 pub struct Encoded {
     pub bytes: [u8; 2],
     pub n: usize,

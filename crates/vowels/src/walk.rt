@@ -6,7 +6,7 @@ use crate::vowel;
 use utf8::characters;
 
 // A vowel and the place at which it starts; both 0 where there is none.
-#[derive(Drop)]
+#[derive(Clone, Copy)]
 pub struct LastVowel {
     pub ch: u32,
     pub at: usize,

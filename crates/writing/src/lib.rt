@@ -1,2 +1,3 @@
 // Bytes written at a place of a lent output.
+#![tactic(auto)]
 pub mod put;

@@ -1,0 +1,10 @@
+-- `encoding::plain::is_plain` meets its contract: the top bits of the joined bytes tell whether they are plain. Assumes nothing.
+use native.Mathlib.Omega.{arith}
+use Rattle.encoding.proofs.Laws.PlainRuns.{word-plain}
+use borrow.Author.Rules.{rules}
+use Rattle.encoding.proofs.plain.is_plain.Goals as goal
+
+pub returns : goal.returns
+returns c =
+    word-plain c.args.w.now c.args.i c.join.result (λ j. omega (arith, c.type_inv.w j)) c.requires
+    c.join.ensures
