@@ -61,7 +61,7 @@ spelled-entries w [] = refl
 spelled-entries w (p ∷ ps) = rw (spelled-entries w ps)
 
 -- what does not stand among these does not stand among one entry's
-without-spelled_by : (b : ℕ) {es : List Entry} {e : Entry} → Memᴰ e es → without b (spelled_by es) ≡ true → without b e.letters ≡ true
+without-spelled_by : (b : ℕ) {e : Entry} {es : List Entry} → Memᴰ e es → without b (spelled_by es) ≡ true → without b e.letters ≡ true
 unfolding spelled_by
 without-spelled_by b (Memᴰ.head {x} {xs} p) h = rw p (and_right (without b (spelled_by xs)) (without b x.letters) (rw without-append at h))
 without-spelled_by b (Memᴰ.tail {x} {xs} m) h =

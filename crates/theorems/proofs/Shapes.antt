@@ -94,7 +94,7 @@ data Shaped (ss : List (List ℕ)) : Trace → Type 0 where
   fits : {ts : List Taken} {f : Bool} → Memᴰ (kinds_of ts) ss → Shaped ss (keeps ts f)
 
 -- a sequence of one list followed by one of another is among them
-mem-crossed : {xs ys : List (List ℕ)} {a b : List ℕ} → Memᴰ a xs → Memᴰ b ys → Memᴰ (a ++ b) (crossed xs ys)
+mem-crossed : {a : List ℕ} {xs ys : List (List ℕ)} {b : List ℕ} → Memᴰ a xs → Memᴰ b ys → Memᴰ (a ++ b) (crossed xs ys)
 unfolding crossed
 mem-crossed {ys} {b} (Memᴰ.head {x} {xs} e) n =
     Memᴰ.append_left (crossed xs ys) (Memᴰ.cast (ap (λ (l : List ℕ). l ++ b) e) (Memᴰ.map (λ y. x ++ y) n))

@@ -73,7 +73,7 @@ neither-ends : (cs j : List ℕ) {ks : List (List ℕ)} {k : List ℕ} → every
 neither-ends cs j {k} t m a b = true≢false (sym (every-at (neither j) t m) ∙ neither-both j k cs a b)
 
 -- and where no key is the tail of another, at most one ends a text
-apart-one : (cs : List ℕ) {ks : List (List ℕ)} {j k : List ℕ} → apart ks ≡ true → Memᴰ j ks → Memᴰ k ks
+apart-one : (cs : List ℕ) {j k : List ℕ} {ks : List (List ℕ)} → apart ks ≡ true → Memᴰ j ks → Memᴰ k ks
     → starts j cs ≡ true → starts k cs ≡ true → j ≡ k
 unfolding apart
 apart-one cs t (Memᴰ.head p) (Memᴰ.head q) a b = p ∙ sym q
@@ -100,7 +100,7 @@ table-whole : {t : Table} → Memᴰ t tables → whole t.width t.keys ≡ true
 table-whole t = (table-passes t).0
 
 -- and each key of it alone has not
-whole-key : (width : ℕ) {ks : List (List ℕ)} {k : List ℕ} → whole width ks ≡ true → Memᴰ k ks → (length k ≤ width) × (nonzero k ≡ true)
+whole-key : (width : ℕ) {k : List ℕ} {ks : List (List ℕ)} → whole width ks ≡ true → Memᴰ k ks → (length k ≤ width) × (nonzero k ≡ true)
 unfolding whole
 whole-key width {k} e (Memᴰ.head {x} {xs} p) =
     let a = and-each (leb (length x) width) (nonzero x) (whole width xs) e in

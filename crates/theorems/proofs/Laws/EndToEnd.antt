@@ -38,6 +38,7 @@ end_to_end-le (onward p a b r) = omega (arith, end_to_end-le r)
 
 -- each lies between the ends, and has a byte
 pub end_to_end-within : {m n : ℕ} {p : Span} {ps : List Span} → EndToEnd n ps m → Memᴰ p ps → (m ≤ p.first) × (p.first ≤ p.last) × (p.last < n)
+end_to_end-within {p = p} (empty {n = n}) x5 = elim x5 [ ]
 end_to_end-within (onward q a b r) (Memᴰ.head e) = rw e (end_to_end-le r, a, omega arith)
 end_to_end-within (onward q a b r) (Memᴰ.tail i) = let x = end_to_end-within r i in (x.0, x.1, omega arith)
 

@@ -37,7 +37,7 @@ module _ {A : Type 0} where
   every f (x ∷ xs) = f x && every f xs
 
   -- so each does
-  pub every-at : (f : A → Bool) {xs : List A} {x : A} → every f xs ≡ true → Memᴰ x xs → f x ≡ true
+  pub every-at : (f : A → Bool) {x : A} {xs : List A} → every f xs ≡ true → Memᴰ x xs → f x ≡ true
   unfolding every
   every-at f e (Memᴰ.head {x} {xs} p) = ap f p ∙ and_left (f x) (every f xs) e
   every-at f e (Memᴰ.tail {x} {xs} m) = every-at f (and_right (f x) (every f xs) e) m

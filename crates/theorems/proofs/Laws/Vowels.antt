@@ -23,7 +23,7 @@ any-member t (c ∷ cs) h =
     [ true ↦ λ e h. (c, Memᴰ.head refl, e) | false ↦ λ e h. let r = any-member t cs h in (r.0, Memᴰ.tail r.1, r.2) ]) refl h
 
 -- and where one of them does, some character passes it
-member-any : (t : ℕ → Bool) {cs : List ℕ} {c : ℕ} → Memᴰ c cs → t c ≡ true → any t cs ≡ true
+member-any : (t : ℕ → Bool) {c : ℕ} {cs : List ℕ} → Memᴰ c cs → t c ≡ true → any t cs ≡ true
 unfolding any
 member-any t (Memᴰ.head e) h = rw (← e, h)
 member-any t (Memᴰ.tail {x} m) h = rw (member-any t m h) (or-true (t x))

@@ -30,18 +30,20 @@ use Rattle.theorems.proofs.Source.NounChain.{opened-alone, tries-plural, opened-
 
 -- ---- alternatives that cut at the end ----
 
+-- what failed once fails again
+first-again : (o u : Out) → first o (first u o) ≡ first o u
+unfolding first
+first-again fail u = first-fail u
+first-again (took k b) u = refl
+
 -- what follows lAr at line 398: the chain that failed before (398) fails again (402)
 again-same : (cs : List ℕ)
     → either (both (mark_of lAr) (perhaps (either chain (either (owned chain) chain)))) (either (owned chain) chain) cs
     ≡ either (both (mark_of lAr) (perhaps (either chain (owned chain)))) (either (owned chain) chain) cs
 again-same cs = (alike-either {n = length cs} (alike_both (mark_of lAr) (alike-perhaps twice)) same).alike cs (omega arith)
   where
-    go : (o u : Out) → first o (first u o) ≡ first o u
-    go fail u = unfold first in first-fail u
-    go (took k b) u = unfold first in refl
-
     twice : {n : ℕ} → Alike n (either chain (either (owned chain) chain)) (either chain (owned chain))
-    twice = record { alike = λ ds h. unfold either in go (chain ds) (owned chain ds) }
+    twice = record { alike = λ ds h. unfold either in first-again (chain ds) (owned chain ds) }
 
 module _ {self : State → Result} where
   -- the chain, where it is called
