@@ -1,0 +1,16 @@
+-- `letters::walk::last_vowel` meets its contract. The walk's invariant: what is left to walk has the last vowel of all of it. The
+-- measure is the place. Assumes nothing.
+use Prim.Native.Nat.{◌≤◌}
+use mathlib.Core.Path.{◌≡◌, refl, sym, ◌∙◌}
+use native.Mathlib.Omega.{arith}
+use borrow.Author.Rules.{rules}
+use Rattle.vowels.specs.LastVowel.{last_vowel_answer}
+use Rattle.vowels.proofs.Laws.Walk.{last_width_of-bounds, before-char_at}
+use Rattle.vowels.proofs.Laws.LastVowel.{last_vowel_answer-skips, last_vowel_answer-stops, last_vowel_answer-none}
+use Rattle.vowels.proofs.walk.last_vowel.Given as goal
+
+abbrev pub invariant-gopast : goal.invariant-gopast
+invariant-gopast l = (l.at ≤ l.c) × (last_vowel_answer l.w l.at ≡ last_vowel_answer l.w l.c)
+
+abbrev pub decreases-gopast : goal.decreases-gopast
+decreases-gopast l = l.at
