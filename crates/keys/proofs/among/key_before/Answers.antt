@@ -14,10 +14,6 @@ use Rattle.keys.specs.Passed.{not_passed_of}
 use Rattle.keys.proofs.Laws.KeyBefore.{letters-differ, letters-none, letters-one, letters-two, letters-three, letters-left, open-three}
 use Rattle.keys.proofs.among.key_before.Goals as goal
 
--- the start, from where the rest of the key is asked for
-abbrev start : tie.After-moved-to → tie.Start
-start c = let e = c.before.before.before.before.before.before in e.before.before.before.before.before.before
-
 pub returns-then-not-ends_in : goal.returns-then-not-ends_in
 unfolding not_passed_of
 returns-then-not-ends_in c =
@@ -63,14 +59,13 @@ returns-then-width-le3 c =
     c.if-b-eq0.false c.if-d-eq0.false c.if-width-le3.true
 
 pub overflow_add-base : goal.overflow_add-base
-overflow_add-base c = let s = start c in omega (arith, s.good, s.pre)
+overflow_add-base c = omega (arith, c.ranges, c.requires)
 
 pub overflow_add-base-2 : goal.overflow_add-base-2
-overflow_add-base-2 c = let s = start c in omega (arith, s.good, s.pre)
+overflow_add-base-2 c = omega (arith, c.ranges, c.requires)
 
 pub key_rest-requires : goal.key_rest-requires
-key_rest-requires c = let s = start c in
-    record { fact = subst (Open _) (sym c.moved_to.ensures) (open-three _ s.args.s s.pre.0); from_le_upto = omega arith; upto_in_bounds = omega (arith, s.pre.1.1) }
+key_rest-requires c = record { fact = subst (Open _) (sym c.moved_to.ensures) (open-three _ c.args.s c.requires.sees); from_le_upto = omega arith; upto_in_bounds = omega (arith, c.requires.width_in_bounds) }
 
 pub returns : goal.returns
 returns c =
