@@ -10,8 +10,7 @@ use Rattle.keys.specs.Keys.{up_to_zero, row, rows_within, rows}
 use Rattle.keys.specs.Search.{found}
 use Rattle.keys.proofs.Laws.Ends.{last_passes, begins}
 use Rattle.marks.proofs.Laws.Marks.{mark-unfit, mark-nothing, mark-kept, key-alone}
-use Rattle.marks.proofs.mark.mark_sUnUz.Statement.{statement}
-use Rattle.marks.proofs.mark.mark_sUnUz.Tie as tie
+use Rattle.marks.proofs.mark.mark_sUnUz.Goals as goal
 
 -- the table computes to the mark's keys
 searched : (c : tie.After-find-among-b)
@@ -19,22 +18,16 @@ searched : (c : tie.After-find-among-b)
 unfolding rows rows_within row up_to_zero sUnUz marked from_end text
 searched c = c.find-among-b.ensures
 
-returns : tie.Need-returns
+pub returns-then-s-ne122 : goal.returns-then-s-ne122
 unfolding begins every last_passes sUnUz marked from_end text
-returns c = let s = c.before.before.before in mark-unfit sUnUz (λ a. eqb a 0x7A) refl _ s.args.s s.requires (ne_eqb _ 0x7A c.if1.true)
+returns-then-s-ne122 c = mark-unfit sUnUz (λ a. eqb a 0x7A) refl _ c.args.s c.requires (ne_eqb _ 0x7A c.if-s-ne122.true)
 
-returns-2 : tie.Need-returns-2
-returns-2 c = mark-nothing sUnUz sUnUz.keys _ _ refl (searched c.before.before) c.enum_told.given.1
+pub returns-in_default : goal.returns-in_default
+returns-in_default c = mark-nothing sUnUz sUnUz.keys _ _ refl (searched c) c.in_default.is
 
-returns-3 : tie.Need-returns-3
+pub returns : goal.returns
 unfolding unjoined sUnUz marked
-returns-3 c =
-    let p = key-alone sUnUz sUnUz.keys _ _ refl (searched c.before.before.before.before.before)
-    c.before.before.before.d.given.1 refl c.before.to.ensures in
+returns c =
+    let p = key-alone sUnUz sUnUz.keys _ _ refl (searched c)
+    c.in-Key.is refl c.to.ensures in
     mark-kept sUnUz _ _ p refl c.kept.ensures
-
-pub mark-sUnUz-spec : {M : Type 1} → statement M
-mark-sUnUz-spec =
-    tie.close
-    (tie.spec returns (λ c. search rules) (λ c κs. search rules) (λ c. search rules) (λ c. search rules) returns-2 (λ c κs. search rules)
-    (λ c κs. search rules) returns-3)

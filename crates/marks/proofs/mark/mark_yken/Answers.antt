@@ -9,16 +9,12 @@ use Rattle.theorems.specs.Simple.Marks.{marked, yken}
 use Rattle.theorems.proofs.Laws.Tests.{every}
 use Rattle.keys.proofs.Laws.Ends.{last_passes, begins}
 use Rattle.marks.proofs.Laws.Marks.{keyed, mark-unfit, mark-kept}
-use Rattle.marks.proofs.mark.mark_yken.Statement.{statement}
-use Rattle.marks.proofs.mark.mark_yken.Tie as tie
+use Rattle.marks.proofs.mark.mark_yken.Goals as goal
 
-returns : tie.Need-returns
+pub returns-then-s-ne110 : goal.returns-then-s-ne110
 unfolding begins every last_passes yken marked from_end text
-returns c = let s = c.before.before.before in mark-unfit yken (λ a. eqb a 0x6E) refl _ s.args.s s.requires (ne_eqb _ 0x6E c.if1.true)
+returns-then-s-ne110 c = mark-unfit yken (λ a. eqb a 0x6E) refl _ c.args.s c.requires (ne_eqb _ 0x6E c.if-s-ne110.true)
 
-returns-2 : tie.Need-returns-2
+pub returns : goal.returns
 unfolding mark_of asking keyed yken marked
-returns-2 c = mark-kept yken _ _ c.before.back-over-yken.ensures refl c.kept.ensures
-
-pub mark-yken-spec : {M : Type 1} → statement M
-mark-yken-spec = tie.close (tie.spec returns (λ c κs. search rules) (λ c κs. search rules) returns-2)
+returns c = mark-kept yken _ _ c.back_over_yken.ensures refl c.kept.ensures

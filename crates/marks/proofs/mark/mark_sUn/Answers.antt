@@ -10,8 +10,7 @@ use Rattle.keys.specs.Keys.{up_to_zero, row, rows_within, rows}
 use Rattle.keys.specs.Search.{found}
 use Rattle.keys.proofs.Laws.Ends.{last_passes, begins}
 use Rattle.marks.proofs.Laws.Marks.{mark-unfit, mark-nothing, mark-in-harmony, key-alone}
-use Rattle.marks.proofs.mark.mark_sUn.Statement.{statement}
-use Rattle.marks.proofs.mark.mark_sUn.Tie as tie
+use Rattle.marks.proofs.mark.mark_sUn.Goals as goal
 
 -- the table computes to the mark's keys
 searched : (c : tie.After-find-among-b)
@@ -19,20 +18,15 @@ searched : (c : tie.After-find-among-b)
 unfolding rows rows_within row up_to_zero sUn marked from_end text
 searched c = c.find-among-b.ensures
 
-returns : tie.Need-returns
+pub returns-then-s-ne110 : goal.returns-then-s-ne110
 unfolding begins every last_passes sUn marked from_end text
-returns c = let s = c.before.before.before in mark-unfit sUn (λ a. eqb a 0x6E) refl _ s.args.s s.requires (ne_eqb _ 0x6E c.if1.true)
+returns-then-s-ne110 c = mark-unfit sUn (λ a. eqb a 0x6E) refl _ c.args.s c.requires (ne_eqb _ 0x6E c.if-s-ne110.true)
 
-returns-2 : tie.Need-returns-2
-returns-2 c = mark-nothing sUn sUn.keys _ _ refl (searched c.before.before) c.enum_told.given.1
+pub returns-in_default : goal.returns-in_default
+returns-in_default c = mark-nothing sUn sUn.keys _ _ refl (searched c) c.in_default.is
 
-returns-3 : tie.Need-returns-3
+pub returns : goal.returns
 unfolding unjoined sUn marked
-returns-3 c =
-    let p = key-alone sUn sUn.keys _ _ refl (searched c.before.before.before.before) c.before.before.d.given.1 refl refl in
-    mark-in-harmony sUn _ _ p refl c.in-harmony.ensures
-
-pub mark-sUn-spec : {M : Type 1} → statement M
-mark-sUn-spec =
-    tie.close
-    (tie.spec returns (λ c. search rules) (λ c κs. search rules) (λ c. search rules) (λ c. search rules) returns-2 (λ c κs. search rules) returns-3)
+returns c =
+    let p = key-alone sUn sUn.keys _ _ refl (searched c) c.in-Key.is refl refl in
+    mark-in-harmony sUn _ _ p refl c.in_harmony.ensures

@@ -10,8 +10,7 @@ use Rattle.keys.specs.Keys.{up_to_zero, row, rows_within, rows}
 use Rattle.keys.specs.Search.{found}
 use Rattle.keys.proofs.Laws.Ends.{last_passes, begins}
 use Rattle.marks.proofs.Laws.Marks.{mark-unfit, mark-nothing, mark-kept, key-alone}
-use Rattle.marks.proofs.mark.mark_cAsInA.Statement.{statement}
-use Rattle.marks.proofs.mark.mark_cAsInA.Tie as tie
+use Rattle.marks.proofs.mark.mark_cAsInA.Goals as goal
 
 -- the table computes to the mark's keys
 searched : (c : tie.After-find-among-b)
@@ -19,22 +18,16 @@ searched : (c : tie.After-find-among-b)
 unfolding rows rows_within row up_to_zero cAsInA marked from_end text
 searched c = c.find-among-b.ensures
 
-returns : tie.Need-returns
+pub returns-then-not-is_A : goal.returns-then-not-is_A
 unfolding begins every last_passes cAsInA marked from_end text is_a
-returns c = let s = c.before.before.before in mark-unfit cAsInA is_a refl _ s.args.s s.requires (sym c.before.is-A.ensures ∙ not-true _ c.if1.true)
+returns-then-not-is_A c = mark-unfit cAsInA is_a refl _ c.args.s c.requires (sym c.is_A.ensures ∙ not-true _ c.if-not-is_A.true-raw)
 
-returns-2 : tie.Need-returns-2
-returns-2 c = mark-nothing cAsInA cAsInA.keys _ _ refl (searched c.before.before) c.enum_told.given.1
+pub returns-in_default : goal.returns-in_default
+returns-in_default c = mark-nothing cAsInA cAsInA.keys _ _ refl (searched c) c.in_default.is
 
-returns-3 : tie.Need-returns-3
+pub returns : goal.returns
 unfolding unjoined cAsInA marked
-returns-3 c =
-    let p = key-alone cAsInA cAsInA.keys _ _ refl (searched c.before.before.before.before.before)
-    c.before.before.before.d.given.1 refl c.before.to.ensures in
+returns c =
+    let p = key-alone cAsInA cAsInA.keys _ _ refl (searched c)
+    c.in-Key.is refl c.to.ensures in
     mark-kept cAsInA _ _ p refl c.kept.ensures
-
-pub mark-cAsInA-spec : {M : Type 1} → statement M
-mark-cAsInA-spec =
-    tie.close
-    (tie.spec (λ c κs. search rules) returns (λ c. search rules) (λ c κs. search rules) (λ c. search rules) (λ c. search rules) returns-2
-    (λ c κs. search rules) (λ c κs. search rules) returns-3)

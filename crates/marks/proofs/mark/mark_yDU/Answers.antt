@@ -14,8 +14,7 @@ use Rattle.keys.specs.Ends.{ending_in}
 use Rattle.keys.specs.Seen.{Sees}
 use Rattle.keys.proofs.Laws.Ends.{last_passes, among-ending, last-seen}
 use Rattle.marks.proofs.Laws.Marks.{mark-nothing, mark-in-harmony, key-open, key-joined}
-use Rattle.marks.proofs.mark.mark_yDU.Statement.{statement}
-use Rattle.marks.proofs.mark.mark_yDU.Tie as tie
+use Rattle.marks.proofs.mark.mark_yDU.Goals as goal
 
 -- the keys that end in the last letter are enough
 enough : (w : List ℕ) (s : Seen) → Sees w s → among (ending_in s.last yDU.keys) (behind w s.c) ≡ among yDU.keys (behind w s.c)
@@ -24,30 +23,17 @@ enough w s sees =
     let cs = behind w s.c in
     ap (λ (a : ℕ). among (ending_in a yDU.keys) cs) (last-seen w s sees) ∙ among-ending yDU.keys cs refl
 
-returns : tie.Need-returns
-returns c =
-    let f = c.before.before in
-    let s = f.before.before in
-    mark-nothing yDU _ _ _ (enough _ s.args.s s.requires) f.find-yDU.ensures c.enum_told.given.1
+pub returns-in_default : goal.returns-in_default
+returns-in_default c =
+    mark-nothing yDU _ _ _ (enough _ c.args.s c.requires) c.find_yDU.ensures c.in_default.is
 
-mark-suffix-with-optional-consonant-requires : tie.Need-mark-suffix-with-optional-consonant-requires
-mark-suffix-with-optional-consonant-requires c κs =
-    let f = c.before.before.before in
-    let s = f.before.before in
-    key-open yDU _ _ _ (enough _ s.args.s s.requires) f.find-yDU.ensures c.before.d.given.1 s.requires.opens
+pub mark_suffix_with_optional_consonant-p-requires : goal.mark_suffix_with_optional_consonant-p-requires
+mark_suffix_with_optional_consonant-p-requires c =
+    key-open yDU _ _ _ (enough _ c.args.s c.requires) c.find_yDU.ensures c.in-Key.is c.requires.opens
 
-returns-2 : tie.Need-returns-2
+pub returns : goal.returns
 unfolding joining by_y yDU marked text
-returns-2 c =
-    let j = c.before in
-    let f = j.before.before.before.before in
-    let s = f.before.before in
-    let p = key-joined yDU _ _ _ (enough _ s.args.s s.requires) f.find-yDU.ensures j.before.before.d.given.1
-    j.mark-suffix-with-optional-consonant.ensures in
-    mark-in-harmony yDU _ _ p refl c.kept-in-harmony.ensures
-
-pub mark-yDU-spec : {M : Type 1} → statement M
-mark-yDU-spec =
-    tie.close
-    (tie.spec (λ c κs. search rules) (λ c. search rules) (λ c. search rules) returns mark-suffix-with-optional-consonant-requires
-    (λ c κs. search rules) returns-2)
+returns c =
+    let p = key-joined yDU _ _ _ (enough _ c.args.s c.requires) c.find_yDU.ensures c.in-Key.is
+    c.mark_suffix_with_optional_consonant-p.ensures in
+    mark-in-harmony yDU _ _ p refl c.kept_in_harmony.ensures
