@@ -12,21 +12,21 @@ use Rattle.keys.proofs.Laws.Ends.{last_passes, begins}
 use Rattle.marks.proofs.Laws.Marks.{mark-unfit, mark-nothing, mark-in-harmony, key-alone}
 use Rattle.marks.proofs.mark.mark_DUr.Goals as goal
 
--- the table computes to the mark's keys
-searched : (c : tie.After-find-among-b)
-    → let s = c.before.before.before.before.before in c.find-among-b.result ≡ found DUr.keys s.args.w.now s.args.s.c
-unfolding rows rows_within row up_to_zero DUr marked from_end text
-searched c = c.find-among-b.ensures
-
 pub returns-then-s-ne114 : goal.returns-then-s-ne114
 unfolding begins every last_passes DUr marked from_end text
 returns-then-s-ne114 c = mark-unfit DUr (λ a. eqb a 0x72) refl _ c.args.s c.requires (ne_eqb _ 0x72 c.if-s-ne114.true)
 
 pub returns-in_default : goal.returns-in_default
-returns-in_default c = mark-nothing DUr DUr.keys _ _ refl (searched c) c.in_default.is
+unfolding rows rows_within row up_to_zero DUr marked from_end text
+returns-in_default c =
+    let searched : c.find_among_b.result ≡ found DUr.keys c.args.w.now c.args.s.c =
+    c.find_among_b.ensures in
+    mark-nothing DUr DUr.keys _ _ refl (searched) c.in_default.is
 
 pub returns : goal.returns
-unfolding unjoined DUr marked
+unfolding unjoined DUr marked rows rows_within row up_to_zero from_end text
 returns c =
-    let p = key-alone DUr DUr.keys _ _ refl (searched c) c.in-Key.is refl refl in
+    let searched : c.find_among_b.result ≡ found DUr.keys c.args.w.now c.args.s.c =
+    c.find_among_b.ensures in
+    let p = key-alone DUr DUr.keys _ _ refl (searched) c.in-Key.is refl refl in
     mark-in-harmony DUr _ _ p refl c.in_harmony.ensures

@@ -12,22 +12,22 @@ use Rattle.keys.proofs.Laws.Ends.{last_passes, begins}
 use Rattle.marks.proofs.Laws.Marks.{mark-unfit, mark-nothing, mark-kept, key-alone}
 use Rattle.marks.proofs.mark.mark_cAsInA.Goals as goal
 
--- the table computes to the mark's keys
-searched : (c : tie.After-find-among-b)
-    → let s = c.before.before.before.before.before in c.find-among-b.result ≡ found cAsInA.keys s.args.w.now s.args.s.c
-unfolding rows rows_within row up_to_zero cAsInA marked from_end text
-searched c = c.find-among-b.ensures
-
 pub returns-then-not-is_A : goal.returns-then-not-is_A
 unfolding begins every last_passes cAsInA marked from_end text is_a
 returns-then-not-is_A c = mark-unfit cAsInA is_a refl _ c.args.s c.requires (sym c.is_A.ensures ∙ not-true _ c.if-not-is_A.true-raw)
 
 pub returns-in_default : goal.returns-in_default
-returns-in_default c = mark-nothing cAsInA cAsInA.keys _ _ refl (searched c) c.in_default.is
+unfolding rows rows_within row up_to_zero cAsInA marked from_end text
+returns-in_default c =
+    let searched : c.find_among_b.result ≡ found cAsInA.keys c.args.w.now c.args.s.c =
+    c.find_among_b.ensures in
+    mark-nothing cAsInA cAsInA.keys _ _ refl (searched) c.in_default.is
 
 pub returns : goal.returns
-unfolding unjoined cAsInA marked
+unfolding unjoined cAsInA marked rows rows_within row up_to_zero from_end text
 returns c =
-    let p = key-alone cAsInA cAsInA.keys _ _ refl (searched c)
+    let searched : c.find_among_b.result ≡ found cAsInA.keys c.args.w.now c.args.s.c =
+    c.find_among_b.ensures in
+    let p = key-alone cAsInA cAsInA.keys _ _ refl (searched)
     c.in-Key.is refl c.to.ensures in
     mark-kept cAsInA _ _ p refl c.kept.ensures

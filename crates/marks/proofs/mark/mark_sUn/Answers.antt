@@ -12,21 +12,21 @@ use Rattle.keys.proofs.Laws.Ends.{last_passes, begins}
 use Rattle.marks.proofs.Laws.Marks.{mark-unfit, mark-nothing, mark-in-harmony, key-alone}
 use Rattle.marks.proofs.mark.mark_sUn.Goals as goal
 
--- the table computes to the mark's keys
-searched : (c : tie.After-find-among-b)
-    → let s = c.before.before.before.before.before in c.find-among-b.result ≡ found sUn.keys s.args.w.now s.args.s.c
-unfolding rows rows_within row up_to_zero sUn marked from_end text
-searched c = c.find-among-b.ensures
-
 pub returns-then-s-ne110 : goal.returns-then-s-ne110
 unfolding begins every last_passes sUn marked from_end text
 returns-then-s-ne110 c = mark-unfit sUn (λ a. eqb a 0x6E) refl _ c.args.s c.requires (ne_eqb _ 0x6E c.if-s-ne110.true)
 
 pub returns-in_default : goal.returns-in_default
-returns-in_default c = mark-nothing sUn sUn.keys _ _ refl (searched c) c.in_default.is
+unfolding rows rows_within row up_to_zero sUn marked from_end text
+returns-in_default c =
+    let searched : c.find_among_b.result ≡ found sUn.keys c.args.w.now c.args.s.c =
+    c.find_among_b.ensures in
+    mark-nothing sUn sUn.keys _ _ refl (searched) c.in_default.is
 
 pub returns : goal.returns
-unfolding unjoined sUn marked
+unfolding unjoined sUn marked rows rows_within row up_to_zero from_end text
 returns c =
-    let p = key-alone sUn sUn.keys _ _ refl (searched c) c.in-Key.is refl refl in
+    let searched : c.find_among_b.result ≡ found sUn.keys c.args.w.now c.args.s.c =
+    c.find_among_b.ensures in
+    let p = key-alone sUn sUn.keys _ _ refl (searched) c.in-Key.is refl refl in
     mark-in-harmony sUn _ _ p refl c.in_harmony.ensures

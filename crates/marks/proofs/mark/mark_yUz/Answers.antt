@@ -13,26 +13,29 @@ use Rattle.keys.proofs.Laws.Ends.{last_passes, begins}
 use Rattle.marks.proofs.Laws.Marks.{mark-unfit, mark-nothing, mark-in-harmony, key-open, key-joined}
 use Rattle.marks.proofs.mark.mark_yUz.Goals as goal
 
--- the table computes to the mark's keys
-searched : (c : tie.After-find-among-b)
-    → let s = c.before.before.before.before.before in c.find-among-b.result ≡ found yUz.keys s.args.w.now s.args.s.c
-unfolding rows rows_within row up_to_zero yUz marked from_end text
-searched c = c.find-among-b.ensures
-
 pub returns-then-s-ne122 : goal.returns-then-s-ne122
 unfolding begins every last_passes yUz marked from_end text
 returns-then-s-ne122 c = mark-unfit yUz (λ a. eqb a 0x7A) refl _ c.args.s c.requires (ne_eqb _ 0x7A c.if-s-ne122.true)
 
 pub returns-in_default : goal.returns-in_default
-returns-in_default c = mark-nothing yUz yUz.keys _ _ refl (searched c) c.in_default.is
+unfolding rows rows_within row up_to_zero yUz marked from_end text
+returns-in_default c =
+    let searched : c.find_among_b.result ≡ found yUz.keys c.args.w.now c.args.s.c =
+    c.find_among_b.ensures in
+    mark-nothing yUz yUz.keys _ _ refl (searched) c.in_default.is
 
 pub mark_suffix_with_optional_consonant-p-requires : goal.mark_suffix_with_optional_consonant-p-requires
+unfolding rows rows_within row up_to_zero yUz marked from_end text
 mark_suffix_with_optional_consonant-p-requires c =
-    key-open yUz yUz.keys _ _ refl (searched c) c.in-Key.is c.requires.opens
+    let searched : c.find_among_b.result ≡ found yUz.keys c.args.w.now c.args.s.c =
+    c.find_among_b.ensures in
+    key-open yUz yUz.keys _ _ refl (searched) c.in-Key.is c.requires.opens
 
 pub returns : goal.returns
-unfolding joining by_y yUz marked text
+unfolding joining by_y yUz marked text rows rows_within row up_to_zero from_end
 returns c =
-    let p = key-joined yUz yUz.keys _ _ refl (searched c) c.in-Key.is
+    let searched : c.find_among_b.result ≡ found yUz.keys c.args.w.now c.args.s.c =
+    c.find_among_b.ensures in
+    let p = key-joined yUz yUz.keys _ _ refl (searched) c.in-Key.is
     c.mark_suffix_with_optional_consonant-p.ensures in
     mark-in-harmony yUz _ _ p refl c.kept_in_harmony.ensures

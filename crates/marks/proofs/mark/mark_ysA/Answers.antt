@@ -14,27 +14,30 @@ use Rattle.keys.proofs.Laws.Ends.{last_passes, begins}
 use Rattle.marks.proofs.Laws.Marks.{mark-unfit, mark-nothing, mark-kept, key-open, key-joined}
 use Rattle.marks.proofs.mark.mark_ysA.Goals as goal
 
--- the table computes to the mark's keys
-searched : (c : tie.After-find-among-b)
-    → let s = c.before.before.before.before.before.before in c.find-among-b.result ≡ found ysA.keys s.args.w.now s.args.s.c
-unfolding rows rows_within row up_to_zero ysA marked from_end text
-searched c = c.find-among-b.ensures
-
 pub returns-then-not-is_A-is_kmn : goal.returns-then-not-is_A-is_kmn
 unfolding begins every last_passes ysA marked from_end text is_a is_kmn_of
 returns-then-not-is_A-is_kmn c = mark-unfit ysA (λ a. is_a a || is_kmn_of a) refl _ c.args.s c.requires
     (rw (← c.is_A.ensures, ← c.is_kmn.ensures) (not-true _ c.if-not-is_A-is_kmn.true-raw))
 
 pub returns-in_default : goal.returns-in_default
-returns-in_default c = mark-nothing ysA ysA.keys _ _ refl (searched c) c.in_default.is
+unfolding rows rows_within row up_to_zero ysA marked from_end text
+returns-in_default c =
+    let searched : c.find_among_b.result ≡ found ysA.keys c.args.w.now c.args.s.c =
+    c.find_among_b.ensures in
+    mark-nothing ysA ysA.keys _ _ refl (searched) c.in_default.is
 
 pub mark_suffix_with_optional_consonant-p-requires : goal.mark_suffix_with_optional_consonant-p-requires
+unfolding rows rows_within row up_to_zero ysA marked from_end text
 mark_suffix_with_optional_consonant-p-requires c =
-    key-open ysA ysA.keys _ _ refl (searched c) c.in-Key.is c.requires.opens
+    let searched : c.find_among_b.result ≡ found ysA.keys c.args.w.now c.args.s.c =
+    c.find_among_b.ensures in
+    key-open ysA ysA.keys _ _ refl (searched) c.in-Key.is c.requires.opens
 
 pub returns : goal.returns
-unfolding joining by_y ysA marked text
+unfolding joining by_y ysA marked text rows rows_within row up_to_zero from_end
 returns c =
-    let p = key-joined ysA ysA.keys _ _ refl (searched c) c.in-Key.is
+    let searched : c.find_among_b.result ≡ found ysA.keys c.args.w.now c.args.s.c =
+    c.find_among_b.ensures in
+    let p = key-joined ysA ysA.keys _ _ refl (searched) c.in-Key.is
     c.mark_suffix_with_optional_consonant-p.ensures in
     mark-kept ysA _ _ p refl c.kept.ensures
