@@ -25,7 +25,7 @@ put_stand_in-m-requires c = omega (arith, stand_in_room-is)
 
 pub loop-i-init : goal.loop-i-init
 unfolding word_room limit
-loop-i-init c = entered-none _ _ _ _ (omega (arith, stand_in_room-is)) (rw c.summary_of.ensures at (c.put_stand_in-m.ensures.value, c.put_stand_in-m.ensures.out_after))
+loop-i-init c = entered-none _ _ _ _ (omega (arith, stand_in_room-is)) (rw c.summary_of.ensures at c.put_stand_in-m.ensures.value, rw c.summary_of.ensures at c.put_stand_in-m.ensures.out_after)
 
 pub offset_bounds-t-i : goal.offset_bounds-t-i
 unfolding most_tails
