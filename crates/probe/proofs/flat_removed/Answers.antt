@@ -10,6 +10,6 @@ use Rattle.probe.proofs.flat_removed.Goals as goal
 pub returns : goal.returns
 unfolding unused
 returns c =
-    let three : length c.args.r.pieces ≡ 3 = search (rules, length-mapped, c.well-formed.0.1.1.1.1) in
+    let three : length c.args.r.pieces ≡ 3 = search (rules, length-mapped) in
     flat_removed_of-three c.args.r three c.number_of.ensures c.number_of-2.ensures c.number_of-3.ensures
     c.joining_of.ensures c.joining_of-2.ensures c.joining_of-3.ensures
