@@ -1,7 +1,6 @@
 -- Fronts with their tails and what a call gives of them (document 02, request 7), computed from turkish.sbl's own commands: answers, each number
 -- of a refusal, and which of two comes first. And summaries of fronts. Assumes nothing.
 use Prim.Native.Nat.{ℕ, zero, suc}
-use Prim.Native.Char.{code}
 use Prim.Native.String.{String}
 use mathlib.Core.Path.{◌≡◌, refl}
 use mathlib.Core.List.{List, [], ◌∷◌, ◌++◌, map}

@@ -10,7 +10,7 @@ use native.Mathlib.Omega.{arith}
 use lib.ListN.{length, length-append, length-map}
 use lib.Seq.{take-length}
 use Rattle.turkish.specs.Pieces.{Kept, kept_marks}
-use Rattle.theorems.specs.Simple.Pieces.{total, stage_marks, located}
+use Rattle.theorems.specs.Simple.Pieces.{total, stage_marks}
 use Rattle.turkish.specs.Calls.{chars, accepted, stage_text}
 use Rattle.turkish.specs.PieceCalls.{Span, span_of, spans_of, most_pieces, pieces_room, buffer_of, text_room, text_of}
 use Rattle.theorems.specs.PieceTerms.{EndToEnd, between, covering, spelled, most_bytes}

@@ -13,7 +13,6 @@ use lib.Seq.{take_at}
 use lib.Dec.{eqb, ltb}
 use Rattle.encoding.proofs.Laws.Booleans.{and_left, and_right}
 use Rattle.turkish.specs.Letters.{lf}
-use Rattle.turkish.specs.Pieces.{kept_marks}
 use Rattle.turkish.specs.Calls.{chars, bytes, refusal, refusal_short_of, accepted, written, stage_text}
 use Rattle.turkish.specs.PieceCalls.{Span, span_of, spans_of, piece_refusal, given, text_room, piece_line, text_of, pieces_text_refusal, pieces_text_call, PiecesTextOut}
 use Rattle.theorems.specs.PieceTerms.{spelled}

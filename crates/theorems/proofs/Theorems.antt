@@ -16,7 +16,7 @@ use lib.ListN.{length, take, drop, get_or, replicate, length-drop}
 use lib.Dec.{eqb}
 use Rattle.encoding.specs.Validity.{is_text}
 use Rattle.encoding.specs.Encoding.{continuation}
-use Rattle.turkish.specs.Letters.{text, has, starts}
+use Rattle.turkish.specs.Letters.{has, starts}
 use Rattle.turkish.specs.Snowball.{State, ahead, place, Result, done, failed, Direction, forward, backward, letters, deep, Command, define, ◌then◌, try, literal, routine, itself, run}
 use Rattle.turkish.specs.Source as source
 use Rattle.turkish.specs.Answers.{called, succeeded, left, syllable_check, stemmed, suffix_stage, repaired, postlude_of, uninflected, noun_stage, whole_run}

@@ -1,6 +1,6 @@
 -- Words with the pieces of their endings, both forms of these, what the calls answer and the entries that tell the pieces, computed from
 -- turkish.sbl's own commands; and the kinds with their numbers. Assumes nothing.
-use Prim.Native.Nat.{ℕ, ◌-◌}
+use Prim.Native.Nat.{ℕ}
 use Prim.Native.String.{String}
 use mathlib.Core.Path.{◌≡◌, refl}
 use mathlib.Core.List.{List, [], ◌∷◌, map}

@@ -11,7 +11,7 @@ use Rattle.turkish.specs.declared.endings.Kind.TheVariants.{YUm, SUn, YUz, SUnUz
 use Rattle.turkish.specs.declared.endings.Piece.{Piece}
 use Rattle.turkish.specs.Letters.{tab, lf}
 use Rattle.turkish.specs.Pieces.{Joined, alone, with_y, after_vowel, Kept, kind_name, kept_marks}
-use Rattle.turkish.specs.Calls.{chars, offset, refusal, refusal_short_of, written, stage_text}
+use Rattle.turkish.specs.Calls.{chars, offset, refusal_short_of, written, stage_text}
 
 -- ---- the pieces of a word of bytes ----
 

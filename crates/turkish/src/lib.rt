@@ -1,5 +1,6 @@
 // What the calls answer. The meaning of the stages stands in specs/.
 #![tactic(auto)]
+
 pub mod answer;
 pub mod endings;
 pub mod summary;

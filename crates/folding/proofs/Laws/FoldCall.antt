@@ -5,7 +5,7 @@ use mathlib.Core.Bool.{Bool, true, false, not}
 use mathlib.Core.List.{List, map}
 use native.Mathlib.Omega.{arith}
 use lib.ListN.{length, length-map}
-use lib.Dec.{eqb, ltb, leb}
+use lib.Dec.{ltb, leb}
 use borrow.Author.Tests.{lt-ltb, le-ltb, le-leb, leb-true, leb-false, eq-eqb, ne_eqb, not-true, not-false}
 use Rattle.encoding.proofs.Laws.Booleans.{and_right}
 use Rattle.turkish.specs.Calls.{limit, refusal, refusal_short_of, accepted, written, fold_text, fold_refusal, fold_call, fold_out}

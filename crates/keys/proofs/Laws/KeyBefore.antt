@@ -20,7 +20,6 @@ use Rattle.utf8.proofs.Laws.Characters.{back-add, before_back}
 use Rattle.utf8.proofs.Laws.Behind.{move_to-back_by, back_by-zero, open-back_by}
 use Rattle.turkish.specs.Letters.{starts}
 use Rattle.keys.specs.declared.seen.Seen.{Seen}
-use Rattle.keys.specs.declared.passed.Passed.{Passed}
 use Rattle.keys.specs.Keys.{row, letter_from}
 use Rattle.keys.specs.Seen.{seen_at, Sees}
 use Rattle.keys.specs.Passed.{passed_to, not_passed_of}

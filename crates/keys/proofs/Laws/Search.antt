@@ -21,7 +21,7 @@ use Rattle.keys.specs.declared.passed.Passed.{Passed}
 use Rattle.keys.specs.declared.among.Among.TheVariants.{Key, Nothing}
 use Rattle.keys.specs.Keys.{row, rows}
 use Rattle.keys.specs.Passed.{passed_to, not_passed_of}
-use Rattle.keys.specs.Search.{over, found_from, found}
+use Rattle.keys.specs.Search.{over, found_from}
 use Rattle.utf8.proofs.Laws.Part.{part_from, part_from-drop}
 use Rattle.keys.proofs.Laws.Keys.{row_zero, row_ends, row_goes, rows_at, rows-nil}
 

@@ -26,7 +26,6 @@ use Rattle.turkish.specs.Letters.{text, from_end, any, has, starts}
 use Rattle.turkish.specs.Vowels.{vowels, vowel}
 use Rattle.theorems.specs.Simple.Grammar.{fail, took, more, after, asking, among, optional, joining, mark_of}
 use Rattle.theorems.specs.Simple.Marks.{by_y, marked, yken}
-use Rattle.keys.specs.declared.passed.Passed.{Passed}
 use Rattle.keys.specs.Passed.{passed_to, not_passed_of, passes}
 use Rattle.keys.proofs.Laws.Optional.{optional-get_or}
 use Rattle.keys.proofs.Laws.Literal.{ascii, ascii-reverse_aux, last_width_of-char, literal-chars}

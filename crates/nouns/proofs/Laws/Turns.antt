@@ -15,7 +15,6 @@ use Rattle.theorems.specs.Simple.Nouns.{Taking, both, either, perhaps, plural, p
 use Rattle.theorems.proofs.Laws.Outcome.{Post, Flagged, unfit, fits}
 use Rattle.theorems.proofs.Laws.Flag.{mark-keeps}
 use Rattle.theorems.proofs.Laws.Chain.{ki-takes, chain-text, chain-two}
-use Rattle.nouns.specs.Link as Turn
 use Rattle.nouns.specs.Link.{Turn, ends, calls, later, or_turn, before_lAr, before_DA_of, before_nUn_of, before_ki, link_of, closed}
 use Rattle.nouns.proofs.Laws.Passing.{both-either}
 

@@ -1,6 +1,6 @@
 -- The calls on pieces: what a refused one gives and leaves, and what any other makes of the word's pieces. Assumes nothing.
 use Prim.Native.Nat.{ℕ, ◌≤◌}
-use mathlib.Core.Path.{◌≡◌, refl, sym, ap, ◌∙◌}
+use mathlib.Core.Path.{◌≡◌, refl, sym, ◌∙◌}
 use mathlib.Core.Bool.{true}
 use mathlib.Core.List.{List, [], ◌∷◌, map, Permᴰ}
 use native.Mathlib.Omega.{arith}
@@ -8,7 +8,6 @@ use lib.ListN.{length, take}
 use borrow.Author.Tests.{eq-eqb, ne_eqb}
 use Rattle.turkish.specs.declared.answer.PiecesAnswer.{PiecesAnswer}
 use Rattle.turkish.specs.declared.answer.PiecesTextAnswer.{PiecesTextAnswer}
-use Rattle.turkish.specs.declared.endings.Piece.{Piece}
 use Rattle.turkish.specs.declared.endings.Removed.{Removed}
 use Rattle.turkish.specs.Calls.{accepted, refusal, refusal_short_of, written, stage_call}
 use Rattle.turkish.specs.PieceCalls.{Span, spans_of, InSomeOrder, piece_refusal, given, told, unused, Lists, pieces_room, buffer, buffer_of, pieces_refusal, pieces_call, PiecesOut}

@@ -16,8 +16,8 @@ use Rattle.utf8.specs.Behind.{back_by}
 use Rattle.utf8.proofs.Laws.Behind.{back_by-add, back_by-back}
 use Rattle.turkish.specs.declared.endings.Kind.{Kind}
 use Rattle.theorems.specs.Simple.Pieces.{Taken, total, joint_by, kept_at, located}
-use Rattle.turkish.specs.Calls.{chars, accepted, offset}
-use Rattle.turkish.specs.PieceCalls.{Span, span_of, kind_number, kind_joined, told}
+use Rattle.turkish.specs.Calls.{chars, accepted}
+use Rattle.turkish.specs.PieceCalls.{Span, span_of, told}
 use Rattle.theorems.proofs.Laws.PieceCounts.{Numbered, Each}
 use Rattle.theorems.proofs.Laws.Joints.{joins, JoinedAs, joined_as-head, joined_as-tail}
 use Rattle.theorems.proofs.Laws.Offsets.{offset-back, joint_by-byte}

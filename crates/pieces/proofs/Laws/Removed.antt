@@ -1,6 +1,6 @@
 -- What the code makes of an accepted word is its pieces: as many, the same ones in order of running, then entries that are not used; each
 -- behind the kept text, near its end and in the word. Assumes nothing.
-use Prim.Native.Nat.{ℕ, ◌+◌, ◌-◌, ◌<◌}
+use Prim.Native.Nat.{ℕ, ◌-◌, ◌<◌}
 use mathlib.Core.Path.{◌≡◌, refl, sym, ap, ◌∙◌}
 use mathlib.Core.Bool.{true}
 use mathlib.Core.List.{List, [], ◌∷◌, ◌++◌, map, Memᴰ}
@@ -9,7 +9,6 @@ use lib.ListN.{length, take, drop, get_or, length-map}
 use lib.Seq.{take_at, drop_at, get_or-take}
 use Rattle.utf8.proofs.Laws.Behind.{back_by-zero}
 use Rattle.turkish.specs.declared.endings.Piece.{Piece}
-use Rattle.turkish.specs.Pieces.{kept_marks}
 use Rattle.theorems.specs.Simple.Pieces.{Taken, stage_marks, located}
 use Rattle.turkish.specs.Calls.{chars, accepted, stage_text}
 use Rattle.turkish.specs.PieceCalls.{Span, span_of, spans_of, told, unused, most_pieces}

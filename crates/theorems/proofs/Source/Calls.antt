@@ -6,7 +6,7 @@ use mathlib.Core.Bool.{true, false, cond, ◌&&◌, or-false}
 use mathlib.Core.List.{List}
 use Rattle.utf8.specs.Steps.{same}
 use Rattle.turkish.specs.Letters.{from_end}
-use Rattle.turkish.specs.Answers.{syllable_check, suffix_stage, postlude_of, noun_stage}
+use Rattle.turkish.specs.Answers.{suffix_stage, postlude_of, noun_stage}
 use Rattle.turkish.specs.WordPass.{Passed, pass_stage, pass}
 use Rattle.turkish.specs.Calls.{chars, bytes, refusal, accepted, syllable_call, postlude_text, noun_text, whole_text}
 use Rattle.theorems.specs.Fronts.{one_of, reaches_reserved}

@@ -11,7 +11,7 @@ use Rattle.theorems.specs.Simple.Grammar.{Out, fail, took, more, after, first}
 use Rattle.theorems.specs.Simple.Grammar as Grammar
 use Rattle.theorems.specs.Simple.Stage.{person, branch1, branch2, branch3, branch4, branch5, branch6, branches, staged, stage, kept}
 use Rattle.turkish.specs.Snowball.{State, ahead, place, move_to, with_slice, with_flag, with_text, Result, done, failed, and_then, or_else, place_after, slice_from, backward, Command}
-use Rattle.turkish.specs.Snowball.{◌then◌, ◌or◌, try, succeed, ⟦, ⟧, delete, set, unset, run}
+use Rattle.turkish.specs.Snowball.{◌then◌, ◌or◌, try, succeed, ⟦, ⟧, delete, unset, run}
 use Rattle.turkish.specs.Source.{mark_yUm, mark_sUn, mark_yUz, mark_sUnUz, mark_lAr, mark_nUz, mark_DUr, mark_cAsInA, mark_yDU, mark_ysA, mark_ymUs_, mark_yken, stem_nominal_verb_suffixes}
 use Rattle.turkish.specs.Answers.{entered, called, succeeded, left, stemmed, suffix_stage}
 use Rattle.theorems.proofs.Laws.Outcome.{Flagged, unfit, fits}

@@ -8,7 +8,7 @@ use native.Mathlib.Nat.{add-sub_cancel_left, sub-zero, zero-add}
 use lib.ListN.{length, drop}
 use Rattle.utf8.specs.declared.cursor.Cursor.{Cursor}
 use Rattle.utf8.specs.Characters.{before, back}
-use Rattle.utf8.specs.Steps.{stands, move_to}
+use Rattle.utf8.specs.Steps.{move_to}
 use Rattle.utf8.specs.Behind.{behind, back_by, deleted, edged, Open}
 use Rattle.utf8.proofs.Laws.Steps.{stands-within, stands-ordered}
 use Rattle.utf8.proofs.Laws.Characters.{back-le, back-less, back-add, before_back}

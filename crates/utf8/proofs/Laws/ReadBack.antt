@@ -8,7 +8,7 @@ use lib.ListN.{length, get_or}
 use lib.Dec.{ltb}
 use borrow.Author.Tests.{lt-leb, lt-ltb}
 use Rattle.encoding.specs.Encoding.{decode, continuation}
-use Rattle.utf8.specs.Characters.{width, goes_on_of, last_width_of, last_char, char_at, before, back}
+use Rattle.utf8.specs.Characters.{width, goes_on_of, last_width_of, last_char, char_at, back}
 use Rattle.utf8.specs.Behind.{read_back_of}
 use Rattle.encoding.proofs.Laws.Booleans.{and-false}
 use Rattle.utf8.proofs.Laws.Widths.{width_one}

@@ -1,7 +1,6 @@
 -- `encoding::plain::is_plain` meets its contract: the top bits of the joined bytes tell whether they are plain. Assumes nothing.
 use native.Mathlib.Omega.{arith}
 use Rattle.encoding.proofs.Laws.PlainRuns.{word-plain}
-use borrow.Author.Rules.{rules}
 use Rattle.encoding.proofs.plain.is_plain.Goals as goal
 
 pub returns : goal.returns

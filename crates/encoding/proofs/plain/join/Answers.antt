@@ -1,7 +1,6 @@
 -- `encoding::plain::join` meets its contract: each byte is below 0x100, so no sum wraps, and the eight terms are the joined bytes.
 -- Assumes nothing.
 use Rattle.encoding.proofs.Laws.PlainRuns.{joined_bytes}
-use borrow.Author.Rules.{rules}
 use Rattle.encoding.proofs.plain.join.Goals as goal
 
 pub returns : goal.returns

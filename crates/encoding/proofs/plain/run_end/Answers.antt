@@ -1,11 +1,7 @@
 -- `encoding::plain::run_end` meets its contract. The invariant of both loops: the run from the place on ends where the run from the start
 -- does. The measure is what is left of the word. Assumes nothing.
-use Prim.Native.Nat.{◌-◌, ◌≤◌}
-use mathlib.Core.Path.{◌≡◌, refl, sym, ◌∙◌}
+use mathlib.Core.Path.{refl, sym, ◌∙◌}
 use native.Mathlib.Omega.{arith}
-use lib.ListN.{length}
-use borrow.Author.Rules.{rules}
-use Rattle.encoding.specs.PlainRuns.{run_end_of}
 use Rattle.encoding.proofs.Laws.PlainRuns.{run_ends, run_short, run_on, run-on-eights}
 use Rattle.encoding.proofs.plain.run_end.Goals as goal
 

@@ -1,12 +1,9 @@
 -- `encoding::plain::run_end` meets its contract. The invariant of both loops: the run from the place on ends where the run from the start
 -- does. The measure is what is left of the word. Assumes nothing.
 use Prim.Native.Nat.{◌-◌, ◌≤◌}
-use mathlib.Core.Path.{◌≡◌, refl, sym, ◌∙◌}
-use native.Mathlib.Omega.{arith}
+use mathlib.Core.Path.{◌≡◌}
 use lib.ListN.{length}
-use borrow.Author.Rules.{rules}
 use Rattle.encoding.specs.PlainRuns.{run_end_of}
-use Rattle.encoding.proofs.Laws.PlainRuns.{run_ends, run_short, run_on, run-on-eights}
 use Rattle.encoding.proofs.plain.run_end.Given as goal
 
 abbrev pub invariant-loop-i : goal.invariant-loop-i

@@ -1,13 +1,8 @@
 -- `encoding::short::each_follows` meets its contract: the loop's invariant: what passed so far and the walk from the place are the walk
 -- from the start. The measure is what is left of the word. Assumes nothing.
 use Rattle.encoding.proofs.Laws.Neighbours.{short-at, short-end}
-use Rattle.encoding.specs.Neighbours.{short_after}
-use Prim.Native.Nat.{◌-◌, ◌≤◌}
-use mathlib.Core.Bool.{◌&&◌}
-use mathlib.Core.Path.{◌≡◌, refl, ◌∙◌}
-use lib.ListN.{length, drop}
+use mathlib.Core.Path.{refl, ◌∙◌}
 use native.Mathlib.Omega.{arith}
-use borrow.Author.Rules.{rules}
 use Rattle.encoding.proofs.short.each_follows.Goals as goal
 
 pub loop-i-init : goal.loop-i-init

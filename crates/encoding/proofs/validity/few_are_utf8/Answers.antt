@@ -2,7 +2,6 @@
 -- is the check. Assumes nothing.
 use Rattle.encoding.proofs.Laws.Neighbours.{text-after, short-text}
 use mathlib.Core.Path.{sym, ◌∙◌}
-use borrow.Author.Rules.{rules}
 use Rattle.encoding.proofs.validity.few_are_utf8.Goals as goal
 
 pub returns-then-each_follows : goal.returns-then-each_follows

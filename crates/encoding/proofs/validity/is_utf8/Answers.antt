@@ -1,6 +1,6 @@
 -- `encoding::validity::is_utf8` meets its contract. The loop's invariant: the check from the place on is the check of the word. The measure
 -- is what is left of it. Assumes nothing.
-use Prim.Native.Nat.{ℕ, ◌-◌, ◌≤◌}
+use Prim.Native.Nat.{ℕ, ◌≤◌}
 use mathlib.Core.Path.{◌≡◌, sym, ◌∙◌, subst}
 use native.Mathlib.Omega.{arith}
 use lib.ListN.{length, drop}
@@ -9,7 +9,6 @@ use Rattle.encoding.proofs.Laws.Booleans.{not-eq-false, not-eq-true}
 use Rattle.encoding.proofs.Laws.Neighbours.{text-after}
 use Rattle.encoding.proofs.Laws.PlainRuns.{run-from, run-upto}
 use Rattle.encoding.proofs.Laws.Parts.{text-cut, text-over, text-run}
-use borrow.Author.Rules.{rules}
 use Rattle.encoding.proofs.validity.is_utf8.Goals as goal
 
 pub returns-then-w-le8 : goal.returns-then-w-le8

@@ -1,15 +1,9 @@
 -- `encoding::validity::is_utf8` meets its contract. The loop's invariant: the check from the place on is the check of the word. The measure
 -- is what is left of it. Assumes nothing.
-use Prim.Native.Nat.{ℕ, ◌-◌, ◌≤◌}
-use mathlib.Core.Path.{◌≡◌, sym, ◌∙◌, subst}
-use native.Mathlib.Omega.{arith}
+use Prim.Native.Nat.{◌-◌, ◌≤◌}
+use mathlib.Core.Path.{◌≡◌}
 use lib.ListN.{length, drop}
 use Rattle.encoding.specs.Validity.{is_text}
-use Rattle.encoding.proofs.Laws.Booleans.{not-eq-false, not-eq-true}
-use Rattle.encoding.proofs.Laws.Neighbours.{text-after}
-use Rattle.encoding.proofs.Laws.PlainRuns.{run-from, run-upto}
-use Rattle.encoding.proofs.Laws.Parts.{text-cut, text-over, text-run}
-use borrow.Author.Rules.{rules}
 use Rattle.encoding.proofs.validity.is_utf8.Given as goal
 
 abbrev pub invariant-loop-i : goal.invariant-loop-i

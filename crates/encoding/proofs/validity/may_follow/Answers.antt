@@ -1,7 +1,6 @@
 -- `encoding::validity::may_follow` meets its contract: the choice that the definition makes is made here of tests alone. Assumes
 -- nothing.
 use Rattle.encoding.proofs.Laws.Neighbours.{follows-tests}
-use borrow.Author.Rules.{rules}
 use Rattle.encoding.proofs.validity.may_follow.Goals as goal
 
 pub returns : goal.returns

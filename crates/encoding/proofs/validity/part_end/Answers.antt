@@ -1,11 +1,9 @@
 -- `encoding::validity::part_end` meets its contract: nothing follows there, or a byte that does not go on with a character. The loop's
 -- measure is what is left of the word. Assumes nothing.
-use Prim.Native.Nat.{◌-◌, ◌≤◌, ◌<◌}
 use native.Mathlib.Nat.{le_refl}
 use native.Mathlib.Omega.{arith}
 use lib.ListN.{length}
 use Rattle.encoding.proofs.Laws.Parts.{boundary_end, boundary-at}
-use borrow.Author.Rules.{rules}
 use Rattle.encoding.proofs.validity.part_end.Goals as goal
 
 pub returns-then-w-i-le128 : goal.returns-then-w-i-le128

@@ -1,11 +1,7 @@
 -- `encoding::validity::part_end` meets its contract: nothing follows there, or a byte that does not go on with a character. The loop's
 -- measure is what is left of the word. Assumes nothing.
 use Prim.Native.Nat.{◌-◌, ◌≤◌, ◌<◌}
-use native.Mathlib.Nat.{le_refl}
-use native.Mathlib.Omega.{arith}
 use lib.ListN.{length}
-use Rattle.encoding.proofs.Laws.Parts.{boundary_end, boundary-at}
-use borrow.Author.Rules.{rules}
 use Rattle.encoding.proofs.validity.part_end.Given as goal
 
 abbrev pub invariant-loop-end : goal.invariant-loop-end

@@ -1,13 +1,8 @@
 -- `encoding::walk::all_follow` meets its contract. The loop's invariant: what passed so far and the walk from the place are the walk from
 -- the start. The measure is what is left of it. Assumes nothing.
-use Prim.Native.Nat.{◌-◌, ◌≤◌}
-use mathlib.Core.Path.{◌≡◌, refl, ◌∙◌}
-use mathlib.Core.Bool.{◌&&◌}
+use mathlib.Core.Path.{refl, ◌∙◌}
 use native.Mathlib.Omega.{arith}
-use lib.ListN.{drop}
-use Rattle.encoding.specs.Walked.{byte_before, short_next}
 use Rattle.encoding.proofs.Laws.Walked.{next-at, next-end}
-use borrow.Author.Rules.{rules}
 use Rattle.encoding.proofs.walk.all_follow.Goals as goal
 
 pub loop-i-init : goal.loop-i-init

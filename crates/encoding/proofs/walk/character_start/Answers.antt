@@ -2,7 +2,6 @@
 use mathlib.Core.Path.{sym, ◌∙◌}
 use native.Mathlib.Omega.{arith}
 use Rattle.encoding.proofs.Laws.Walked.{text-from, text-before}
-use borrow.Author.Rules.{rules}
 use Rattle.encoding.proofs.walk.character_start.Goals as goal
 
 pub returns-then-is_owed_at : goal.returns-then-is_owed_at

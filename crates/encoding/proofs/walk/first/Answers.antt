@@ -6,7 +6,6 @@ use lib.ListN.{length}
 use Rattle.encoding.specs.Walked.{byte_before, short_next, walked}
 use Rattle.encoding.proofs.Laws.PlainRuns.{run-upto}
 use Rattle.encoding.proofs.Laws.Walked.{walked-run, walked-first}
-use borrow.Author.Rules.{rules}
 use Rattle.encoding.proofs.walk.first.Goals as goal
 
 pub returns-then-i-gt0 : goal.returns-then-i-gt0

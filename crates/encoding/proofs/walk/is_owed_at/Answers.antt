@@ -3,7 +3,6 @@ use Prim.Native.Nat.{ℕ}
 use mathlib.Core.Path.{ap}
 use lib.Dec.{leb}
 use Rattle.encoding.proofs.Laws.Walked.{byte_before-at}
-use borrow.Author.Rules.{rules}
 use Rattle.encoding.proofs.walk.is_owed_at.Goals as goal
 
 pub returns : goal.returns

@@ -1,15 +1,10 @@
 -- `encoding::walk::on_by_8` meets its contract. The loop's invariant: the bytes up to the place are walked over. The measure is what is left of
 -- the word. Assumes nothing.
-use Prim.Native.Nat.{◌+◌, ◌-◌, ◌≤◌, ◌<◌}
-use mathlib.Core.Path.{◌≡◌, sym, ◌∙◌}
+use Prim.Native.Nat.{◌-◌, ◌≤◌, ◌<◌}
+use mathlib.Core.Path.{◌≡◌}
 use mathlib.Core.Bool.{true}
-use native.Mathlib.Nat.{le_refl}
-use native.Mathlib.Omega.{arith}
 use lib.ListN.{length}
 use Rattle.encoding.specs.Walked.{walked}
-use Rattle.encoding.proofs.Laws.Booleans.{not-eq-true}
-use Rattle.encoding.proofs.Laws.Walked.{walked_to}
-use borrow.Author.Rules.{rules}
 use Rattle.encoding.proofs.walk.on_by_8.Given as goal
 
 abbrev pub invariant-loop-i : goal.invariant-loop-i

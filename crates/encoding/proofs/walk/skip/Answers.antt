@@ -6,7 +6,6 @@ use lib.ListN.{length}
 use Rattle.encoding.specs.Walked.{walked}
 use Rattle.encoding.proofs.Laws.PlainRuns.{run-from, run-upto}
 use Rattle.encoding.proofs.Laws.Walked.{walked-run}
-use borrow.Author.Rules.{rules}
 use Rattle.encoding.proofs.walk.skip.Goals as goal
 
 pub returns : goal.returns

@@ -2,9 +2,6 @@
 -- Assumes nothing.
 use mathlib.Core.Path.{sym, ◌∙◌}
 use native.Mathlib.Omega.{arith}
-use lib.ListN.{length}
-use borrow.Author.Rules.{rules}
-use Rattle.turkish.specs.Calls.{fold_text}
 use Rattle.folding.proofs.Laws.FoldCall.{fold-short, fold-given, fold_text-plain, length-plain}
 use Rattle.folding.proofs.fold.fold_plain.Goals as goal
 

@@ -1,7 +1,5 @@
 -- `folding::fold::fold_steps` meets its contract: what was found to fit decides, and the fold step by step is the folded text.
 -- Assumes nothing.
-use lib.ListN.{length}
-use borrow.Author.Rules.{rules}
 use Rattle.folding.proofs.Laws.FoldCall.{fold_bytes-accepted, fold-short, fold-given, not-fitting, fitting}
 use Rattle.folding.proofs.fold.fold_steps.Goals as goal
 

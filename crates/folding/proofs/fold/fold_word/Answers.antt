@@ -1,5 +1,4 @@
 -- `folding::fold::fold_word` meets its contract: the word's number decides, and then which of the two folds is made. Assumes nothing.
-use borrow.Author.Rules.{rules}
 use Rattle.folding.proofs.Laws.FoldCall.{fold-refused, fold-accepted, long_plain-plain}
 use Rattle.folding.proofs.fold.fold_word.Goals as goal
 

@@ -1,6 +1,5 @@
 -- `folding::fold::is_long_plain` meets its contract: its test of the length, and then the test of the bytes. Assumes nothing.
 use mathlib.Core.Path.{◌∙◌}
-use borrow.Author.Rules.{rules}
 use borrow.Author.Tests.{lt-ltb, le-ltb}
 use Rattle.folding.specs.FoldBytes.{long_plain}
 use Rattle.folding.proofs.fold.is_long_plain.Goals as goal

@@ -1,14 +1,9 @@
 -- `folding::plain::write_plain` meets its contract. The loop's invariant: the bytes passed are written, folded, and the output keeps its
 -- length. The measure is what is left of them. Assumes nothing.
-use Prim.Native.Nat.{◌-◌, ◌≤◌}
-use mathlib.Core.Path.{◌≡◌, refl, ◌∙◌}
-use mathlib.Core.List.{map}
+use mathlib.Core.Path.{refl, ◌∙◌}
 use native.Mathlib.Omega.{arith}
-use lib.ListN.{length, take, length-set}
-use borrow.Author.Rules.{rules}
-use Rattle.writing.specs.Put.{put}
+use lib.ListN.{length-set}
 use Rattle.writing.proofs.Laws.Put.{put-nothing}
-use Rattle.folding.specs.FoldBytes.{small_byte}
 use Rattle.folding.proofs.Laws.Plain.{small-stored, small-written}
 use Rattle.folding.proofs.plain.write_plain.Goals as goal
 

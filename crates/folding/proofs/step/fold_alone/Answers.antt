@@ -1,6 +1,5 @@
 -- `folding::step::fold_alone` meets its contract: its test is the definition's. Assumes nothing.
 use mathlib.Core.Path.{◌∙◌}
-use borrow.Author.Rules.{rules}
 use borrow.Author.Tests.{eq-eqb, ne_eqb}
 use Rattle.folding.specs.FoldBytes.{alone}
 use Rattle.folding.proofs.step.fold_alone.Goals as goal

@@ -1,5 +1,4 @@
 -- `folding::step::fold_at` meets its contract: a byte by itself, or with the one after it where there is one. Assumes nothing.
-use borrow.Author.Rules.{rules}
 use Rattle.folding.proofs.Laws.Places.{fold_step-alone, fold_step-last, fold_step-pair}
 use Rattle.folding.proofs.step.fold_at.Goals as goal
 

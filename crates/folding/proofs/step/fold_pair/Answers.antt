@@ -1,6 +1,5 @@
 -- `folding::step::fold_pair` meets its contract: its tests are the definition's. Assumes nothing.
 use mathlib.Core.Path.{◌∙◌}
-use borrow.Author.Rules.{rules}
 use Rattle.folding.specs.FoldBytes.{pair}
 use Rattle.folding.proofs.step.fold_pair.Goals as goal
 

@@ -1,5 +1,4 @@
 -- `folding::walk::put_step` meets its contract: a byte, and another where the step gives two. Assumes nothing.
-use borrow.Author.Rules.{rules}
 use Rattle.folding.proofs.Laws.Written.{first-room, one_written, last-room, two-written}
 use Rattle.folding.proofs.walk.put_step.Goals as goal
 

@@ -2,12 +2,9 @@
 -- is room for the rest. The measure is what is left of the word. In each answer s is the start, test the loop's test and l the loop.
 -- Assumes nothing.
 use Prim.Native.Nat.{◌-◌, ◌≤◌}
-use mathlib.Core.Path.{◌≡◌, refl}
-use native.Mathlib.Omega.{arith}
+use mathlib.Core.Path.{◌≡◌}
 use lib.ListN.{length}
-use borrow.Author.Rules.{rules}
-use Rattle.folding.proofs.Laws.Steps.{stepped-at, taken-alone}
-use Rattle.folding.proofs.Laws.Walks.{stepped-ascii, Reached, reached-start, reached-room, reached-next, reached-end}
+use Rattle.folding.proofs.Laws.Walks.{Reached}
 use Rattle.folding.proofs.walk.write_steps.Given as goal
 
 abbrev pub invariant-loop-i : goal.invariant-loop-i

@@ -2,7 +2,6 @@
 -- behind the vowel's bytes. Assumes nothing.
 use mathlib.Core.Path.{sym, ◌∙◌}
 use native.Mathlib.Omega.{arith}
-use borrow.Author.Rules.{rules}
 use Rattle.writing.proofs.Laws.Put.{wrote_nothing, wrote-bytes, wrote-all}
 use Rattle.vowels.proofs.Laws.Sounds.{sound_numbered-vowel, encoded_of-fits}
 use Rattle.fronts.proofs.Laws.StandIn.{numbered-none, numbered-written, numbered-fit}

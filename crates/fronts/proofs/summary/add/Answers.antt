@@ -1,6 +1,5 @@
 -- `fronts::summary::add` meets its contract. A character that is no vowel leaves the summary; a vowel has its number. Assumes nothing.
 use mathlib.Core.Path.{sym, ◌∙◌}
-use borrow.Author.Rules.{rules}
 use Rattle.vowels.proofs.Laws.Sounds.{sound_of-no_vowel, sound_of-a_vowel, sound_of-number}
 use Rattle.fronts.proofs.Laws.Summaries.{added_none, added-vowel}
 use Rattle.fronts.proofs.summary.add.Goals as goal

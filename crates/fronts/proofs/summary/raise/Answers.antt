@@ -3,7 +3,6 @@
 use Prim.Native.Nat.{◌-◌}
 use mathlib.Core.Path.{sym, ap}
 use native.Mathlib.Omega.{arith}
-use borrow.Author.Rules.{rules}
 use Rattle.turkish.specs.Letters.{text}
 use Rattle.turkish.specs.Vowels.{vowels}
 use Rattle.turkish.specs.Calls.{limit}

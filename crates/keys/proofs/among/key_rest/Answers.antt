@@ -1,10 +1,9 @@
 -- `letters::among::key_rest` meets its contract. The loop's invariant: what is left of the key has to be passed from where the letters
 -- before it have led. The measure is what is left of the key. Assumes nothing.
-use Prim.Native.Nat.{◌-◌, ◌≤◌}
-use mathlib.Core.Path.{◌≡◌, refl, sym, ap, ◌∙◌}
+use Prim.Native.Nat.{◌-◌}
+use mathlib.Core.Path.{refl, sym, ap, ◌∙◌}
 use native.Mathlib.Omega.{arith}
-use lib.ListN.{length, drop}
-use borrow.Author.Rules.{rules}
+use lib.ListN.{drop}
 use Rattle.utf8.specs.declared.characters.Read.{Read}
 use Rattle.utf8.specs.Characters.{back}
 use Rattle.utf8.specs.Behind.{read_back_of}
@@ -13,7 +12,7 @@ use Rattle.utf8.proofs.Laws.Steps.{stands-within}
 use Rattle.keys.specs.Passed.{not_passed_of}
 use Rattle.keys.specs.Keys.{row}
 use Rattle.utf8.proofs.Laws.Part.{part_from, length-part_from}
-use Rattle.keys.proofs.Laws.Search.{over_part, over-over_part, over_part-none, over_part-ends, over_part-differs, over_part-read}
+use Rattle.keys.proofs.Laws.Search.{over-over_part, over_part-none, over_part-ends, over_part-differs, over_part-read}
 use Rattle.keys.proofs.among.key_rest.Goals as goal
 
 pub slice_bounds-part-count : goal.slice_bounds-part-count

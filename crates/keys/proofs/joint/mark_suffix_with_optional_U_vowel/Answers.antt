@@ -1,6 +1,5 @@
 -- `letters::joint::mark_suffix_with_optional_U_vowel` meets its contract: two characters are read back, and the optional U goes by them; where the
 -- first begins the part there is no second. Assumes nothing.
-use borrow.Author.Rules.{rules}
 use mathlib.Core.Path.{sym, ap, ◌∙◌}
 use mathlib.Core.Bool.{false, not}
 use native.Mathlib.Omega.{arith}

@@ -1,6 +1,5 @@
 -- `letters::joint::mark_suffix_with_optional_consonant` meets its contract: two characters are read back, and the optional letter goes by them.
 -- Assumes nothing.
-use borrow.Author.Rules.{rules}
 use mathlib.Core.Path.{sym, ◌∙◌}
 use mathlib.Core.Bool.{true}
 use mathlib.Core.List.{[], ◌∷◌}

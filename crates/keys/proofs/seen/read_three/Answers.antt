@@ -2,7 +2,6 @@
 use native.Mathlib.Omega.{arith}
 use Rattle.utf8.proofs.Laws.Part.{low-length-le, low-cursor-le, cursor-length-le, cursor-part-le}
 use Rattle.keys.proofs.Laws.Reads.{first-le, second-le, third-le, three_at-made}
-use borrow.Author.Rules.{rules}
 use Rattle.keys.proofs.seen.read_three.Goals as goal
 
 pub slice_bounds-part-count : goal.slice_bounds-part-count

@@ -1,12 +1,7 @@
 -- `kinds::spelling::put_line` meets its contract: the parts written one after the other are the piece's line, and they fit. In each answer
 -- `named` is the place behind the name, and s the start. Assumes nothing.
-use Prim.Native.Nat.{◌+◌, ◌-◌, ◌≤◌}
-use mathlib.Core.Path.{◌≡◌}
 use native.Mathlib.Omega.{arith}
-use lib.ListN.{length}
-use borrow.Author.Rules.{rules}
 use Rattle.turkish.specs.Letters.{tab, lf}
-use Rattle.turkish.specs.PieceCalls.{told, piece_line}
 use Rattle.writing.proofs.Laws.Put.{wrote_nothing, wrote-byte, wrote-bytes, wrote-all}
 use Rattle.kinds.proofs.Laws.Kinds.{name_of-letters, name_of-fits}
 use Rattle.kinds.proofs.Laws.Spelling.{letters-fit, piece_line-parts, length-piece_line}

@@ -2,16 +2,11 @@
 -- the output keeps its length. The measure is what is left of them. In each answer s is the start, t the loop's test, and l the loop.
 -- Assumes nothing.
 use Prim.Native.Nat.{◌-◌, ◌≤◌}
-use mathlib.Core.Path.{◌≡◌, refl}
+use mathlib.Core.Path.{◌≡◌}
 use mathlib.Core.List.{map}
-use native.Mathlib.Omega.{arith}
 use lib.ListN.{length, take}
-use borrow.Author.Rules.{rules}
 use Rattle.turkish.specs.Calls.{written}
-use Rattle.turkish.specs.PieceCalls.{told, unused, most_pieces, text_of}
-use Rattle.kinds.specs.Entries.{entry}
-use Rattle.kinds.proofs.Laws.Written.{written-nothing, length-mapped}
-use Rattle.kinds.proofs.Laws.Spelling.{text_of-room, put-piece_line}
+use Rattle.turkish.specs.PieceCalls.{told, text_of}
 use Rattle.kinds.proofs.spelling.put_lines.Given as goal
 
 abbrev pub invariant-loop-i : goal.invariant-loop-i

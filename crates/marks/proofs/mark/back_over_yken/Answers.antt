@@ -4,7 +4,6 @@ use mathlib.Core.Path.{sym, ap, ◌∙◌}
 use mathlib.Core.Bool.{true, false}
 use native.Mathlib.Omega.{arith}
 use borrow.Author.Tests.{not-true, not-false}
-use borrow.Author.Rules.{rules}
 use Rattle.utf8.specs.declared.step.Step.{Step}
 use Rattle.keys.specs.Passed.{not_passed_of}
 use Rattle.marks.proofs.Laws.Yken.{yken-keyless, yken-bytes, yken-short, yken-joined, yken-apart}

@@ -1,7 +1,6 @@
 -- `marks::mark::find_yDU` meets its contract: each part of the table has the keys that end in one letter. Assumes nothing.
 use Prim.Native.Nat.{ℕ}
 use mathlib.Core.Path.{sym, ap, ◌∙◌}
-use borrow.Author.Rules.{rules}
 use borrow.Author.Tests.{ne_eqb}
 use Rattle.turkish.specs.Letters.{text, from_end}
 use Rattle.theorems.specs.Simple.Marks.{marked, yDU}

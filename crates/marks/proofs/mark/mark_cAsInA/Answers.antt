@@ -1,6 +1,5 @@
 -- `marks::mark::mark_cAsInA` meets its contract: by the last letter, else by the key found in its table, the key alone. Assumes nothing.
 use mathlib.Core.Path.{◌≡◌, refl, sym, ◌∙◌}
-use borrow.Author.Rules.{rules}
 use borrow.Author.Tests.{not-true}
 use Rattle.turkish.specs.Letters.{text, from_end}
 use Rattle.theorems.specs.Simple.Marks.{unjoined, marked, cAsInA}

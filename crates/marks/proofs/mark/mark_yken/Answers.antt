@@ -1,7 +1,6 @@
 -- `marks::mark::mark_yken` meets its contract: by the last letter, else by the literal `ken` and the optional y. Assumes nothing.
 use mathlib.Core.Path.{refl}
 use lib.Dec.{eqb}
-use borrow.Author.Rules.{rules}
 use borrow.Author.Tests.{ne_eqb}
 use Rattle.turkish.specs.Letters.{text, from_end}
 use Rattle.theorems.specs.Simple.Grammar.{mark_of, asking}

@@ -1,7 +1,6 @@
 -- `marks::mark::mark_ysA` meets its contract: by the last letter, else by the key found in its table, what joins it. Assumes nothing.
 use mathlib.Core.Bool.{◌||◌}
 use mathlib.Core.Path.{◌≡◌, refl}
-use borrow.Author.Rules.{rules}
 use borrow.Author.Tests.{not-true}
 use Rattle.turkish.specs.Letters.{text, from_end}
 use Rattle.theorems.specs.Simple.Grammar.{joining}

@@ -1,6 +1,5 @@
 -- `nouns::link::before_DA` meets its contract: lAr, or possessives and what stands behind that, or nothing. In each answer l is the place
 -- behind lAr, and s behind what is seen from the record. Assumes nothing.
-use borrow.Author.Rules.{rules}
 use Rattle.theorems.specs.Simple.Grammar.{mark_of}
 use Rattle.theorems.specs.Simple.Marks.{lAr}
 use Rattle.theorems.specs.Simple.NounMarks.{possessives}

@@ -1,5 +1,4 @@
 -- `nouns::link::before_possessive` meets its contract: lAr, behind which the chain is called, or nothing. Assumes nothing.
-use borrow.Author.Rules.{rules}
 use Rattle.theorems.specs.Simple.Grammar.{mark_of}
 use Rattle.theorems.specs.Simple.Marks.{lAr}
 use Rattle.keys.proofs.Laws.Sees.{sees-made}

@@ -1,6 +1,5 @@
 -- `nouns::mark::mark_ndA` meets its contract: by the key found in its table alone and harmony. Assumes nothing.
 use mathlib.Core.Path.{◌≡◌, refl}
-use borrow.Author.Rules.{rules}
 use Rattle.turkish.specs.Letters.{text, from_end}
 use Rattle.theorems.specs.Simple.Marks.{unjoined, marked}
 use Rattle.theorems.specs.Simple.NounMarks.{ndA}

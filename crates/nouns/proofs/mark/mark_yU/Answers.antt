@@ -1,6 +1,5 @@
 -- `nouns::mark::mark_yU` meets its contract: by the key found in its table, what joins it and harmony. Assumes nothing.
 use mathlib.Core.Path.{◌≡◌, refl}
-use borrow.Author.Rules.{rules}
 use Rattle.turkish.specs.Letters.{text, from_end}
 use Rattle.theorems.specs.Simple.Grammar.{joining}
 use Rattle.theorems.specs.Simple.Marks.{by_y, marked}

@@ -1,6 +1,5 @@
 -- `nouns::stage::DA_or_yU_or_yA` meets its contract: each of the three where those before it do not fit. In each answer d is the place
 -- behind DA, and u behind yU. Assumes nothing.
-use borrow.Author.Rules.{rules}
 use Rattle.theorems.specs.Simple.Grammar.{mark_of}
 use Rattle.theorems.specs.Simple.NounMarks.{yU, yA, DA}
 use Rattle.theorems.specs.Simple.Nouns.{either}

@@ -1,7 +1,6 @@
 -- `nouns::stage::after_DA` meets its contract: what may stand behind DA, yU or yA is tried from where that leads. In each answer m is the place behind
 -- the mark. Assumes nothing.
 use mathlib.Core.Path.{◌∙◌}
-use borrow.Author.Rules.{rules}
 use borrow.Author.Tests.{not-true, not-false}
 use Rattle.theorems.specs.Simple.Nouns.{perhaps, after_DA_of}
 use Rattle.nouns.specs.Stage.{DA_or_yU_or_yA_of, possessives_or_lAr_of, near_DA_of}

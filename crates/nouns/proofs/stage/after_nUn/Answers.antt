@@ -1,7 +1,6 @@
 -- `nouns::stage::after_nUn` meets its contract: what may stand behind nUn or ylA is tried from where that leads. In each answer m is the place behind
 -- the mark. Assumes nothing.
 use mathlib.Core.Path.{◌∙◌}
-use borrow.Author.Rules.{rules}
 use borrow.Author.Tests.{not-true, not-false}
 use Rattle.theorems.specs.Simple.Nouns.{perhaps, after_nUn_of}
 use Rattle.nouns.specs.Stage.{nUn_or_ylA_of, near_lAr, near_nUn_of}

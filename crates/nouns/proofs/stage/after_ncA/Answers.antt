@@ -1,7 +1,6 @@
 -- `nouns::stage::after_ncA` meets its contract: what may stand behind ncA is tried from where that leads. In each answer m is the place behind
 -- the mark. Assumes nothing.
 use mathlib.Core.Path.{◌∙◌}
-use borrow.Author.Rules.{rules}
 use borrow.Author.Tests.{not-true, not-false}
 use Rattle.theorems.specs.Simple.Grammar.{mark_of}
 use Rattle.theorems.specs.Simple.NounMarks.{ncA}

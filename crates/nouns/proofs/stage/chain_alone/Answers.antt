@@ -1,7 +1,6 @@
 -- `nouns::stage::chain_alone` meets its contract: without `ki` the chain fails; with it the chain fits where its place is not the record's own.
 -- In each answer k is the place behind the chain. Assumes nothing.
 use mathlib.Core.Path.{◌∙◌}
-use borrow.Author.Rules.{rules}
 use borrow.Author.Tests.{not-true}
 use Rattle.keys.specs.Passed.{not_passed_of}
 use Rattle.theorems.specs.Simple.NounMarks.{ki}

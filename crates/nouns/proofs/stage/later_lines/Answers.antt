@@ -1,7 +1,4 @@
 -- `nouns::stage::later_lines` meets its contract: the lines one after the other, each where those before it do not fit. Assumes nothing.
-use mathlib.Core.Path.{◌≡◌}
-use borrow.Author.Rules.{rules}
-use Rattle.utf8.specs.Behind.{behind}
 use Rattle.theorems.specs.Simple.Grammar.{mark_of}
 use Rattle.theorems.specs.Simple.NounMarks.{lArI}
 use Rattle.theorems.specs.Simple.Nouns.{Taking, either, chain, owned, after_ndAn_of, after_DAn_of, after_nUn_of, after_DA_of}

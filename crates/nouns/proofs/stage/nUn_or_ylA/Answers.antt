@@ -1,6 +1,5 @@
 -- `nouns::stage::nUn_or_ylA` meets its contract: nUn, or ylA where that does not fit. In each answer m is the place behind the first.
 -- Assumes nothing.
-use borrow.Author.Rules.{rules}
 use Rattle.theorems.specs.Simple.Grammar.{mark_of}
 use Rattle.theorems.specs.Simple.NounMarks.{nUn, ylA}
 use Rattle.nouns.specs.Stage.{nUn_or_ylA_of}

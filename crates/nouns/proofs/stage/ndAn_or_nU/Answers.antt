@@ -1,6 +1,5 @@
 -- `nouns::stage::ndAn_or_nU` meets its contract: ndAn, or nU where that does not fit. In each answer m is the place behind the first.
 -- Assumes nothing.
-use borrow.Author.Rules.{rules}
 use Rattle.theorems.specs.Simple.Grammar.{mark_of}
 use Rattle.theorems.specs.Simple.NounMarks.{ndAn, nU}
 use Rattle.nouns.specs.Stage.{ndAn_or_nU_of}

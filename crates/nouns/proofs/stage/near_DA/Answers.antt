@@ -1,7 +1,6 @@
 -- `nouns::stage::near_DA` meets its contract: the chain goes from where possessives or lAr leads. In each answer m is the place behind
 -- those. Assumes nothing.
 use mathlib.Core.Path.{refl}
-use borrow.Author.Rules.{rules}
 use borrow.Author.Tests.{not-true, not-false}
 use Rattle.theorems.specs.Simple.Nouns.{both, perhaps, chain}
 use Rattle.keys.specs.Passed.{passed_to, not_passed_of}

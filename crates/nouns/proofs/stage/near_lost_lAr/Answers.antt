@@ -1,7 +1,6 @@
 -- `nouns::stage::near_lost_lAr` meets its contract: the chain, or possessives or sU where it does not fit. In each answer o is the place
 -- behind those, and k behind the chain. Assumes nothing.
 use mathlib.Core.Path.{refl}
-use borrow.Author.Rules.{rules}
 use Rattle.theorems.specs.Simple.Nouns.{chain, owned}
 use Rattle.keys.specs.Passed.{passed_to, not_passed_of}
 use Rattle.keys.proofs.Laws.Sees.{sees-made}

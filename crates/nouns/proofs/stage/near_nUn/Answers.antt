@@ -2,7 +2,6 @@
 -- before it do not fit. In each answer o is the place behind the second, l behind lAr, and s behind what is seen from the record. Assumes
 -- nothing.
 use mathlib.Core.Path.{refl}
-use borrow.Author.Rules.{rules}
 use Rattle.theorems.specs.Simple.Grammar.{mark_of}
 use Rattle.theorems.specs.Simple.Marks.{lAr}
 use Rattle.theorems.specs.Simple.Nouns.{both, either, perhaps, chain, owned}

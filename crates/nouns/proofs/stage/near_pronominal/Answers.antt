@@ -1,6 +1,5 @@
 -- `nouns::stage::near_pronominal` meets its contract: lArI, or sU where that does not fit. In each answer s is the place behind what is seen
 -- from the record. Assumes nothing.
-use borrow.Author.Rules.{rules}
 use Rattle.theorems.specs.Simple.Grammar.{mark_of}
 use Rattle.theorems.specs.Simple.NounMarks.{lArI}
 use Rattle.theorems.specs.Simple.Nouns.{chain, owned_by_sU_of}

@@ -1,6 +1,5 @@
 -- `nouns::stage::owned` meets its contract: a possessive with what may follow, or sU with it. Assumes nothing.
 use mathlib.Core.Path.{sym, ap, ◌∙◌}
-use borrow.Author.Rules.{rules}
 use Rattle.theorems.specs.Simple.Nouns.{possessed, owned_by_sU_of, chain}
 use Rattle.keys.specs.Passed.{passes}
 use Rattle.nouns.proofs.Laws.Passing.{either-moved, either-else, owned-either}

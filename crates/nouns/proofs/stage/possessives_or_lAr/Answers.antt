@@ -1,7 +1,6 @@
 -- `nouns::stage::possessives_or_lAr` meets its contract: possessives with lAr tried from where it leads, or lAr where it does not fit. In
 -- each answer p is the place behind possessives, and s behind what is seen from the record. Assumes nothing.
 use mathlib.Core.Path.{refl, ◌∙◌}
-use borrow.Author.Rules.{rules}
 use Rattle.theorems.specs.Simple.Grammar.{mark_of}
 use Rattle.theorems.specs.Simple.Marks.{lAr}
 use Rattle.theorems.specs.Simple.NounMarks.{possessives}

@@ -1,6 +1,5 @@
 -- `nouns::stage::pronominal` meets its contract: ndA, or nA where that does not fit. In each answer m is the place behind the first.
 -- Assumes nothing.
-use borrow.Author.Rules.{rules}
 use Rattle.theorems.specs.Simple.Grammar.{mark_of}
 use Rattle.theorems.specs.Simple.NounMarks.{ndA, nA}
 use Rattle.theorems.specs.Simple.Nouns.{pronominal}

@@ -1,17 +1,12 @@
 -- `nouns::stage::stem_noun_suffixes` meets its contract: the lines one after the other from the end of the first n bytes. Assumes nothing.
-use mathlib.Core.Path.{◌≡◌, refl, ◌∙◌}
-use mathlib.Core.List.{List}
-use Prim.Native.Nat.{ℕ}
+use mathlib.Core.Path.{refl, ◌∙◌}
 use native.Mathlib.Omega.{arith}
-use borrow.Author.Rules.{rules}
-use Rattle.utf8.specs.Behind.{behind}
 use Rattle.utf8.proofs.Laws.Behind.{open-start}
-use Rattle.theorems.specs.Simple.Nouns.{Rest, chain, plural, after_ncA_of, whole}
+use Rattle.theorems.specs.Simple.Nouns.{chain, plural, after_ncA_of, whole}
 use Rattle.keys.proofs.Laws.Sees.{sees-made}
-use Rattle.nouns.specs.Stage.{left_at, uninflected_of, later_lines_of, pronominal_rest}
-use Rattle.nouns.specs.declared.stage.Uninflected.{Uninflected}
+use Rattle.nouns.specs.Stage.{left_at, later_lines_of, pronominal_rest}
 use Rattle.nouns.proofs.Laws.Passing.{passes-seen}
-use Rattle.nouns.proofs.Laws.Lines.{left-seen, left_cut, left-else, or_yes, or_no, from_later, from_pronominal, from_ncA, end_of, left-lines}
+use Rattle.nouns.proofs.Laws.Lines.{left-seen, left_cut, left-else, or_yes, or_no, left-lines}
 use Rattle.nouns.proofs.stage.stem_noun_suffixes.Goals as goal
 
 pub look_back-s-requires : goal.look_back-s-requires

@@ -3,7 +3,6 @@
 use Rattle.refusals.proofs.Laws.Refusals.{into-room}
 use Rattle.outputs.proofs.Laws.Runs.{left_run-fits}
 use Rattle.outputs.proofs.Laws.RunCalls.{noun_call-noun_out-refused, noun_call-noun_out-given}
-use borrow.Author.Rules.{rules}
 use Rattle.outputs.proofs.noun.noun_word.Goals as goal
 
 pub returns-then-n-ne0 : goal.returns-then-n-ne0

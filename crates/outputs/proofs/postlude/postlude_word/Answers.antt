@@ -3,7 +3,6 @@
 use Rattle.refusals.proofs.Laws.Refusals.{into-room}
 use Rattle.outputs.proofs.Laws.RepairCalls.{repair-fits, postlude_call-postlude_out-refused, postlude_call-postlude_out-given}
 use native.Mathlib.Omega.{arith}
-use borrow.Author.Rules.{rules}
 use Rattle.outputs.proofs.postlude.postlude_word.Goals as goal
 
 pub returns-then-n-ne0 : goal.returns-then-n-ne0

@@ -2,7 +2,6 @@
 -- Assumes nothing.
 use native.Mathlib.Omega.{arith}
 use lib.ListN.{length-take}
-use borrow.Author.Rules.{rules}
 use Rattle.outputs.proofs.Laws.Writing.{length-repair, written-repair}
 use Rattle.outputs.proofs.repair.write_repair.Goals as goal
 

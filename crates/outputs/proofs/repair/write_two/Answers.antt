@@ -2,7 +2,6 @@
 -- Assumes nothing.
 use native.Mathlib.Omega.{arith}
 use lib.ListN.{length-set}
-use borrow.Author.Rules.{rules}
 use Rattle.outputs.proofs.Laws.Writing.{two_none, two-first, two-both}
 use Rattle.outputs.proofs.repair.write_two.Goals as goal
 

@@ -2,7 +2,6 @@
 use borrow.Author.Tests.{not-true, not-false}
 use Rattle.stages.proofs.Laws.Kept.{kept-le}
 use Rattle.outputs.proofs.Laws.Runs.{uninflected_of-front, whole_run_of-front, whole_run_of-left, whole_run_of-repaired}
-use borrow.Author.Rules.{rules}
 use Rattle.outputs.proofs.run.whole_of.Goals as goal
 
 pub returns-then-not-s : goal.returns-then-not-s

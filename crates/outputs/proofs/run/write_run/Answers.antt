@@ -1,7 +1,6 @@
 -- `outputs::run::write_run` meets its contract: the repair is written, and the bytes behind it are put behind it. Assumes nothing.
 use native.Mathlib.Omega.{arith}
 use Rattle.outputs.proofs.Laws.Writing.{length-repair, length-between, written-run}
-use borrow.Author.Rules.{rules}
 use Rattle.outputs.proofs.run.write_run.Goals as goal
 
 pub put_bytes-requires : goal.put_bytes-requires

@@ -8,7 +8,6 @@ use Rattle.outputs.proofs.Laws.RepairCalls.{word_fits}
 use Rattle.outputs.proofs.Laws.Writing.{copy_written}
 use Rattle.outputs.proofs.Laws.Runs.{whole_text-short, whole_run_of-text, whole_run_of-fits}
 use Rattle.outputs.proofs.Laws.RunCalls.{whole_call-whole_out-refused, whole_call-whole_out-given}
-use borrow.Author.Rules.{rules}
 use Rattle.outputs.proofs.whole.whole_word.Goals as goal
 
 pub returns-then-n-ne0 : goal.returns-then-n-ne0

@@ -1,7 +1,6 @@
 -- `pieces::buffer::pieces_word` meets its contract: a refused call writes nothing, any other the word's pieces. Assumes nothing.
 use mathlib.Core.Path.{sym, subst}
 use native.Mathlib.Omega.{arith}
-use borrow.Author.Rules.{rules}
 use Rattle.turkish.specs.PieceCalls.{pieces_room}
 use Rattle.refusals.proofs.Laws.Refusals.{short-accepted, short-room}
 use Rattle.kinds.specs.Entries.{Near}

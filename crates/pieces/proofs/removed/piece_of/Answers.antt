@@ -1,7 +1,6 @@
 -- `pieces::removed::piece_of` meets its contract: a mark without a number is no piece, and any other stands in the word before the piece's
 -- end. Assumes nothing.
 use native.Mathlib.Omega.{arith}
-use borrow.Author.Rules.{rules}
 use borrow.Author.Tests.{eq-eqb}
 use Rattle.turkish.specs.PieceCalls.{unused}
 use Rattle.pieces.specs.Removed.{piece_of}

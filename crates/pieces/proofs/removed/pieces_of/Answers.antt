@@ -1,6 +1,5 @@
 -- `pieces::removed::pieces_of` meets its contract: the marks that the stage keeps stand in the word, and a piece is made of each.
 -- Assumes nothing.
-use borrow.Author.Rules.{rules}
 use Rattle.pieces.proofs.Laws.Removed.{stands-outcome, made-removed}
 use Rattle.pieces.proofs.removed.pieces_of.Goals as goal
 

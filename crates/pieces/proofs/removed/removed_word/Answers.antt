@@ -1,6 +1,5 @@
 -- `pieces::removed::removed_word` meets its contract: a refused word has no pieces, any other has its own. Assumes nothing.
 use mathlib.Core.Path.{sym, ◌∙◌}
-use borrow.Author.Rules.{rules}
 use Rattle.turkish.specs.PieceCalls.{unused}
 use Rattle.pieces.proofs.Laws.Calls.{refusal-accepted, lists-refused, lists-given}
 use Rattle.pieces.proofs.removed.removed_word.Goals as goal

@@ -1,7 +1,6 @@
 -- `pieces::text::pieces_text` meets its contract: a refused call writes nothing, any other the lines of the word's pieces. Assumes nothing.
 use mathlib.Core.Path.{sym, subst}
 use native.Mathlib.Omega.{arith}
-use borrow.Author.Rules.{rules}
 use Rattle.refusals.proofs.Laws.Refusals.{short-accepted}
 use Rattle.kinds.specs.Entries.{Inside}
 use Rattle.pieces.proofs.Laws.Removed.{inside-removed}

@@ -1,6 +1,5 @@
 -- `words::refusal::refusal_of` meets its contract: each of its tests is one of the definition's.
 -- Assumes nothing.
-use borrow.Author.Rules.{rules}
 use mathlib.Core.Path.{sym, ◌∙◌}
 use Rattle.turkish.specs.Calls.{limit}
 use Rattle.theorems.proofs.Laws.Accepted.{refusal-long, refusal-text, refusal-not-text}

@@ -1,7 +1,6 @@
 -- `stages::postlude::append_U_to_stems_ending_with_d_or_g` meets its contract: where the character seen last is d or g, the vowel is
 -- the one gained after the last vowel before it. Assumes nothing.
 use native.Mathlib.Omega.{arith}
-use borrow.Author.Rules.{rules}
 use Rattle.vowels.proofs.Laws.LastVowel.{last-ch}
 use Rattle.repairs.proofs.Laws.Repairs.{one-le, appended-after, appended-not}
 use Rattle.repairs.proofs.postlude.append_U_to_stems_ending_with_d_or_g.Goals as goal

@@ -6,7 +6,6 @@ use Rattle.turkish.specs.Letters.{text, any, has}
 use Rattle.theorems.specs.Simple.Postlude.{gained}
 use Rattle.vowels.proofs.Laws.Sounds.{sound_of-no_vowel, sound_of-ch}
 use Rattle.repairs.proofs.Laws.Repairs.{either_number, gained-none, gained-vowelless}
-use borrow.Author.Rules.{rules}
 use Rattle.repairs.proofs.postlude.gained_after.Goals as goal
 
 pub returns-in_default : goal.returns-in_default

@@ -1,7 +1,6 @@
 -- `stages::postlude::is_reserved_word` meets its contract: the bytes tested are an ASCII literal, and so are the characters.
 -- Assumes nothing.
 use mathlib.Core.Path.{sym, ◌∙◌}
-use borrow.Author.Rules.{rules}
 use Rattle.turkish.specs.Letters.{text}
 use Rattle.repairs.proofs.Laws.Repairs.{reserved-two, reserved-five, reserved-no}
 use Rattle.repairs.proofs.postlude.is_reserved_word.Goals as goal

@@ -2,7 +2,6 @@
 -- says which of them the last character is. Assumes nothing.
 use mathlib.Core.Path.{ap, ◌∙◌}
 use native.Mathlib.Omega.{arith}
-use borrow.Author.Rules.{rules}
 use Rattle.repairs.proofs.Laws.Hardened.{hard_form, hard_form-last, hardened-nothing, hardened-key}
 use Rattle.repairs.proofs.Laws.Repairs.{sees-ending}
 use Rattle.repairs.proofs.postlude.post_process_last_consonants.Goals as goal

@@ -1,7 +1,6 @@
 -- `stages::postlude::postlude` meets its contract: each return is the repair by the tests on its way. Assumes nothing.
 use mathlib.Core.Path.{sym, ◌∙◌}
 use native.Mathlib.Omega.{arith}
-use borrow.Author.Rules.{rules}
 use Rattle.utf8.specs.Characters.{before}
 use Rattle.utf8.proofs.Laws.Behind.{open-start}
 use Rattle.repairs.specs.Repairs.{ending}

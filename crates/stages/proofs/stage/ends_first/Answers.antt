@@ -1,5 +1,4 @@
 -- `stages::stage::ends_first` meets its contract: its code is the definition. Assumes nothing.
-use borrow.Author.Rules.{rules}
 use Rattle.stages.specs.Groups.{first_ends_of}
 use Rattle.stages.proofs.stage.ends_first.Goals as goal
 

@@ -1,7 +1,6 @@
 -- `stages::stage::fifth_branch` meets its contract: ymUs_ is tried from where a person's ending leads, after its deletion. In each answer l is
 -- the place behind what is seen there. Assumes nothing.
 use mathlib.Core.Path.{refl, sym, ◌∙◌}
-use borrow.Author.Rules.{rules}
 use Rattle.theorems.specs.Simple.Grammar.{try}
 use Rattle.theorems.specs.Simple.Marks.{ymUs}
 use Rattle.theorems.specs.Simple.Pieces.{trace_of, trace}

@@ -1,6 +1,5 @@
 -- `stages::stage::first_branch` meets its contract: the group of line 314, and all from where it leads on deleted. Assumes nothing.
 use mathlib.Core.Path.{refl}
-use borrow.Author.Rules.{rules}
 use Rattle.theorems.specs.Simple.Stage.{branch1}
 use Rattle.vowels.specs.Accord.{no_accord}
 use Rattle.marks.proofs.Laws.Marks.{reach-fails}

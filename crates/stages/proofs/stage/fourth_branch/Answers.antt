@@ -1,7 +1,6 @@
 -- `stages::stage::fourth_branch` meets its contract: what must follow nUz goes on from where that leads. In each answer l is the place behind
 -- what is seen there. Assumes nothing.
 use mathlib.Core.Path.{refl}
-use borrow.Author.Rules.{rules}
 use Rattle.theorems.specs.Simple.Marks.{nUz}
 use Rattle.theorems.specs.Simple.Pieces.{trace}
 use Rattle.theorems.specs.Simple.Stage.{branch4}

@@ -1,7 +1,6 @@
 -- `stages::stage::person_and_ymUs` meets its contract: ymUs_ goes on from where a person's ending leads, and stands alone where none fits.
 -- In each answer l is the place behind what is seen there. Assumes nothing.
 use mathlib.Core.Path.{sym, ap, ◌∙◌}
-use borrow.Author.Rules.{rules}
 use Rattle.theorems.specs.Simple.Marks.{ymUs}
 use Rattle.theorems.specs.Simple.Pieces.{trace_of, trace}
 use Rattle.keys.proofs.Laws.Sees.{sees-made}

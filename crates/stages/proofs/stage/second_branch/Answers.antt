@@ -1,7 +1,6 @@
 -- `stages::stage::second_branch` meets its contract: what follows cAsInA goes on from where that leads. In each answer l is the place behind
 -- what is seen there. Assumes nothing.
 use mathlib.Core.Path.{sym, ◌∙◌}
-use borrow.Author.Rules.{rules}
 use Rattle.theorems.specs.Simple.Grammar.{mark, ◌then◌}
 use Rattle.theorems.specs.Simple.Marks.{cAsInA, ymUs}
 use Rattle.theorems.specs.Simple.Pieces.{trace}

@@ -1,7 +1,6 @@
 -- `stages::stage::third_branch` meets its contract: what may follow lAr is tried from where that leads, after its deletion. In each answer l is
 -- the place behind what is seen there. Assumes nothing.
 use mathlib.Core.Path.{refl, ◌∙◌}
-use borrow.Author.Rules.{rules}
 use Rattle.theorems.specs.Simple.Grammar.{try}
 use Rattle.theorems.specs.Simple.Marks.{lAr}
 use Rattle.theorems.specs.Simple.Pieces.{trace}

@@ -1,5 +1,4 @@
 -- `stages::stage::ymUs_alone` meets its contract: one mark by itself. Assumes nothing.
-use borrow.Author.Rules.{rules}
 use Rattle.theorems.specs.Simple.Marks.{ymUs}
 use Rattle.theorems.specs.Simple.Pieces.{trace}
 use Rattle.vowels.specs.Accord.{no_accord}

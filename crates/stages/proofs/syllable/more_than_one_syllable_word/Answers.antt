@@ -1,6 +1,5 @@
 -- `stages::syllable::more_than_one_syllable_word` meets its contract: a vowel stands before the last one. Assumes nothing.
 use native.Mathlib.Omega.{arith}
-use borrow.Author.Rules.{rules}
 use Rattle.vowels.proofs.Laws.LastVowel.{last-at-le, more_than_one_syllable-last}
 use Rattle.stages.proofs.syllable.more_than_one_syllable_word.Goals as goal
 

@@ -4,7 +4,6 @@ use Rattle.utf8.proofs.Laws.CharAt.{char_at-one, char_at-two, char_at-three, cha
 use Rattle.encoding.specs.Encoding.{decode}
 use mathlib.Core.Path.{sym, ◌∙◌}
 use native.Mathlib.Omega.{arith}
-use borrow.Author.Rules.{rules}
 use Rattle.utf8.proofs.characters.char_at.Goals as goal
 
 pub overflow_cast-result : goal.overflow_cast-result

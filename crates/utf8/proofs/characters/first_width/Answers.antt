@@ -3,7 +3,6 @@ use Rattle.utf8.proofs.Laws.Widths.{width_one, width_two, width_three, width-fou
 use Rattle.utf8.specs.Characters.{first_width_of}
 use borrow.Author.Tests.{not-true, not-false}
 use mathlib.Core.Path.{sym, ◌∙◌}
-use borrow.Author.Rules.{rules}
 use Rattle.utf8.proofs.characters.first_width.Goals as goal
 
 pub returns-then-not-continues_at : goal.returns-then-not-continues_at

@@ -2,7 +2,6 @@
 -- nothing.
 use Rattle.utf8.proofs.Laws.Widths.{goes_on_of-start, goes_on_of-byte}
 use mathlib.Core.Path.{sym, ◌∙◌}
-use borrow.Author.Rules.{rules}
 use Rattle.utf8.proofs.characters.goes_on.Goals as goal
 
 pub returns-then-c-k : goal.returns-then-c-k

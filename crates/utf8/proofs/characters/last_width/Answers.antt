@@ -4,7 +4,6 @@ use Rattle.utf8.proofs.Laws.Widths.{width_one, width_two, width_three, width-fou
 use Rattle.utf8.specs.Characters.{last_width_of}
 use borrow.Author.Tests.{not-true, not-false}
 use mathlib.Core.Path.{sym, ◌∙◌}
-use borrow.Author.Rules.{rules}
 use Rattle.utf8.proofs.characters.last_width.Goals as goal
 
 pub returns-then-not-goes_on : goal.returns-then-not-goes_on

@@ -6,7 +6,6 @@ use Rattle.utf8.proofs.Laws.ReadBack.{read_back_of-zero, read_back_of-made, read
 use Rattle.encoding.proofs.Laws.Booleans.{and_left, and_right, not-eq-false}
 use native.Mathlib.Omega.{arith}
 use mathlib.Core.Path.{refl, sym, ◌∙◌}
-use borrow.Author.Rules.{rules}
 use Rattle.utf8.proofs.characters.read_back.Goals as goal
 
 pub returns-then-c-eq0 : goal.returns-then-c-eq0

@@ -3,7 +3,6 @@
 use mathlib.Core.Path.{refl, sym, ◌∙◌}
 use mathlib.Core.Bool.{not}
 use native.Mathlib.Omega.{arith}
-use borrow.Author.Rules.{rules}
 use Rattle.encoding.proofs.Laws.Booleans.{and_left, and_right, not-eq-false}
 use Rattle.utf8.proofs.Laws.ReadBack.{read_back_of-ascii, read_back_of-two}
 use Rattle.utf8.proofs.characters.read_short_back.Goals as goal

@@ -2,7 +2,6 @@
 use Rattle.utf8.proofs.Laws.Steps.{eq_s_of-out, eq_s_of-edge, eq_s_of-short, eq_s_of-differs, eq_s_of-made, within_on}
 use borrow.Author.Tests.{not-true, not-false}
 use mathlib.Core.Path.{sym, ◌∙◌}
-use borrow.Author.Rules.{rules}
 use Rattle.utf8.proofs.literal.eq_s.Goals as goal
 
 pub returns-then-not-stands_in : goal.returns-then-not-stands_in

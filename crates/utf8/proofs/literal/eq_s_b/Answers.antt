@@ -2,7 +2,6 @@
 use Rattle.utf8.proofs.Laws.Steps.{stands-within, eq_s_b_of-out, eq_s_b_of-short, eq_s_b_of-differs, eq_s_b_of-made, within-back}
 use borrow.Author.Tests.{not-true, not-false}
 use mathlib.Core.Path.{sym, ◌∙◌}
-use borrow.Author.Rules.{rules}
 use Rattle.utf8.proofs.literal.eq_s_b.Goals as goal
 
 pub returns-then-not-stands_in : goal.returns-then-not-stands_in

@@ -1,11 +1,9 @@
 -- `utf8::literal::stands_at` meets its contract: the loop's invariant: the rest of the literal stands where it should exactly
 -- when all of it does. The measure is that rest. Assumes nothing.
-use Rattle.utf8.proofs.Laws.Steps.{stands_at_of-start, stands_at_of-differs, stands_at_of-next, stands_at_of-end}
 use Rattle.utf8.specs.Steps.{stands_at_of}
 use lib.ListN.{length, drop}
 use Prim.Native.Nat.{◌+◌, ◌-◌, ◌≤◌}
-use native.Mathlib.Omega.{arith}
-use mathlib.Core.Path.{◌≡◌, sym, ◌∙◌}
+use mathlib.Core.Path.{◌≡◌}
 use Rattle.utf8.proofs.literal.stands_at.Given as goal
 
 abbrev pub invariant-loop-k : goal.invariant-loop-k

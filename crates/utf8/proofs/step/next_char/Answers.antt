@@ -5,7 +5,6 @@ use Rattle.utf8.proofs.Laws.Characters.{first_width_of-pos, first_width_of-four}
 use borrow.Author.Tests.{not-true, not-false}
 use native.Mathlib.Omega.{arith}
 use mathlib.Core.Path.{sym, ◌∙◌}
-use borrow.Author.Rules.{rules}
 use Rattle.utf8.proofs.step.next_char.Goals as goal
 
 pub returns-then-not-stands_in : goal.returns-then-not-stands_in

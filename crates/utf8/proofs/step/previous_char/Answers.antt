@@ -5,7 +5,6 @@ use Rattle.utf8.proofs.Laws.Characters.{last_width_of-pos, last_width_of-four}
 use borrow.Author.Tests.{not-true, not-false}
 use native.Mathlib.Omega.{arith}
 use mathlib.Core.Path.{sym, ◌∙◌}
-use borrow.Author.Rules.{rules}
 use Rattle.utf8.proofs.step.previous_char.Goals as goal
 
 pub returns-then-not-stands_in : goal.returns-then-not-stands_in

@@ -1,17 +1,13 @@
 -- `letters::harmony::check_vowel_harmony` meets its contract. The first loop's invariant: what is found from here on is what is found from
 -- c on; the second's: what is sought from here on, with the yes so far, is what is found from c on, and v is the vowel with its
 -- partners. The measure is the place. Assumes nothing.
-use Prim.Native.Nat.{◌≤◌}
-use mathlib.Core.Path.{◌≡◌, refl, sym, ap, ◌∙◌}
+use mathlib.Core.Path.{refl, sym, ap, ◌∙◌}
 use native.Mathlib.Omega.{arith}
-use borrow.Author.Rules.{rules}
-use Rattle.theorems.specs.Simple.Harmony.{partner}
-use Rattle.vowels.specs.declared.vowel.Sound.TheVariants.{AVowel}
 use Rattle.vowels.specs.Sounds.{sound_of}
-use Rattle.vowels.specs.Accord.{discord, accord_before}
+use Rattle.vowels.specs.Accord.{discord}
 use Rattle.vowels.proofs.Laws.Sounds.{sound_of-no_vowel, sound_of-a_vowel, sound_of-ch, partner-sound}
 use Rattle.vowels.proofs.Laws.Walk.{last_width_of-bounds, before-char_at}
-use Rattle.vowels.proofs.Laws.Found.{seeks, seeks-skips, seeks-passes, seeks-stops, seeks-none, partner-no, accord_before-skips, accord_before-stops, accord_before-none}
+use Rattle.vowels.proofs.Laws.Found.{seeks-skips, seeks-passes, seeks-stops, seeks-none, partner-no, accord_before-skips, accord_before-stops, accord_before-none}
 use Rattle.vowels.proofs.harmony.check_vowel_harmony.Goals as goal
 
 pub goto-init : goal.goto-init

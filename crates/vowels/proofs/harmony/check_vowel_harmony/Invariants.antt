@@ -2,16 +2,12 @@
 -- c on; the second's: what is sought from here on, with the yes so far, is what is found from c on, and v is the vowel with its
 -- partners. The measure is the place. Assumes nothing.
 use Prim.Native.Nat.{◌≤◌}
-use mathlib.Core.Path.{◌≡◌, refl, sym, ap, ◌∙◌}
-use native.Mathlib.Omega.{arith}
-use borrow.Author.Rules.{rules}
+use mathlib.Core.Path.{◌≡◌}
 use Rattle.theorems.specs.Simple.Harmony.{partner}
 use Rattle.vowels.specs.declared.vowel.Sound.TheVariants.{AVowel}
 use Rattle.vowels.specs.Sounds.{sound_of}
-use Rattle.vowels.specs.Accord.{discord, accord_before}
-use Rattle.vowels.proofs.Laws.Sounds.{sound_of-no_vowel, sound_of-a_vowel, sound_of-ch, partner-sound}
-use Rattle.vowels.proofs.Laws.Walk.{last_width_of-bounds, before-char_at}
-use Rattle.vowels.proofs.Laws.Found.{seeks, seeks-skips, seeks-passes, seeks-stops, seeks-none, partner-no, accord_before-skips, accord_before-stops, accord_before-none}
+use Rattle.vowels.specs.Accord.{accord_before}
+use Rattle.vowels.proofs.Laws.Found.{seeks}
 use Rattle.vowels.proofs.harmony.check_vowel_harmony.Given as goal
 
 abbrev pub invariant-goto : goal.invariant-goto
@@ -26,4 +22,3 @@ invariant-goto-2 l = (l.at ≤ l.c) × (sound_of l.v.ch ≡ AVowel l.v) × (seek
 -- ---- to the last vowel ----
 abbrev pub decreases-goto-2 : goal.decreases-goto-2
 decreases-goto-2 l = l.at
-

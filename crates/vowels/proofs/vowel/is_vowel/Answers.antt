@@ -1,7 +1,6 @@
 -- `letters::vowel::is_vowel` meets its contract: the sound of a code point tells whether it is a vowel.
 -- Assumes nothing.
 use mathlib.Core.Path.{sym, ◌∙◌}
-use borrow.Author.Rules.{rules}
 use Rattle.vowels.proofs.Laws.Sounds.{sound_of-no_vowel, sound_of-a_vowel}
 use Rattle.vowels.proofs.vowel.is_vowel.Goals as goal
 

@@ -1,12 +1,8 @@
 -- `letters::walk::last_vowel` meets its contract. The walk's invariant: what is left to walk has the last vowel of all of it. The
 -- measure is the place. Assumes nothing.
 use Prim.Native.Nat.{◌≤◌}
-use mathlib.Core.Path.{◌≡◌, refl, sym, ◌∙◌}
-use native.Mathlib.Omega.{arith}
-use borrow.Author.Rules.{rules}
+use mathlib.Core.Path.{◌≡◌}
 use Rattle.vowels.specs.LastVowel.{last_vowel_answer}
-use Rattle.vowels.proofs.Laws.Walk.{last_width_of-bounds, before-char_at}
-use Rattle.vowels.proofs.Laws.LastVowel.{last_vowel_answer-skips, last_vowel_answer-stops, last_vowel_answer-none}
 use Rattle.vowels.proofs.walk.last_vowel.Given as goal
 
 abbrev pub invariant-gopast : goal.invariant-gopast

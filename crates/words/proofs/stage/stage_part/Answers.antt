@@ -3,7 +3,6 @@
 use Rattle.stages.proofs.Laws.Kept.{kept-length-take}
 use Rattle.words.proofs.Laws.WordCalls.{stage_part_of-refused, stage_part_of-given}
 use native.Mathlib.Omega.{arith}
-use borrow.Author.Rules.{rules}
 use Rattle.words.proofs.stage.stage_part.Goals as goal
 
 pub returns-then-refusal_of-ne0 : goal.returns-then-refusal_of-ne0

@@ -1,7 +1,6 @@
 -- `words::syllable::check_syllables` meets its contract: the number found says which case of `syllable_call` holds. Assumes
 -- nothing.
 use Rattle.words.proofs.Laws.WordCalls.{syllable_call-refused, syllable_call-given}
-use borrow.Author.Rules.{rules}
 use Rattle.words.proofs.syllable.check_syllables.Goals as goal
 
 pub returns-then-n-ne0 : goal.returns-then-n-ne0

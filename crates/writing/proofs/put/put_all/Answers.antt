@@ -3,7 +3,6 @@
 use mathlib.Core.Path.{refl}
 use native.Mathlib.Omega.{arith}
 use lib.Seq.{take-length}
-use borrow.Author.Rules.{rules}
 use Rattle.writing.proofs.Laws.Put.{put-ends}
 use Rattle.writing.proofs.put.put_all.Goals as goal
 

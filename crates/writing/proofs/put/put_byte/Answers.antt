@@ -1,7 +1,6 @@
 -- `writing::put::put_byte` meets its contract: a byte stored is a text of one byte written.
 -- Assumes nothing.
 use mathlib.Core.Path.{refl}
-use borrow.Author.Rules.{rules}
 use Rattle.writing.proofs.Laws.Put.{set-put}
 use Rattle.writing.proofs.put.put_byte.Goals as goal
 

@@ -1,11 +1,8 @@
 -- `writing::put::put_bytes` meets its contract. The loop's invariant: the bytes passed are written, and the output keeps its length.
 -- The measure is what is left of them. Assumes nothing.
-use Prim.Native.Nat.{◌-◌, ◌≤◌}
 use mathlib.Core.Path.{◌≡◌, refl, ◌∙◌}
 use native.Mathlib.Omega.{arith}
-use lib.ListN.{length, take, length-set}
-use borrow.Author.Rules.{rules}
-use Rattle.writing.specs.Put.{put}
+use lib.ListN.{length-set}
 use Rattle.writing.proofs.Laws.Put.{put-nothing, set_next}
 use Rattle.writing.proofs.put.put_bytes.Goals as goal
 

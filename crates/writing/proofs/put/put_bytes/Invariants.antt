@@ -1,12 +1,9 @@
 -- `writing::put::put_bytes` meets its contract. The loop's invariant: the bytes passed are written, and the output keeps its length.
 -- The measure is what is left of them. Assumes nothing.
 use Prim.Native.Nat.{◌-◌, ◌≤◌}
-use mathlib.Core.Path.{◌≡◌, refl, ◌∙◌}
-use native.Mathlib.Omega.{arith}
-use lib.ListN.{length, take, length-set}
-use borrow.Author.Rules.{rules}
+use mathlib.Core.Path.{◌≡◌}
+use lib.ListN.{length, take}
 use Rattle.writing.specs.Put.{put}
-use Rattle.writing.proofs.Laws.Put.{put-nothing, set_next}
 use Rattle.writing.proofs.put.put_bytes.Given as goal
 
 abbrev pub invariant-loop-i : goal.invariant-loop-i

@@ -1,6 +1,5 @@
 -- `marks::marked::Marked::in_harmony` meets its contract: where harmony does not hold, the mark fails. Assumes nothing.
 use mathlib.Core.Path.{sym, ap, ◌∙◌}
-use borrow.Author.Rules.{rules}
 use borrow.Author.Tests.{not-true, not-false}
 use Rattle.vowels.specs.Accord.{holds}
 use Rattle.keys.specs.Passed.{passed_to}

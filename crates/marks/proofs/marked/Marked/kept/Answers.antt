@@ -1,5 +1,4 @@
 -- `marks::marked::Marked::kept` meets its contract: where the key and what joins it do not fit, the mark fails. Assumes nothing.
-use borrow.Author.Rules.{rules}
 use borrow.Author.Tests.{not-true, not-false}
 use Rattle.vowels.specs.Accord.{no_accord}
 use Rattle.marks.specs.Reach.{kept}

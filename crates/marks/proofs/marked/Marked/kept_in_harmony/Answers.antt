@@ -1,7 +1,6 @@
 -- `marks::marked::Marked::kept_in_harmony` meets its contract: where the key and what joins it do not fit, or harmony does not hold, the mark
 -- fails. Assumes nothing.
 use mathlib.Core.Path.{sym, ap, ◌∙◌}
-use borrow.Author.Rules.{rules}
 use borrow.Author.Tests.{not-true, not-false}
 use Rattle.vowels.specs.Accord.{holds}
 use Rattle.marks.specs.Reach.{kept_in_harmony_of}

@@ -1,6 +1,5 @@
 -- `marks::marked::Marked::place` meets its contract. Assumes nothing.
 use mathlib.Core.Path.{sym, ap, ◌∙◌}
-use borrow.Author.Rules.{rules}
 use Rattle.keys.specs.Passed.{not_passed_of}
 use Rattle.marks.specs.Reach.{place_of}
 use Rattle.marks.proofs.marked.Marked.place.Goals as goal

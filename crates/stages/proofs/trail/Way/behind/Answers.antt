@@ -4,7 +4,6 @@ use Rattle.vowels.specs.declared.harmony.Accord.{Accord}
 use Rattle.stages.specs.declared.trail.Trail.{Trail}
 use Rattle.stages.specs.declared.trail.Way.{Way}
 use Rattle.stages.specs.Trail.{behind_way}
-use borrow.Author.Rules.{rules}
 use Rattle.stages.proofs.trail.Way.behind.Goals as goal
 
 pub returns : goal.returns

@@ -1,5 +1,4 @@
 -- `letters::harmony::Accord::or_else` meets its contract. Assumes nothing.
-use borrow.Author.Rules.{rules}
 use Rattle.vowels.specs.Accord.{or_accord}
 use Rattle.vowels.proofs.harmony.Accord.or_else.Goals as goal
 
