@@ -11,7 +11,7 @@ refusal_of-number-requires c = tails-survey _ c.find_tails-t.ensures
 
 pub returns-then-number-ne0 : goal.returns-then-number-ne0
 returns-then-number-ne0 c = let s = c.args in let p = call-refused (batch s.front.now s.slice.now s.lengths.now s.answers.now s.flags.now) _ c.refusal_of-number.ensures c.if-number-ne0.true in
-    record { value = p.0; lengths_after = p.1; answers_after = p.2; flags_after = p.3 }
+    record { value = p.0; lengths_after = p.1.0; answers_after = p.1.1.0; flags_after = p.1.1.1 }
 
 pub put_entries-requires : goal.put_entries-requires
 put_entries-requires c = let s = c.args in

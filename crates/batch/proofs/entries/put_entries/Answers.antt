@@ -25,7 +25,7 @@ put_stand_in-m-requires c = omega (arith, stand_in_room-is)
 
 pub loop-i-init : goal.loop-i-init
 unfolding word_room limit
-loop-i-init c = entered-none _ _ _ _ (omega (arith, stand_in_room-is)) (rw c.summary_of.ensures at (c.put_stand_in-m.ensures.value, c.put_stand_in-m.ensures.out_after))
+loop-i-init c = entered-none _ _ _ _ (omega (arith, stand_in_room-is)) (rw c.summary_of.ensures at c.put_stand_in-m.ensures.value, rw c.summary_of.ensures at c.put_stand_in-m.ensures.out_after)
 
 pub offset_bounds-t-i : goal.offset_bounds-t-i
 unfolding most_tails
@@ -59,7 +59,7 @@ slice_bounds-put_entry-end-in-loop-i c =
 
 pub put_entry-requires : goal.put_entry-requires
 put_entry-requires c = let l = c.loop-i in let p = ready _ _ _ _ _ _ _ _ l.invariant c.requires.flags_value _ c.requires.t_value c.loop-i-test.true in
-    record { tail_in_bounds = p.0; tail_bound = p.1; tail_bound_2 = p.2; i_in_bounds = p.3; i_in_bounds_2 = p.4; i_in_bounds_3 = p.5 }
+    record { tail_in_bounds = p.0; tail_bound = p.1.0; tail_bound_2 = p.1.1.0; i_in_bounds = p.1.1.1.0; i_in_bounds_2 = p.1.1.1.1.0; i_in_bounds_3 = p.1.1.1.1.1 }
 
 pub overflow_add-i : goal.overflow_add-i
 unfolding most_tails
@@ -91,4 +91,4 @@ shape_of-flags c = c.loop-i.invariant.sizes.2
 
 pub returns : goal.returns
 returns c = let p = entered_all _ _ _ _ _ _ _ _ c.loop-i.invariant c.requires.flags_value (omega (arith, survey-count _ (tails-survey _ c.requires.t_value), c.loop-i-test.false)) in
-    record { lengths_after = p.0; answers_after = p.1; flags_after = p.2 }
+    record { lengths_after = p.0; answers_after = p.1.0; flags_after = p.1.1 }

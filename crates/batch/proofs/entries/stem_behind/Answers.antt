@@ -6,11 +6,11 @@ use Rattle.batch.proofs.entries.stem_behind.Goals as goal
 
 pub slice_bounds-stem_nominal_verb_suffixes-end-2 : goal.slice_bounds-stem_nominal_verb_suffixes-end-2
 slice_bounds-stem_nominal_verb_suffixes-end-2 c =
-    behind-end _ _ c.args.tail.now c.args.word.now _ c.requires c.put_all_lem.ensures
+    behind-end _ _ c.args.tail.now c.args.word.now _ c.requires (c.put_all-end.ensures.value, c.put_all-end.ensures.out_after)
 
 pub overflow_sub-result : goal.overflow_sub-result
 overflow_sub-result c =
-    behind-kept _ _ c.args.tail.now c.args.word.now _ c.requires c.put_all_lem.ensures _ c.stem_nominal_verb_suffixes-o.ensures
+    behind-kept _ _ c.args.tail.now c.args.word.now _ c.requires (c.put_all-end.ensures.value, c.put_all-end.ensures.out_after) _ c.stem_nominal_verb_suffixes-o.ensures
 
 pub returns : goal.returns
-returns c = record { value = behind-removal _ _ c.args.tail.now c.args.word.now _ c.requires c.put_all_lem.ensures _ c.stem_nominal_verb_suffixes-o.ensures; word_after = c.put_all_lem.ensures.1 }
+returns c = record { value = behind-removal _ _ c.args.tail.now c.args.word.now _ c.requires (c.put_all-end.ensures.value, c.put_all-end.ensures.out_after) _ c.stem_nominal_verb_suffixes-o.ensures; word_after = c.put_all-end.ensures.out_after }

@@ -9,6 +9,7 @@ use lib.ListN.{get_or}
 use borrow.Author.Rules.{rules}
 use Rattle.batch.specs.Tails.{leads}
 use Rattle.batch.proofs.Laws.Tails.{part, lead, lead-none, lead-one, leads-at, leads-end, leads-within}
+use Rattle.batch.proofs.tails.count_leads.Goals.{then-not-is_continuation, else-not-is_continuation}
 use Rattle.batch.proofs.tails.count_leads.Goals as goal
 
 pub loop-i-init : goal.loop-i-init
@@ -25,7 +26,8 @@ loop-i-preserved c =
     let b = get_or w l.i 0 in
     let k : c.if-not-is_continuation.k ≡ l.k + lead b =
     let r = c.is_continuation.ensures in
-    ⊎_elim (λ u. lead-one b l.k r u.0.taken u.1) (λ u. lead-none b l.k r u.0.left u.1) c.if-not-is_continuation.branch in
+    elim c.if-not-is_continuation.branch [ then-not-is_continuation u ↦ lead-one b l.k r u.if-not-is_continuation.true-raw u.k-is
+    | else-not-is_continuation u ↦ lead-none b l.k r u.if-not-is_continuation.false-raw u.k-is ] in
     let e = leads-at w l.i c.args.to (omega arith) (omega arith) in
     (omega arith, omega arith, omega arith)
 

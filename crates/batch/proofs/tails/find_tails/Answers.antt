@@ -8,6 +8,7 @@ use lib.ListN.{length, set}
 use borrow.Author.Rules.{rules}
 use Rattle.batches.specs.BatchCalls.{most_tails}
 use Rattle.batch.proofs.Laws.Tails.{line-ends, line-within, Found, found_none, found-line, found_all}
+use Rattle.batch.proofs.tails.find_tails.Goals.{then-count-lt-TAILS, else-count-lt-TAILS, then-longest-end, else-longest-end}
 use Rattle.batch.proofs.tails.find_tails.Goals as goal
 
 pub loop-at-init : goal.loop-at-init
@@ -36,11 +37,11 @@ loop-at-preserved c =
     let line = c.line_at-line in
     let end = line.result.end in
     let stored : l.count < most_tails → c.if-count-lt-TAILS.ends ≡ set l.ends l.count end =
-    ⊎_elim (λ u h. u.1) (λ u h. absurd (omega arith)) c.if-count-lt-TAILS.branch in
+    elim c.if-count-lt-TAILS.branch [ then-count-lt-TAILS u ↦ λ h. u.ends-is | else-count-lt-TAILS u ↦ λ h. absurd (omega arith) ] in
     let kept : most_tails ≤ l.count → c.if-count-lt-TAILS.ends ≡ l.ends =
-    ⊎_elim (λ u h. absurd (omega arith)) (λ u h. u.1) c.if-count-lt-TAILS.branch in
+    elim c.if-count-lt-TAILS.branch [ then-count-lt-TAILS u ↦ λ h. absurd (omega arith) | else-count-lt-TAILS u ↦ λ h. u.ends-is ] in
     let most : c.if-longest-end.longest ≡ max l.longest (end - l.at) =
-    ⊎_elim (λ u. omega arith) (λ u. omega arith) c.if-longest-end.branch in
+    elim c.if-longest-end.branch [ then-longest-end u ↦ omega arith | else-longest-end u ↦ omega arith ] in
     found-line _ _ line.result l.invariant c.loop-at-test.true line.ensures stored kept most
 
 pub returns : goal.returns

@@ -10,6 +10,7 @@ use borrow.Author.Tests.{not-true, not-false}
 use Rattle.turkish.specs.Letters.{lf}
 use Rattle.batch.proofs.Laws.Tails.{lead, lead-one, lead-none, line-lf, line-end, Remains}
 use Rattle.batch.proofs.Laws.Tails.{remains-start, remains-fit, remains-part, remains-byte, remains-none}
+use Rattle.batch.proofs.tails.line_at.Goals.{then-not-is_continuation, else-not-is_continuation}
 use Rattle.batch.proofs.tails.line_at.Goals as goal
 
 pub loop-at-init : goal.loop-at-init
@@ -47,7 +48,8 @@ loop-at-2-preserved c =
     let other = c.if-w-at-ne-LF.true-raw in
     let k : c.if-not-is_continuation.chars ≡ l.chars + lead b =
     let r = c.is_continuation.ensures in
-    ⊎_elim (λ u. lead-one b l.chars r u.0.taken u.1) (λ u. lead-none b l.chars r u.0.left u.1) c.if-not-is_continuation.branch in
+    elim c.if-not-is_continuation.branch [ then-not-is_continuation u ↦ lead-one b l.chars r u.if-not-is_continuation.true-raw u.chars-is
+    | else-not-is_continuation u ↦ lead-none b l.chars r u.if-not-is_continuation.false-raw u.chars-is ] in
     remains-byte _ l.invariant c.loop-at-2-test.true (not-true _ other) k
 
 pub returns-else-w-at-ne-LF : goal.returns-else-w-at-ne-LF

@@ -31,13 +31,13 @@ slice_bounds-copy-end c = kept-length-take _ _ c.stem_nominal_verb_suffixes-s.en
 
 pub copy-length-requires-then-not-s : goal.copy-length-requires-then-not-s
 copy-length-requires-then-not-s c =
-    front_fits _ _ _ c.refusal_into-n.ensures c.if-not-s.false c.stem_nominal_verb_suffixes-s.result.kept
+    front_fits _ _ _ c.refusal_into-n.ensures c.if-n-ne0.false c.stem_nominal_verb_suffixes-s.result.kept
 
 pub returns-then-not-s : goal.returns-then-not-s
 unfolding chars
-returns-then-not-s c = let yes = sym c.more_than_one_syllable_word.ensures ∙ not-false _ c.if-n-ne0.false in let p = pass_call-pass_out-kept _ _ _ c.refusal_into-n.ensures c.if-not-s.false yes _
+returns-then-not-s c = let yes = sym c.more_than_one_syllable_word.ensures ∙ not-false _ c.if-not-more_than_one_syllable_word.false-raw in let p = pass_call-pass_out-kept _ _ _ c.refusal_into-n.ensures c.if-n-ne0.false yes _
     c.stem_nominal_verb_suffixes-s.ensures
-    (not-true _ c.if-not-more_than_one_syllable_word.true) _ _
+    (not-true _ c.if-not-s.true) _ _
     c.copy-length-then-not-s.ensures.value
     (c.copy-length-then-not-s.ensures.out_after ∙ copy_written _ _) in
     record { value = p.0; out_after = p.1 }

@@ -11,7 +11,7 @@ put_bytes-requires c = let w = c.args.w.now in
     record { n_in_bounds = omega (arith, length-between w r c.requires.from_le_upto c.requires.upto_in_bounds); n_in_bounds_2 = omega arith }
 
 pub returns : goal.returns
-returns c = let pre = c.requires in let p = written-run _ _ pre.1.1.0 pre.1.1.1.0 _ _ _ _ _
+returns c = let p = written-run _ _ c.requires.from_le_upto c.requires.upto_in_bounds _ _ _ _ _
     c.write_repair-n.ensures.value
     c.write_repair-n.ensures.out_after
     c.put_bytes.ensures.value

@@ -30,7 +30,7 @@ returns-then-not-more_than_one_syllable_word c = let found = c.refusal_into-n.en
 
 pub write_run-length-requires : goal.write_run-length-requires
 write_run-length-requires c = let room = into-room _ _ _ _ c.refusal_into-n.ensures c.if-n-ne0.false in let p = whole_run_of-fits _ _ room _ c.whole_of-r.ensures in
-    record { keep_in_bounds = p.0; more_bound = p.1; from_le_upto = p.2; upto_in_bounds = p.3; from_in_bounds = p.4 }
+    record { keep_in_bounds = p.0; more_bound = p.1.0; from_le_upto = p.1.1.0; upto_in_bounds = p.1.1.1.0; from_in_bounds = p.1.1.1.1 }
 
 pub returns : goal.returns
 unfolding chars
