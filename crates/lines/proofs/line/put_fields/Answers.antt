@@ -29,30 +29,30 @@ put_bytes-c-requires c = let sizes = fields-sizes _ _ c.requires.w_value c.stem_
 pub put_byte-d-requires : goal.put_byte-d-requires
 unfolding line_room
 put_byte-d-requires c =
-    let sizes = fields-sizes _ _ (start (stem-kept c)).requires.0 (stem-kept c).stem_nominal_verb_suffixes.ensures in
-    omega (arith, (start (stem-kept c)).requires.1)
+    let sizes = fields-sizes _ _ c.requires.w_value c.stem_nominal_verb_suffixes-s.ensures in
+    omega (arith, c.requires)
 
 pub put_pass-e-requires : goal.put_pass-e-requires
 unfolding chars line_room
-put_pass-e-requires c = let sizes = fields-sizes _ _ (start (stem c)).requires.0 (stem c).stem_nominal_verb_suffixes.ensures in
-    record { w_value = (start (stem c)).requires.0; syllable_value = (stem c).before.more_than_one_syllable_word.ensures; s_value = (stem c).stem_nominal_verb_suffixes.ensures; w_in_bounds = omega (arith, (start (stem c)).requires.1) }
+put_pass-e-requires c = let sizes = fields-sizes _ _ c.requires.w_value c.stem_nominal_verb_suffixes-s.ensures in
+    record { w_value = c.requires.w_value; syllable_value = c.more_than_one_syllable_word-syllable.ensures; s_value = c.stem_nominal_verb_suffixes-s.ensures; w_in_bounds = omega (arith, c.requires) }
 
 pub put_byte-f-requires : goal.put_byte-f-requires
 unfolding line_room
 put_byte-f-requires c =
-    let sizes = fields-sizes _ _ (start (stem-tab c)).requires.0 (stem-tab c).stem_nominal_verb_suffixes.ensures in
-    omega (arith, (start (stem-tab c)).requires.1)
+    let sizes = fields-sizes _ _ c.requires.w_value c.stem_nominal_verb_suffixes-s.ensures in
+    omega (arith, c.requires)
 
 pub put_whole-g-requires : goal.put_whole-g-requires
 unfolding chars line_room
-put_whole-g-requires c = let sizes = fields-sizes _ _ (start (stem-whole c)).requires.0 (stem-whole c).stem_nominal_verb_suffixes.ensures in
-    record { w_value = (start (stem-whole c)).requires.0; syllable_value = (stem-whole c).before.more_than_one_syllable_word.ensures; s_value = (stem-whole c).stem_nominal_verb_suffixes.ensures; w_in_bounds = omega (arith, (start (stem-whole c)).requires.1) }
+put_whole-g-requires c = let sizes = fields-sizes _ _ c.requires.w_value c.stem_nominal_verb_suffixes-s.ensures in
+    record { w_value = c.requires.w_value; syllable_value = c.more_than_one_syllable_word-syllable.ensures; s_value = c.stem_nominal_verb_suffixes-s.ensures; w_in_bounds = omega (arith, c.requires) }
 
 pub put_byte-requires : goal.put_byte-requires
 unfolding line_room
 put_byte-requires c =
-    let sizes = fields-sizes _ _ (start (stem-lf c)).requires.0 (stem-lf c).stem_nominal_verb_suffixes.ensures in
-    omega (arith, (start (stem-lf c)).requires.1)
+    let sizes = fields-sizes _ _ c.requires.w_value c.stem_nominal_verb_suffixes-s.ensures in
+    omega (arith, c.requires)
 
 pub returns : goal.returns
 unfolding chars tab lf line_room

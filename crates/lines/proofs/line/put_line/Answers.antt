@@ -14,7 +14,7 @@ put_refused-requires c = record { n_bound = omega (arith, line_refusal_of-most c
 
 pub returns-then-n-ne0 : goal.returns-then-n-ne0
 unfolding refused_line
-returns-then-n-ne0 c = let p = put-equal _ _ (list_line-refused _ _ c.line_refusal-n.ensures c.if-n-ne0.true) c.Put-refused.ensures in
+returns-then-n-ne0 c = let p = put-equal _ _ (list_line-refused _ _ c.line_refusal-n.ensures c.if-n-ne0.true) (c.put_refused.ensures.value, c.put_refused.ensures.out_after) in
     record { value = p.0; out_after = p.1 }
 
 pub put_fields-requires : goal.put_fields-requires
