@@ -1,6 +1,5 @@
 -- The laws of the pieces as the code makes them, a file for each thing that they are about.
 pub mod Trails
-pub mod Joined
 pub mod Entries
 pub mod Removed
 pub mod Calls

@@ -23,7 +23,7 @@ use Rattle.theorems.proofs.Laws.Joints.{joins, JoinedAs, joined_as-head, joined_
 use Rattle.theorems.proofs.Laws.Offsets.{offset-back, joint_by-byte}
 use Rattle.kinds.specs.Kinds.{kind_at}
 use Rattle.kinds.proofs.Laws.Kinds.{kind_number-kind_at}
-use Rattle.pieces.proofs.Laws.Joined.{kind_joined-kind_at}
+use Rattle.kinds.proofs.Laws.Joined.{kind_joined-kind_at}
 use Rattle.stages.specs.declared.trail.Stop.{Stop}
 use Rattle.stages.specs.Outcome.{whole}
 use Rattle.pieces.specs.Removed.{piece_of}

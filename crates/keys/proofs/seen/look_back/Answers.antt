@@ -25,22 +25,13 @@ pub bounds-w-at-3 : goal.bounds-w-at-3
 bounds-w-at-3 c = omega (arith, cursor-length-le _ _ c.requires)
 
 pub overflow_cast-result : goal.overflow_cast-result
-overflow_cast-result c =
-    let byte = λ (k : ℕ). get_or c.args.w.now (c.args.c.cursor - k) 0 in
-    let small : (byte 1 < 0x80) × (byte 2 < 0x80) × (byte 3 < 0x80) = all_plain (byte 1) (byte 2) (byte 3) c.if-x-y.true in
-    search rules
+overflow_cast-result c = search rules
 
 pub overflow_cast-result-then-x-y : goal.overflow_cast-result-then-x-y
-overflow_cast-result-then-x-y c =
-    let byte = λ (k : ℕ). get_or c.args.w.now (c.args.c.cursor - k) 0 in
-    let small : (byte 1 < 0x80) × (byte 2 < 0x80) × (byte 3 < 0x80) = all_plain (byte 1) (byte 2) (byte 3) c.if-x-y.true in
-    search rules
+overflow_cast-result-then-x-y c = search rules
 
 pub overflow_cast-result-then-x-y-2 : goal.overflow_cast-result-then-x-y-2
-overflow_cast-result-then-x-y-2 c =
-    let byte = λ (k : ℕ). get_or c.args.w.now (c.args.c.cursor - k) 0 in
-    let small : (byte 1 < 0x80) × (byte 2 < 0x80) × (byte 3 < 0x80) = all_plain (byte 1) (byte 2) (byte 3) c.if-x-y.true in
-    search rules
+overflow_cast-result-then-x-y-2 c = search rules
 
 pub returns-then-x-y : goal.returns-then-x-y
 returns-then-x-y c =
