@@ -1,0 +1,2 @@
+-- What the contracts speak of beside the listing.
+pub mod Stopped
