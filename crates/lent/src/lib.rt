@@ -1,6 +1,7 @@
 // The two backward steps over one lent cursor record, and one function with plain parameters that serves the library with them.
 // Nothing here is offered to the host.
 #![tactic(auto)]
+
 ghost use Rattle.std.specs.Prelude.{◌≡◌};
 ghost use Rattle.utf8.specs.Steps.{previous_char_of, eq_s_b_of};
 ghost use Rattle.lent.specs.Over.{over};

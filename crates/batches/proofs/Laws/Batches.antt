@@ -21,7 +21,7 @@ or_parts true b e = absurd (false≢true (sym e))
 or_parts false b e = (refl, e)
 
 -- a test that none of some words passes, each fails
-some-none : (f : List ℕ → Bool) {ws : List (List ℕ)} {w : List ℕ} → some f ws ≡ false → Memᴰ w ws → f w ≡ false
+some-none : (f : List ℕ → Bool) {w : List ℕ} {ws : List (List ℕ)} → some f ws ≡ false → Memᴰ w ws → f w ≡ false
 unfolding some
 some-none f e (mathlib.Core.List.Memᴰ.head {x} {xs} p) = rw p (or_parts (f x) (some f xs) e).0
 some-none f e (mathlib.Core.List.Memᴰ.tail {x} {xs} m) = some-none f (or_parts (f x) (some f xs) e).1 m

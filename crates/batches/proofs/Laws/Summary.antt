@@ -29,6 +29,7 @@ Each P (v ∷ vs) = P v × Each P vs
 
 -- holds of any of them
 each_at : (P : ℕ → Type 0) (vs : List ℕ) (c : ℕ) → Each P vs → Memᴰ c vs → P c
+each_at P [] c h x'' = elim x'' [ ]
 each_at P (v ∷ vs) c h (Memᴰ.head e) = rw e h.0
 each_at P (v ∷ vs) c h (Memᴰ.tail m) = each_at P vs c h.1 m
 
@@ -152,7 +153,7 @@ numbered-last : (cs : List ℕ) → get_or (0 ∷ vowels) (vowel_number (last_vo
 numbered-last cs = ⊎_elim (λ h. numbered-vowel (last_vowel_of cs) h) (λ h. rw h.0 (unfold vowel_number vowel vowels text has any in refl)) (last-or-none cs)
 
 -- lists that two functions make of one, and that are equal: the functions answer alike on its members
-map_at : (f g : ℕ → ℕ) {vs : List ℕ} {v : ℕ} → map f vs ≡ map g vs → Memᴰ v vs → f v ≡ g v
+map_at : (f g : ℕ → ℕ) {v : ℕ} {vs : List ℕ} → map f vs ≡ map g vs → Memᴰ v vs → f v ≡ g v
 map_at f g e (Memᴰ.head p) = rw p (ap (λ (l : List ℕ). get_or l 0 0) e)
 map_at f g e (Memᴰ.tail m) = map_at f g (ap (drop 1) e) m
 

@@ -1,0 +1,25 @@
+-- `kinds::spelling::put_lines` meets its contract. The loop's invariant: the lines of the pieces passed are written, `at` is their end, and
+-- the output keeps its length. The measure is what is left of them. In each answer s is the start, t the loop's test, and l the loop.
+-- Assumes nothing.
+use Prim.Native.Nat.{◌-◌, ◌≤◌}
+use mathlib.Core.Path.{◌≡◌, refl}
+use mathlib.Core.List.{map}
+use native.Mathlib.Omega.{arith}
+use lib.ListN.{length, take}
+use borrow.Author.Rules.{rules}
+use Rattle.turkish.specs.Calls.{written}
+use Rattle.turkish.specs.PieceCalls.{told, unused, most_pieces, text_of}
+use Rattle.kinds.specs.Entries.{entry}
+use Rattle.kinds.proofs.Laws.Written.{written-nothing, length-mapped}
+use Rattle.kinds.proofs.Laws.Spelling.{text_of-room, put-piece_line}
+use Rattle.kinds.proofs.spelling.put_lines.Given as goal
+
+abbrev pub invariant-loop-i : goal.invariant-loop-i
+invariant-loop-i l =
+    (l.i ≤ l.count)
+    × (length l.out ≡ length l.initial.out)
+    × (l.at ≡ length (text_of l.w (map told (take l.i l.r.pieces))))
+    × (l.out ≡ written (text_of l.w (map told (take l.i l.r.pieces))) l.initial.out)
+
+abbrev pub decreases-loop-i : goal.decreases-loop-i
+decreases-loop-i l = l.count - l.i

@@ -1,0 +1,32 @@
+-- `nouns::stage::after_ncA` meets its contract: what may stand behind ncA is tried from where that leads. In each answer m is the place behind
+-- the mark. Assumes nothing.
+use mathlib.Core.Path.{◌∙◌}
+use borrow.Author.Rules.{rules}
+use borrow.Author.Tests.{not-true, not-false}
+use Rattle.theorems.specs.Simple.Grammar.{mark_of}
+use Rattle.theorems.specs.Simple.NounMarks.{ncA}
+use Rattle.theorems.specs.Simple.Nouns.{perhaps, after_ncA_of}
+use Rattle.nouns.specs.Stage.{near_ncA_of}
+use Rattle.keys.specs.Passed.{not_passed_of}
+use Rattle.marks.proofs.Laws.Marks.{place-reach}
+use Rattle.nouns.proofs.Laws.Passing.{leads-moved, leads-open, both-none, both-perhaps}
+use Rattle.nouns.proofs.stage.after_ncA.Goals as goal
+
+pub returns-then-not-p : goal.returns-then-not-p
+unfolding after_ncA_of near_ncA_of not_passed_of
+returns-then-not-p c =
+    let is = place-reach ncA _ _ c.mark_ncA.ensures c.place-p.ensures in
+    both-none _ _ (mark_of ncA) (perhaps near_ncA_of) is (not-true _ c.if-not-p.true)
+
+pub near_ncA-requires : goal.near_ncA-requires
+near_ncA-requires c =
+    let is = place-reach ncA _ _ c.mark_ncA.ensures c.place-p.ensures in
+    let lead = leads-moved _ _ _ is (not-false _ c.if-not-p.false) c.moved_to.ensures in
+    leads-open _ _ lead c.requires.opens
+
+pub returns : goal.returns
+unfolding after_ncA_of near_ncA_of
+returns c =
+    let is = place-reach ncA _ _ c.mark_ncA.ensures c.place-p.ensures in
+    let lead = leads-moved _ _ _ is (not-false _ c.if-not-p.false) c.moved_to.ensures in
+    c.to.ensures ∙ both-perhaps _ _ (mark_of ncA) near_ncA_of lead c.near_ncA.ensures
