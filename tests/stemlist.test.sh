@@ -333,6 +333,10 @@ test_a_read_only_tree() {
     echo evler | as_nobody tree/stemlist >out 2>err
     has_text out "$evler"
     mentions err "a source is newer than the program, which runs as it was built: $PWD/tree/target cannot be written"
+    chmod a+w tree/target
+    echo evler | as_nobody tree/stemlist >out 2>err
+    has_text out "$evler"
+    mentions err "a source is newer than the program, which runs as it was built: $PWD/tree/crates/stemlist cannot be written"
 }
 
 test_a_read_only_tree_with_no_program() {
