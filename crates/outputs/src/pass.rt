@@ -7,6 +7,7 @@ use refusals::refusal;
 use repairs::postlude;
 use stages::{stage, syllable};
 use turkish::answer::PassAnswer;
+use writing::put;
 
 pub fn pass_word(w: &[u8], out: &mut [u8]) -> PassAnswer
     ensures value { result ≡ pass_call w.now (length out.old) }
@@ -23,7 +24,7 @@ pub fn pass_word(w: &[u8], out: &mut [u8]) -> PassAnswer
         };
     }
     if !syllable::more_than_one_syllable_word(w, w.len()) {
-        let length = bytes::copy(w, out);
+        let length = put::copy(w, out);
         return PassAnswer {
             refusal: 0,
             length,
@@ -35,7 +36,7 @@ pub fn pass_word(w: &[u8], out: &mut [u8]) -> PassAnswer
     let s = stage::stem_nominal_verb_suffixes(w);
     let kept = s.kept;
     if !s.flag {
-        let length = bytes::copy(&w[..kept], out);
+        let length = put::copy(&w[..kept], out);
         return PassAnswer {
             refusal: 0,
             length,

@@ -4,6 +4,7 @@ ghost use Rattle.turkish.specs.Calls.{written};
 ghost use Rattle.repairs.specs.Repairs.{repair_text};
 
 use repairs::postlude::Repair;
+use writing::put;
 
 // Writes none of a and b, or a, or both, at place `at`.
 fn write_two(out: &mut [u8], at: usize, more: usize, a: u8, b: u8)
@@ -31,7 +32,7 @@ pub(crate) fn write_repair(w: &[u8], r: Repair, out: &mut [u8]) -> usize
 {
     let keep = r.keep;
     let more = r.more;
-    bytes::copy(&w[..keep], out);
+    put::copy(&w[..keep], out);
     write_two(out, keep, more, r.a, r.b);
     keep + more
 }

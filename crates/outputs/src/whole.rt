@@ -6,6 +6,7 @@ use crate::run;
 use refusals::refusal;
 use stages::{stage, syllable};
 use turkish::answer::WholeAnswer;
+use writing::put;
 
 pub fn whole_word(w: &[u8], out: &mut [u8]) -> WholeAnswer
     ensures value { result ≡ whole_call w.now (length out.old) }
@@ -19,7 +20,7 @@ pub fn whole_word(w: &[u8], out: &mut [u8]) -> WholeAnswer
         };
     }
     if !syllable::more_than_one_syllable_word(w, w.len()) {
-        let length = bytes::copy(w, out);
+        let length = put::copy(w, out);
         return WholeAnswer { refusal: 0, length };
     }
     let r = run::whole_of(w, stage::stem_nominal_verb_suffixes(w));

@@ -139,7 +139,7 @@ pub extern "C" fn probe_stage_part(w: &[u8], out: &mut [u8]) -> usize
     if out.len() < part.len() {
         return 0;
     }
-    bytes::copy(part, out)
+    put::copy(part, out)
 }
 
 // The list of a removed ending's pieces, laid out flat: kinds by number; joinings 0 for none, 1 with a y, 2 after a vowel and one

@@ -1,3 +1,4 @@
 // Bytes written at a place of a lent output.
 #![tactic(auto)]
+
 pub mod put;

@@ -1,5 +1,5 @@
 // Bytes written at a place of a lent output.
-ghost use Rattle.std.specs.Prelude.{◌≡◌, [], ◌∷◌, ◌+◌, ◌≤◌, ◌<◌, length, take};
+ghost use Rattle.std.specs.Prelude.{◌≡◌, [], ◌∷◌, ◌++◌, ◌+◌, ◌≤◌, ◌<◌, length, take, drop};
 ghost use Rattle.writing.specs.Put.{put};
 
 // The two bytes that part fields and lines.
@@ -51,4 +51,15 @@ pub fn put_all(out: &mut [u8], at: usize, s: &[u8]) -> usize
         }
     }
     put_bytes(out, at, s, n)
+}
+
+// Copies all of s to the front of the output, and gives its length.
+pub fn copy(s: &[u8], out: &mut [u8]) -> usize
+    requires { length s.now ≤ length out.old }
+    ensures value { result ≡ length s.now }
+    ensures out_after { out.new ≡ take (length s.now) s.now ++ drop (length s.now) out.old }
+{
+    let n = s.len();
+    out[..n].copy_from_slice(s);
+    n
 }

@@ -12,7 +12,7 @@ use Rattle.encoding.specs.Validity.{due, accepts, is_text}
 use Rattle.encoding.specs.Encoding.{encode_all, continuation}
 use Rattle.encoding.specs.Parts.{boundary}
 use Rattle.encoding.specs.Text.{TextOf}
-use Rattle.encoding.proofs.Laws.Validity.{text-plain}
+use Rattle.encoding.proofs.Laws.Parts.{text-plain}
 use Rattle.encoding.proofs.Laws.Parts.{text-join}
 use Rattle.encoding.proofs.Laws.Booleans.{and_left, and_right, lt-or-le}
 use Rattle.encoding.proofs.Laws.Decoding.{OneCharacter, one_byte, two_bytes, three-bytes, four_bytes, encode-lead}
