@@ -17,6 +17,7 @@ use turkish::endings::{Joining, Kind, Removed};
 use utf8::cursor::Cursor;
 use utf8::{literal, step};
 use words::stage;
+use writing::put;
 
 // Where the plain run from a place on ends; the place itself where that lies past the word.
 #[unsafe(no_mangle)]

@@ -1,0 +1,7 @@
+-- `probe::probe_eq_s_b` meets its contract: the step's own answer from the record made of the numbers, laid out flat. Assumes nothing.
+use borrow.Author.Rules.{rules}
+use Rattle.probe.proofs.probe_eq_s_b.Goals as goal
+
+pub returns : goal.returns
+returns c =
+    rw (c.flat_literal.ensures, c.eq_s_b.ensures, c.cursor_of.ensures)

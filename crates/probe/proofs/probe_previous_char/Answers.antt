@@ -1,0 +1,7 @@
+-- `probe::probe_previous_char` meets its contract: the step's own answer from the record made of the numbers, laid out flat. Assumes nothing.
+use borrow.Author.Rules.{rules}
+use Rattle.probe.proofs.probe_previous_char.Goals as goal
+
+pub returns : goal.returns
+returns c =
+    rw (c.flat_step.ensures, c.previous_char.ensures, c.cursor_of.ensures)
