@@ -22,18 +22,17 @@ version := $(shell sed -n 's/^.define FANNAVY_VERSION "\(.*\)"$$/\1/p' include/f
 
 # Proves and builds what is installed. rt goes by content: what is proved and did not change is not proved again.
 all:
-	rt check stemlist
-	rt staticlib fannavy
+	libexec/build stemlist fannavy
 
 check: $(program) $(archive)
 	tests/run
 
 # These two only where the file is missing, however old it is: an install, perhaps by root, is no time to prove.
 $(program):
-	rt check stemlist
+	libexec/build stemlist
 
 $(archive):
-	rt staticlib fannavy
+	libexec/build fannavy
 
 # The launcher looks for its helpers at ../libexec/fannavy, seen from the folder that it really is in.
 folders:

@@ -74,27 +74,45 @@ test_install_refuses_folders_that_do_not_fit() {
     [ ! -e stage ] || fail "something was installed"
 }
 
-# In a copy of the repository with a stand-in for rt: what is missing is built, what is there is taken however old it is.
-test_install_builds_only_what_is_missing() {
-    mkdir tree bin
+# In a copy of the repository with a stand-in for rt, which tells what it was asked and builds a file with nothing in it; where the file
+# `idle` is, it builds nothing.
+tree_to_build() {
+    mkdir -p tree/crates/stemlist tree/crates/fannavy bin
     cp -r "$root/Makefile" "$root/stemlist" "$root/include" "$root/docs" "$root/libexec" tree
     cat >bin/rt <<'RT'
 #!/bin/sh
-echo "$*" >>../asked
-case $1 in check) file=target/bin/$2 ;; staticlib) file=target/staticlib/lib$2.a ;; esac
-mkdir -p "${file%/*}" && : >"$file"
+name=${PWD##*/}
+echo "$* in $name" >>../../../asked
+[ ! -e ../../../idle ] || exit 0
+case $1 in run) file=out/$name ;; lib) file=out/lib$name.a ;; esac
+mkdir -p out && : >"$file"
 RT
     chmod +x bin/rt
     PATH=$PWD/bin:$PATH
+}
+
+# What is missing is built, what is there is taken however old it is.
+test_install_builds_only_what_is_missing() {
+    tree_to_build
     clean_make -C tree install "PREFIX=$PWD/there"
-    has_text asked $'check stemlist\nstaticlib fannavy\n'
+    has_text asked $'run in stemlist\nlib in fannavy\n'
     touch -d 2001-01-01 tree/target/bin/stemlist tree/target/staticlib/libfannavy.a
     clean_make -C tree install "PREFIX=$PWD/there"
     rm tree/target/staticlib/libfannavy.a
     clean_make -C tree install "PREFIX=$PWD/there"
-    has_text asked $'check stemlist\nstaticlib fannavy\nstaticlib fannavy\n'
+    has_text asked $'run in stemlist\nlib in fannavy\nlib in fannavy\n'
     clean_make -C tree
-    has_text asked $'check stemlist\nstaticlib fannavy\nstaticlib fannavy\ncheck stemlist\nstaticlib fannavy\n'
+    has_text asked $'run in stemlist\nlib in fannavy\nlib in fannavy\nrun in stemlist\nlib in fannavy\n'
+}
+
+# An archive that an earlier build left is not taken for that of this one.
+test_an_archive_is_that_of_its_build() {
+    tree_to_build
+    tree/libexec/build fannavy
+    rm tree/target/staticlib/libfannavy.a
+    touch idle
+    status 1 tree/libexec/build fannavy 2>said
+    [ ! -e tree/target/staticlib/libfannavy.a ] || fail "it was taken"
 }
 
 # With a space in its path: eval reads pkg-config's answer as the shell means it.

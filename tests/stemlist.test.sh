@@ -203,13 +203,14 @@ test_one_version_everywhere() {
 
 # ---- the tree that it stands in ----
 
-# A copy of what the launcher looks at, with the program: the sources are newer where the first argument is.
+# A copy of what the launcher looks at, with the program, which is also where rt puts it.
 tree() {
-    mkdir -p "$1/target/bin" "$1/crates" "$1/libexec" "$1/docs"
+    mkdir -p "$1/target/bin" "$1/crates/stemlist/out" "$1/docs"
     cp "$stemlist" "$1/"
-    cp "$root/libexec/clashes" "$1/libexec/"
+    cp -r "$root/libexec" "$1/"
     cp "$root/docs/stemlist.1" "$1/docs/"
     touch -d '2020-01-01' "$1/crates.txt"
+    cp "$root/target/bin/stemlist" "$1/crates/stemlist/out/"
     cp "$root/target/bin/stemlist" "$1/target/bin/"
 }
 
@@ -245,7 +246,7 @@ test_without_the_kit_nothing_is_built() {
     has_text err $'stemlist: the program cannot be built: the Rattle kit\'s command rt is not on the PATH\n'
 }
 
-# An rt that proves nothing: it says what rt says where only dates changed, or what is in the file `says`.
+# An rt that proves nothing: it says what is in the file `says`, and leaves the program as it is.
 stand_in_rt() {
     mkdir bin
     printf '#!/bin/sh\ncat "%s"\n' "$PWD/says" >bin/rt
@@ -253,10 +254,16 @@ stand_in_rt() {
     PATH=$PWD/bin:$PATH
 }
 
+# What rt says where only dates changed.
+said_of_nothing_new() {
+    printf 'rt: nothing has changed since the last proved build, by out/stemlist.stamp, so nothing is checked now\n'
+    printf 'rt: running out/stemlist; to give it other input, run that file yourself\n'
+}
+
 test_changed_dates_say_nothing() {
     tree tree
     stand_in_rt
-    printf 'rt: words proved (unchanged since it was last proved)\nrt: ok, 14 crates proved\n' >says
+    said_of_nothing_new >says
     touch tree/crates.txt
     echo evler | tree/stemlist >out 2>err
     has_text out "$evler"
@@ -268,11 +275,44 @@ test_changed_dates_say_nothing() {
 test_a_changed_source_is_told() {
     tree tree
     stand_in_rt
-    printf 'rt: words proved (unchanged since it was last proved)\nlines of no interest\nrt: lines proved (9 s)\nrt: ok, 14 crates proved\n' >says
+    cat >says <<'END'
+rt: chose --jobs 2 for lines
+fn lines::listed::put_listed: proved
+logic /opt/kit/antt-project.json: libraries=16 files=2756 sum=0
+library words: modules loaded=22 checked=0
+crate lines: modules loaded=0 checked=33
+logic=proved functions=9 sum=0 native=nat,char,string
+rt: listing: begins with what a check kept in /another/crates/listing
+crate listing: modules loaded=33 checked=1
+logic=proved functions=9 sum=0 native=nat,char,string
+linked target=x86_64-unknown-linux-gnu files=out/stemlist.o
+rt: running out/stemlist; to give it other input, run that file yourself
+END
     touch -d '1 minute' tree/crates.txt
     echo evler | tree/stemlist >out 2>err
     has_text out "$evler"
-    has_text err $'stemlist: proving and building, this once; it takes some minutes\nstemlist: lines proved (9 s)\n'
+    has_text err $'stemlist: proving and building, this once; it takes some minutes\nstemlist: lines proved\nstemlist: listing proved\n'
+}
+
+# What rt writes beside the sources is none of them.
+test_what_rt_writes_is_no_source() {
+    tree tree
+    touch -d tomorrow tree/crates/stemlist/out/stemlist.stamp
+    echo evler | without_rt tree/stemlist >out 2>err
+    has_text out "$evler"
+    is_empty err
+}
+
+test_a_failed_build_is_told() {
+    tree tree
+    stand_in_rt
+    echo 'rt: lines NOT PROVED' >says
+    printf 'exit 1\n' >>bin/rt
+    touch -d tomorrow tree/crates.txt
+    echo evler | status 1 tree/stemlist >out 2>err
+    is_empty out
+    mentions err 'stemlist: lines NOT PROVED'
+    mentions err "stemlist: it was not built; $PWD/tree/target/stemlist.log says why"
 }
 
 # A command as a user who may write nothing of ours.
@@ -293,6 +333,10 @@ test_a_read_only_tree() {
     echo evler | as_nobody tree/stemlist >out 2>err
     has_text out "$evler"
     mentions err "a source is newer than the program, which runs as it was built: $PWD/tree/target cannot be written"
+    chmod a+w tree/target
+    echo evler | as_nobody tree/stemlist >out 2>err
+    has_text out "$evler"
+    mentions err "a source is newer than the program, which runs as it was built: $PWD/tree/crates/stemlist cannot be written"
 }
 
 test_a_read_only_tree_with_no_program() {

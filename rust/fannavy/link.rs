@@ -1,4 +1,4 @@
-// Links an archive that `rt staticlib` wrote, for the build scripts of this package and of compare.
+// Links an archive that `libexec/build` wrote, for the build scripts of this package and of compare.
 // FANNAVY_STATICLIB names the archives' folder, a relative one from where cargo was called; without it,
 // it is target/staticlib of the repository.
 
@@ -29,7 +29,7 @@ fn missing(name: &str, folders: &[PathBuf], file: &str) -> String {
     let folders: Vec<_> = folders.iter().map(|f| f.display().to_string()).collect();
     let folders = folders.join(", nor in ");
     format!(
-        "no {file} in {folders}: `rt staticlib {name}` writes it to target/staticlib of Fannavy's \
+        "no {file} in {folders}: `libexec/build {name}` writes it to target/staticlib of Fannavy's \
          repository; set {VARIABLE} to the folder that has it"
     )
 }

@@ -39,7 +39,7 @@ fn run(settings: Settings) -> ExitCode {
     let needed = |part: &&Part| matches!(part.run, Run::Program(_));
     if settings.parts.iter().any(needed) && !program.is_file() {
         let path = program.display();
-        return refuse(&format!("no program {path}: `rt check stemlist` links it"));
+        return refuse(&format!("no program {path}: `libexec/build stemlist` builds it"));
     }
     let words = match Words::new(settings.vocabulary.as_deref(), settings.sizes) {
         Ok(words) => words,

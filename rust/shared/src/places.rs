@@ -9,7 +9,7 @@ pub fn vocabulary() -> PathBuf {
     named("FANNAVY_VOCABULARY", debian)
 }
 
-/// The program stemlist: the variable FANNAVY_STEMLIST, or where `rt check` links it.
+/// The program stemlist: the variable FANNAVY_STEMLIST, or where `libexec/build` puts it.
 pub fn stemlist() -> PathBuf {
     let linked = concat!(env!("CARGO_MANIFEST_DIR"), "/../../target/bin/stemlist");
     named("FANNAVY_STEMLIST", linked)

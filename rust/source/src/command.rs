@@ -196,7 +196,7 @@ impl<'a> Reader<'a> {
                 "delete" => Command::Delete,
                 "set" => Command::Set,
                 "unset" => Command::Unset,
-                "isSet" => Command::IsSet,
+                "is_set" => Command::IsSet,
                 "succeed" => Command::Succeed,
                 "next" => Command::Next,
                 "strlen==limit" => Command::StrlenIsLimit,

@@ -2,7 +2,6 @@
 
 use crate::command::{self, Node};
 use crate::tokens::{items, Place, Symbol, Token};
-use crate::written::rust_name;
 
 /// A declaration, and the line on which its value begins.
 pub struct Declared<T> {
@@ -44,11 +43,11 @@ pub struct Definition {
     pub routines: Vec<Declared<Routine>>,
 }
 
-// Where names may come from.
-const MODULES: [&str; 3] = [
-    "Prim.Native.String.{",
-    "mathlib.Core.List.{",
-    "Rattle·turkish·specs.specs.Snowball.{",
+// Where names may come from, and which; every name of Snowball.antt.
+const MODULES: [(&str, Option<&[&str]>); 3] = [
+    ("Prim.Native.String", Some(&["String"])),
+    ("Rattle.std.specs.Prelude", Some(&["List", "[]", "◌∷◌"])),
+    ("Rattle.turkish.specs.Snowball", None),
 ];
 
 /// Reads the whole file; what is neither imported nor one of the three is refused by a message.
@@ -85,17 +84,26 @@ pub fn read(text: &str) -> Result<Definition, String> {
     Ok(definition)
 }
 
-// Every name is what its module calls it: a command under another's name would be read as that.
+// Every name is what its module calls it: a command under another's name would be read as that. So would
+// what another module calls like a command.
 fn import(tokens: &[Token]) -> Result<(), String> {
     unnumbered(tokens)?;
     let words: Vec<&str> = tokens.iter().skip(1).filter_map(Token::word).collect();
-    let module = words.first().copied().unwrap_or_default();
-    if !MODULES.iter().any(|known| module.starts_with(known)) {
-        return Err(tokens[0].wrong("an import that is neither texts, lists nor commands"));
+    if words.contains(&"as") {
+        return Err(tokens[0].wrong("a name under another"));
     }
-    match words.contains(&"as") {
-        true => Err(tokens[0].wrong("a name under another")),
-        false => Ok(()),
+    let text = words.join(" ");
+    let parts = text.split_once(".{");
+    let (module, names) = parts.unwrap_or_default();
+    let known = MODULES.iter().find(|(known, _)| *known == module);
+    let names = names.strip_suffix('}').filter(|names| !names.contains('{'));
+    let offers = |(_, offered): &(_, Option<&[&str]>), names: &str| {
+        let mut names = names.split(',').map(str::trim);
+        offered.is_none_or(|offered| names.all(|name| offered.contains(&name)))
+    };
+    match (known, names) {
+        (Some(known), Some(names)) if offers(known, names) => Ok(()),
+        _ => Err(tokens[0].wrong("an import that is neither texts, lists nor commands")),
     }
 }
 
@@ -139,17 +147,20 @@ impl Equation<'_> {
         }
     }
 
-    // `define` with the name that turkish.sbl has for it, and its commands.
+    // `define` with its name, which is that of turkish.sbl, and its commands.
     fn routine(self) -> Result<Declared<Routine>, String> {
-        let name = rust_name(self.name);
-        let message = format!("a routine that does not begin with `define \"{name}\"`");
+        let name = Symbol::Text(self.name.to_string());
         let body = match self.value() {
             [define, named, body @ ..]
-                if define.word() == Some("define") && named.symbol == Symbol::Text(name) =>
+                if define.word() == Some("define") && named.symbol == name =>
             {
                 command::read(self.name, body)?
             }
-            _ => return Err(self.tokens[0].wrong(&message)),
+            _ => {
+                let name = self.name;
+                let message = format!("a routine that does not begin with `define \"{name}\"`");
+                return Err(self.tokens[0].wrong(&message));
+            }
         };
         let places = self.tokens.iter().map(|token| token.place).collect();
         Ok(self.declared(Routine { body, places }))

@@ -16,7 +16,7 @@ const FORMS: [&[&str]; 7] = [
         "delete",
         "set",
         "unset",
-        "isSet",
+        "is_set",
         "succeed",
         "next",
         "itself",
@@ -331,16 +331,16 @@ fn an_edit_that_leaves_the_comments() {
     let sides = Sides::new();
     let edited = [
         ("(next then grouping vowel)", "(next) then grouping vowel"),
-        ("mark-ysA or mark-yken)", "mark-ysA then mark-yken)"),
-        ("or mark-ysA or mark-ymUs-)", "or mark-ysA then mark-ymUs-)"),
-        ("or mark-yUz or succeed)", "or mark-yUz)"),
-        ("try (⟦ then mark-ymUs-)", "try (⟦) then mark-ymUs-"),
+        ("mark_ysA or mark_yken)", "mark_ysA then mark_yken)"),
+        ("or mark_ysA or mark_ymUs_)", "or mark_ysA then mark_ymUs_)"),
+        ("or mark_yUz or succeed)", "or mark_yUz)"),
+        ("try (⟦ then mark_ymUs_)", "try (⟦) then mark_ymUs_"),
         (
             "(grouping U then (test (outside vowel)))",
             "(outside U then (test (grouping vowel)))",
         ),
-        ("try (⟦ then mark-lAr))", "try (⟦) then mark-lAr)"),
-        ("or mark-yU or mark-yA then", "or mark-yU then mark-yA then"),
+        ("try (⟦ then mark_lAr))", "try (⟦) then mark_lAr)"),
+        ("or mark_yU or mark_yA then", "or mark_yU then mark_yA then"),
     ];
     for (from, to) in edited {
         let edited = sides.source.replacen(from, to, 1);
@@ -375,5 +375,20 @@ fn a_command_under_another_name() {
     sides.noticed(vec![
         renamed("goto, gopast,", "goto as gopast, gopast as goto,"),
         renamed("specs.Snowball.{", "specs.Simple.Grammar.{"),
+    ]);
+}
+
+// The text of the commands is the same: only where a name comes from is another.
+#[test]
+fn a_name_of_another_module() {
+    let sides = Sides::new();
+    let renamed = |old: &str, new: &str| sides.source.replacen(old, new, 1);
+    sides.noticed(vec![
+        renamed("Prelude.{List, ", "Prelude.{List, test, "),
+        renamed("Prelude.{List, ", "Bool.{List, "),
+        renamed("specs.Prelude.{List, ", "specs.{Prelude.{test}, List, "),
+        renamed("Prelude.{List, [], ◌∷◌}", "Prelude"),
+        renamed("String.{String}", "String.{String, next}"),
+        renamed("String.{String}", "String.{String} next"),
     ]);
 }

@@ -60,7 +60,7 @@ mod tests {
     use crate::held::paragraphs;
 
     const SOURCE: &str = r#"-- Short texts.
-use Rattle·turkish·specs.specs.Snowball.{Command}
+use Rattle.turkish.specs.Snowball.{Command}
 
 abbrev pub ad : String
 ad = "da"
@@ -68,27 +68,27 @@ ad = "da"
 abbrev pub A-7 : List String
 A-7 = "bı" ∷ "s" ∷ []
 
-unfoldable pub stem-nominal-verb-suffixes : Command
-stem-nominal-verb-suffixes = define "stem_nominal_verb_suffixes" ( -- 3
+unfoldable pub stem_nominal_verb_suffixes : Command
+stem_nominal_verb_suffixes = define "stem_nominal_verb_suffixes" ( -- 3
     literal "ş" then test      -- 4
     (among A-7))               -- 5
 
-unfoldable pub stem-suffix-chain-before-ki : Command
-stem-suffix-chain-before-ki = define "stem_suffix_chain_before_ki" (routine ( -- 7
+unfoldable pub stem_suffix_chain_before_ki : Command
+stem_suffix_chain_before_ki = define "stem_suffix_chain_before_ki" (routine ( -- 7
     next then try (itself)))   -- 8
 
-unfoldable pub stem-noun-suffixes : Command
-stem-noun-suffixes = define "stem_noun_suffixes" ( -- 10
-    test (outside ad) then stem-suffix-chain-before-ki) -- 11
+unfoldable pub stem_noun_suffixes : Command
+stem_noun_suffixes = define "stem_noun_suffixes" ( -- 10
+    test (outside ad) then stem_suffix_chain_before_ki) -- 11
 
-unfoldable pub more-than-one-syllable-word : Command
-more-than-one-syllable-word = define "more_than_one_syllable_word" (gopast (grouping ad)) -- 13
+unfoldable pub more_than_one_syllable_word : Command
+more_than_one_syllable_word = define "more_than_one_syllable_word" (gopast (grouping ad)) -- 13
 
 unfoldable pub postlude : Command
 postlude = define "postlude" (literal "a") -- 15
 
 unfoldable pub stem : Command
-stem = define "stem" (isSet then postlude) -- 17
+stem = define "stem" (is_set then postlude) -- 17
 "#;
 
     const RUST: &str = r#"static A_7: &'static [Among<Context>; 2] = &[
@@ -219,7 +219,7 @@ pub fn stem(env: &mut SnowballEnv) -> bool {
     #[test]
     fn the_first_difference_is_named() {
         let edited = SOURCE.replace("test ", "not ");
-        let difference = "  in           stem-nominal-verb-suffixes
+        let difference = "  in           stem_nominal_verb_suffixes
   Source.antt  line 12:     // not, line 4
   turkish.rs   line 14:     // test, line 4";
         assert_eq!(said(&edited, RUST)[2], difference);
@@ -252,6 +252,12 @@ pub fn stem(env: &mut SnowballEnv) -> bool {
         ] {
             unread(&SOURCE.replace(define, edited), message);
         }
+        // Its own name is that of turkish.sbl too.
+        let respelled = SOURCE.replace("\nmore_than_one", "\nmore-than_one");
+        unread(
+            &respelled.replace("pub more_than_one", "pub more-than_one"),
+            ", line 24: a routine that does not begin with `define \"more-than_one_syllable_word\"`",
+        );
     }
 
     #[test]
@@ -272,7 +278,7 @@ pub fn stem(env: &mut SnowballEnv) -> bool {
                 ", line 16: a `routine` without `itself`",
             ),
             (
-                "(routine ( -- 7\n    next then try (stem-suffix-chain-before-ki)))",
+                "(routine ( -- 7\n    next then try (stem_suffix_chain_before_ki)))",
                 ", line 17: not `itself`, but the name",
             ),
         ] {
@@ -288,11 +294,11 @@ pub fn stem(env: &mut SnowballEnv) -> bool {
             &next.replace("test (outside ad)", "next"),
             ", line 5: no stage comes to this",
         );
-        let turned = SOURCE.replace("isSet then postlude", "backwards postlude");
+        let turned = SOURCE.replace("is_set then postlude", "backwards postlude");
         unread(&turned, ", line 27: a routine that is read both ways");
         let (before, last) = RUST.split_at(RUST.find("fn r_postlude").expect("a routine"));
         let swapped = format!("{last}\n{before}");
-        let order = "  turkish.rs does not have postlude after more-than-one-syllable-word";
+        let order = "  turkish.rs does not have postlude after more_than_one_syllable_word";
         assert_eq!(said(SOURCE, &swapped)[2], order);
         assert_eq!(
             said(SOURCE, before)[2],

@@ -2,7 +2,7 @@
 
 /// Holds the declarations of Snowball.antt to it; the error is a message.
 pub fn hold(commands: &str) -> Result<(), String> {
-    match (binding(commands, "_or_"), binding(commands, "_then_")) {
+    match (binding(commands, "◌or◌"), binding(commands, "◌then◌")) {
         (Some(or), Some(then)) if or > then => Ok(()),
         _ => Err(
             "Snowball.antt does not have `or` bind tighter than `then`, both to the right".into(),
@@ -27,7 +27,7 @@ fn binding(commands: &str, operator: &str) -> Option<usize> {
 mod tests {
     use super::hold;
 
-    const RIGHT: &str = "infixr 35 _or_\ninfixr 30 _then_\n";
+    const RIGHT: &str = "infixr 35 ◌or◌\ninfixr 30 ◌then◌\n";
 
     #[test]
     fn as_in_snowball() {
@@ -40,7 +40,7 @@ mod tests {
             ("35", "30"),
             ("35", "25"),
             ("infixr 35", "infixl 35"),
-            ("_then_", "_next_"),
+            ("◌then◌", "◌next◌"),
         ] {
             assert!(hold(&RIGHT.replacen(old, new, 1)).is_err(), "{old} {new}");
         }

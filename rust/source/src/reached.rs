@@ -24,9 +24,9 @@ pub const EXTERNAL: &str = "stem";
 
 // The stages and the whole run as Answers.antt enters them.
 const STAGES: [(&str, Direction); 5] = [
-    ("stem-nominal-verb-suffixes", Direction::Backward),
-    ("stem-noun-suffixes", Direction::Backward),
-    ("more-than-one-syllable-word", Direction::Forward),
+    ("stem_nominal_verb_suffixes", Direction::Backward),
+    ("stem_noun_suffixes", Direction::Backward),
+    ("more_than_one_syllable_word", Direction::Forward),
     ("postlude", Direction::Forward),
     (EXTERNAL, Direction::Forward),
 ];

@@ -5,7 +5,7 @@ use crate::definition::{Declared, Grouping, Routine};
 use crate::reached::{find, Direction, EXTERNAL};
 use crate::tokens::wrong;
 use crate::writer::Writer;
-use crate::written::{quoted, rust_name, Line, Piece};
+use crate::written::{quoted, table_name, Line, Piece};
 use std::mem::replace;
 use std::slice;
 
@@ -22,8 +22,8 @@ pub fn routine(
     let (head, context) = match external {
         true => (format!("pub fn {EXTERNAL}("), ""),
         false => {
-            let name = rust_name(&declared.name);
-            (format!("fn r_{name}("), ", context: &mut Context")
+            let head = format!("fn r_{}(", declared.name);
+            (head, ", context: &mut Context")
         }
     };
     let signature = format!("{head}env: &mut SnowballEnv{context}) -> bool {{");
@@ -81,7 +81,7 @@ fn name(command: &Command) -> Option<String> {
         Command::Unset => "unset continue_stemming_noun_suffixes",
         Command::IsSet => "Boolean test continue_stemming_noun_suffixes",
         Command::Next => "next",
-        Command::Call(name) => return Some(format!("call {}", rust_name(name))),
+        Command::Call(name) => return Some(format!("call {name}")),
         Command::Then(_)
         | Command::Case(..)
         | Command::Grouping(_)
@@ -156,11 +156,11 @@ impl Writer<'_> {
                 self.fail_if(&format!("if !{call} {{"));
             }
             Command::Among(table) => {
-                let call = self.call("find_among", &format!("{}, context", rust_name(table)));
+                let call = self.call("find_among", &format!("{}, context", table_name(table)));
                 self.fail_if(&format!("if {call} == 0 {{"));
             }
             Command::Substring(table) => {
-                let call = self.call("find_among", &format!("{}, context", rust_name(table)));
+                let call = self.call("find_among", &format!("{}, context", table_name(table)));
                 self.line(&format!("among_var = {call};"));
                 self.fail_if("if among_var == 0 {");
             }
@@ -182,7 +182,7 @@ impl Writer<'_> {
             Command::Succeed => {}
             Command::Next => self.step(),
             Command::Call(name) => {
-                self.fail_if(&format!("if !r_{}(env, context) {{", rust_name(name)));
+                self.fail_if(&format!("if !r_{name}(env, context) {{"));
             }
         }
     }
@@ -288,6 +288,6 @@ impl Writer<'_> {
     fn grouping(&self, name: &str) -> String {
         let grouping = find(self.groupings, name).map(|declared| declared.value.range());
         let (least, greatest) = grouping.unwrap_or_default();
-        format!("G_{}, {least}, {greatest}", rust_name(name))
+        format!("G_{name}, {least}, {greatest}")
     }
 }

@@ -35,7 +35,7 @@ pub fn grouping(declared: &Declared<Grouping>) -> Piece {
         let place = u32::from(letter) - least;
         bits[place as usize / 8] |= 1 << (place % 8);
     }
-    let head = format!("static G_{}:", rust_name(&declared.name));
+    let head = format!("static G_{}:", declared.name);
     let line = Line {
         text: format!("{head} &'static [u8; {}] = &{bits:?};", bits.len()),
         line: declared.line,
@@ -51,7 +51,7 @@ pub fn grouping(declared: &Declared<Grouping>) -> Piece {
 /// The keys with their results; none ends in another, and none has a function.
 pub fn table(declared: &Declared<Vec<Key>>, results: Results) -> Piece {
     let keys = &declared.value;
-    let head = format!("static {}:", rust_name(&declared.name));
+    let head = format!("static {}:", table_name(&declared.name));
     let mut lines = vec![Line {
         text: format!("{head} &'static [Among<Context>; {}] = &[", keys.len()),
         line: declared.line,
@@ -78,8 +78,8 @@ pub fn table(declared: &Declared<Vec<Key>>, results: Results) -> Piece {
     }
 }
 
-/// A name as the Rust has it.
-pub fn rust_name(name: &str) -> String {
+/// A table's name as the Rust has it; groupings and routines have theirs in both.
+pub fn table_name(name: &str) -> String {
     name.replace('-', "_")
 }
 
