@@ -1,12 +1,9 @@
 -- `lines::line::has_tab` meets its contract. The loop's invariant: what is left to search has a tab where all of it has one.
 -- The measure is what is left of the word. Assumes nothing.
 use Prim.Native.Nat.{◌-◌, ◌≤◌}
-use mathlib.Core.Path.{◌≡◌, refl, ◌∙◌}
-use native.Mathlib.Omega.{arith}
+use mathlib.Core.Path.{◌≡◌}
 use lib.ListN.{length, drop}
-use borrow.Author.Rules.{rules}
 use Rattle.turkish.specs.Letters.{tab, has}
-use Rattle.lines.proofs.Laws.Tab.{tab-stops, tab-skips, tab-none}
 use Rattle.lines.proofs.line.has_tab.Given as goal
 
 abbrev pub invariant-loop-i : goal.invariant-loop-i

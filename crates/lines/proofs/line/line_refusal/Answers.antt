@@ -1,7 +1,6 @@
 -- `lines::line::line_refusal` meets its contract: the word's number comes first, then the tab.
 -- Assumes nothing.
 use mathlib.Core.Path.{sym, ◌∙◌}
-use borrow.Author.Rules.{rules}
 use Rattle.lines.proofs.Laws.LineRefusals.{line_refusal_of-word, line_refusal_of-tab, line_refusal_of-none}
 use Rattle.lines.proofs.line.line_refusal.Goals as goal
 

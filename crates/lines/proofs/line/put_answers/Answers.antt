@@ -1,6 +1,5 @@
 -- `lines::line::put_answers` meets its contract: seven bytes written one after the other are the answers.
 -- Assumes nothing.
-use borrow.Author.Rules.{rules}
 use Rattle.turkish.specs.Letters.{tab}
 use Rattle.lines.specs.Line.{yes_no, one_zero, answers}
 use Rattle.writing.proofs.Laws.Put.{wrote_nothing, wrote-byte, wrote-all}

@@ -2,7 +2,6 @@
 -- Assumes nothing.
 use mathlib.Core.Path.{refl}
 use native.Mathlib.Omega.{arith}
-use borrow.Author.Rules.{rules}
 use Rattle.turkish.specs.Letters.{tab, lf}
 use Rattle.turkish.specs.Calls.{chars, pass_text, whole_text}
 use Rattle.lines.specs.Room.{line_room}

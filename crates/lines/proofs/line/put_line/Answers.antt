@@ -1,7 +1,6 @@
 -- `lines::line::put_line` meets its contract: the number says which of the two lines it is.
 -- Assumes nothing.
 use native.Mathlib.Omega.{arith}
-use borrow.Author.Rules.{rules}
 use Rattle.lines.specs.Line.{refused_line}
 use Rattle.lines.specs.Room.{line_room}
 use Rattle.writing.proofs.Laws.Put.{put-equal}

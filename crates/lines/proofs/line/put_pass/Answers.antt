@@ -2,7 +2,6 @@
 -- Assumes nothing.
 use native.Mathlib.Omega.{arith}
 use native.Mathlib.Nat.{le_refl}
-use borrow.Author.Rules.{rules}
 use borrow.Author.Tests.{not-true, not-false}
 use Rattle.stages.proofs.Laws.Kept.{kept-le}
 use Rattle.outputs.proofs.Laws.RepairCalls.{repair-fits}

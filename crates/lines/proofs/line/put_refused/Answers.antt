@@ -1,7 +1,6 @@
 -- `lines::line::put_refused` meets its contract: four bytes written one after the other are the refused line.
 -- Assumes nothing.
 use mathlib.Core.Path.{refl}
-use borrow.Author.Rules.{rules}
 use Rattle.turkish.specs.Letters.{tab, lf}
 use Rattle.lines.specs.Line.{refused_line}
 use Rattle.writing.proofs.Laws.Put.{wrote_nothing, wrote-byte, wrote-all}

@@ -1,7 +1,6 @@
 -- `lines::line::put_repair` meets its contract: each of its three ends has written the bytes kept and as many after them as `more` says.
 -- Assumes nothing.
 use native.Mathlib.Omega.{arith}
-use borrow.Author.Rules.{rules}
 use Rattle.writing.proofs.Laws.Put.{wrote_nothing, wrote-byte, wrote-bytes, wrote-all}
 use Rattle.lines.proofs.Laws.LineText.{repair-none, repair-one, repair-two}
 use Rattle.lines.proofs.line.put_repair.Goals as goal

@@ -3,7 +3,6 @@ use mathlib.Core.Path.{refl}
 use native.Mathlib.Omega.{arith}
 use Rattle.writing.proofs.Laws.Put.{wrote_nothing, wrote-text, wrote-bytes, wrote-all}
 use Rattle.outputs.proofs.Laws.Writing.{length-repair, length-between, run-parts}
-use borrow.Author.Rules.{rules}
 use Rattle.lines.proofs.line.put_run.Goals as goal
 
 pub put_bytes-requires : goal.put_bytes-requires

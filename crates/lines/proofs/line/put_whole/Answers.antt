@@ -6,7 +6,6 @@ use borrow.Author.Tests.{not-true, not-false}
 use Rattle.outputs.proofs.Laws.Runs.{whole_run_of-fits}
 use Rattle.writing.proofs.Laws.Put.{put-equal, wrote_nothing, wrote-whole, wrote-all}
 use Rattle.lines.proofs.Laws.LineText.{whole_text-one, whole_text-run}
-use borrow.Author.Rules.{rules}
 use Rattle.lines.proofs.line.put_whole.Goals as goal
 
 pub returns-then-not-syllable : goal.returns-then-not-syllable

@@ -3,7 +3,6 @@
 use mathlib.Core.Path.{sym, ap}
 use native.Mathlib.Omega.{arith}
 use lib.Seq.{length-take-le}
-use borrow.Author.Rules.{rules}
 use Rattle.turkish.specs.Calls.{limit}
 use Rattle.writing.proofs.Laws.Put.{put-equal}
 use Rattle.lines.specs.Line.{list_line}

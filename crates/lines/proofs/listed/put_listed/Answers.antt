@@ -2,7 +2,6 @@
 -- Assumes nothing.
 use mathlib.Core.Path.{◌≡◌}
 use mathlib.Core.Bool.{true, false}
-use borrow.Author.Rules.{rules}
 use Rattle.lines.proofs.Laws.Listed.{listed_plain}
 use Rattle.lines.proofs.listed.put_listed.Goals as goal
 

@@ -1,13 +1,10 @@
 -- `listing::feed::feed` meets its contract. The loop's invariant: what is left to feed leaves what all of it leaves, and what is held and
 -- written is within the bytes lent. The measure is what is left of the block. Assumes nothing.
 use Prim.Native.Nat.{◌-◌, ◌≤◌}
-use mathlib.Core.Path.{◌≡◌, refl, sym, ◌∙◌}
-use native.Mathlib.Omega.{arith}
-use lib.ListN.{length, drop, get_or}
-use Rattle.turkish.specs.Calls.{limit}
-use Rattle.lines.specs.Room.{line_room}
+use mathlib.Core.Path.{◌≡◌}
+use lib.ListN.{length, drop}
 use Rattle.listing.specs.Fed.{standing, feed_bytes, feeding}
-use Rattle.listing.proofs.Laws.Fed.{feed_bytes-full, feed_bytes-end, feed_bytes-turn, left-parts, Within, within-turn}
+use Rattle.listing.proofs.Laws.Fed.{Within}
 use Rattle.listing.proofs.feed.feed.Given as goal
 
 abbrev pub invariant-loop-i : goal.invariant-loop-i

@@ -3,7 +3,6 @@
 use mathlib.Core.Path.{◌≡◌, refl}
 use lib.ListN.{length-take}
 use native.Mathlib.Omega.{arith}
-use borrow.Author.Rules.{rules}
 use Rattle.listing.specs.Fed.{standing, end_line, hold_byte_of}
 use Rattle.listing.proofs.Laws.Fed.{feed_byte_of-lf, feed_byte_of-other}
 use Rattle.listing.proofs.feed.feed_byte.Goals as goal

@@ -3,7 +3,6 @@
 use mathlib.Core.Path.{refl}
 use lib.ListN.{length-take}
 use native.Mathlib.Omega.{arith}
-use borrow.Author.Rules.{rules}
 use Rattle.listing.proofs.Laws.Held.{last_out-none, last_out-some}
 use Rattle.writing.proofs.Laws.Put.{put-nothing}
 use Rattle.listing.proofs.feed.finish.Goals as goal
