@@ -144,6 +144,17 @@ test_a_name_that_is_too_long() {
     [ "$(grep -c ': File name too long$' err)" -eq 2 ]
 }
 
+# Not on a file system that has no such name.
+test_a_name_that_is_not_utf_8() {
+    echo evler >words
+    cp words $'\377' || { not_tried "no file can have such a name"; return; }
+    status 1 "$stemlist" $'\377' words >out 2>err
+    has_text out "$evler"
+    has_text err $'stemlist: \377: Invalid or incomplete multibyte or wide character\n'
+    "$stemlist" <$'\377' >out
+    has_text out "$evler"
+}
+
 test_wrong_arguments() {
     local arguments
     for arguments in --nothing -f --whole --tabs '--clashes a b'; do
@@ -165,6 +176,18 @@ test_a_closed_pipe_ends_it_quietly() {
     [ "${statuses[1]}" -eq 141 ]
     has_text out "$evler"
     is_empty err
+}
+
+# To who ignores the signal it is an error like any other.
+test_a_closed_pipe_under_an_ignored_signal() {
+    local statuses
+    set +e
+    yes evler | env --ignore-signal=PIPE "$stemlist" 2>err | head -n 1 >out
+    statuses=("${PIPESTATUS[@]}")
+    set -e
+    [ "${statuses[1]}" -eq 1 ]
+    has_text out "$evler"
+    has_text err $'stemlist: standard output: Broken pipe\n'
 }
 
 # A signal for the launcher alone ends the program too, and both by that signal.
