@@ -1,6 +1,5 @@
 -- `probe::probe_stage_part` meets its contract: the part does not fit, or it is copied whole. Assumes nothing.
 use Rattle.probe.proofs.Part.{part-short, part-copied}
-use borrow.Author.Rules.{rules}
 use Rattle.probe.proofs.probe_stage_part.Goals as goal
 
 pub returns-then-out-part : goal.returns-then-out-part

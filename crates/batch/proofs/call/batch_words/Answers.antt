@@ -1,6 +1,5 @@
 -- `batch::call::batch_words` meets its contract: a refused batch gives its number and leaves the buffers; any other has an entry for each tail. Assumes
 -- nothing.
-use borrow.Author.Rules.{rules}
 use Rattle.batches.specs.BatchCalls.{batch}
 use Rattle.batch.proofs.Laws.Tails.{survey-count, tails-survey}
 use Rattle.batch.proofs.Laws.Refusals.{call-refused, call-zero, call-answered}

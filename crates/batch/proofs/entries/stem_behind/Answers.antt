@@ -1,6 +1,5 @@
 -- `batch::entries::stem_behind` meets its contract: the tail is put behind the first bytes of the word, and the stage's word ends with it.
 -- Assumes nothing.
-use borrow.Author.Rules.{rules}
 use Rattle.batch.proofs.Laws.Removals.{behind-end, behind-kept, behind-removal}
 use Rattle.batch.proofs.entries.stem_behind.Goals as goal
 
