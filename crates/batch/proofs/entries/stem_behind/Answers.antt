@@ -12,4 +12,7 @@ overflow_sub-result c =
     behind-kept _ _ c.args.tail.now c.args.word.now _ c.requires (c.put_all-end.ensures.value, c.put_all-end.ensures.out_after) _ c.stem_nominal_verb_suffixes-o.ensures
 
 pub returns : goal.returns
-returns c = record { value = behind-removal _ _ c.args.tail.now c.args.word.now _ c.requires (c.put_all-end.ensures.value, c.put_all-end.ensures.out_after) _ c.stem_nominal_verb_suffixes-o.ensures; word_after = c.put_all-end.ensures.out_after }
+returns c = record {
+  value = behind-removal _ _ c.args.tail.now c.args.word.now _ c.requires (c.put_all-end.ensures.value, c.put_all-end.ensures.out_after) _ c.stem_nominal_verb_suffixes-o.ensures;
+  word_after = c.put_all-end.ensures.out_after;
+}
