@@ -1,6 +1,7 @@
 // What a host program links: thin calls under C's convention, each with its contract by the library's own definitions. None asks
 // anything of its caller beyond what the signature says.
 #![tactic(auto)]
+
 ghost use Rattle.std.specs.Prelude.{◌≡◌, length};
 ghost use Rattle.encoding.specs.Validity.{is_text};
 ghost use Rattle.turkish.specs.Calls.{syllable_call, stage_call, postlude_call, postlude_out, fold_call, fold_out, pass_call, pass_out, noun_call, noun_out, whole_call, whole_out};

@@ -2,6 +2,7 @@
 // the suffix stage's part, copied, since no exported call can hand back a slice; and the list of a removed ending's pieces, laid out flat,
 // since none can hand back an enum. No host links this.
 #![tactic(auto)]
+
 ghost use Rattle.std.specs.Prelude.{◌≡◌, length};
 ghost use Rattle.encoding.specs.PlainRuns.{run_end_of};
 ghost use Rattle.utf8.specs.Steps.{previous_char_of, next_char_of, eq_s_b_of, eq_s_of};

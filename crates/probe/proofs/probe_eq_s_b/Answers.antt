@@ -1,5 +1,4 @@
 -- `probe::probe_eq_s_b` meets its contract: the step's own answer from the record made of the numbers, laid out flat. Assumes nothing.
-use borrow.Author.Rules.{rules}
 use Rattle.probe.proofs.probe_eq_s_b.Goals as goal
 
 pub returns : goal.returns

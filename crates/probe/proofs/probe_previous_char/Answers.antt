@@ -1,5 +1,4 @@
 -- `probe::probe_previous_char` meets its contract: the step's own answer from the record made of the numbers, laid out flat. Assumes nothing.
-use borrow.Author.Rules.{rules}
 use Rattle.probe.proofs.probe_previous_char.Goals as goal
 
 pub returns : goal.returns

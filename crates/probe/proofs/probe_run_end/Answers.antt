@@ -2,7 +2,6 @@
 use mathlib.Core.Path.{sym}
 use native.Mathlib.Omega.{arith}
 use Rattle.encoding.proofs.Laws.PlainRuns.{run_short}
-use borrow.Author.Rules.{rules}
 use Rattle.probe.proofs.probe_run_end.Goals as goal
 
 pub returns-then-w-from : goal.returns-then-w-from

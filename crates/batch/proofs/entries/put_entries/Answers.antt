@@ -1,17 +1,17 @@
 -- `batch::entries::put_entries` meets its contract. The loop's invariant: the buffers hold the entries of the tails done, and the stand-in stands before the
 -- next. The measure is how many tails are left. Assumes nothing.
-use Prim.Native.Nat.{◌-◌, ◌≤◌, ◌<◌}
+use Prim.Native.Nat.{◌≤◌, ◌<◌}
 use mathlib.Core.Path.{refl}
 use native.Mathlib.Omega.{arith}
 use lib.ListN.{length, get_or}
 use borrow.Author.Rules.{rules}
 use Rattle.turkish.specs.Calls.{limit}
-use Rattle.batches.specs.BatchCalls.{batch, most_tails}
+use Rattle.batches.specs.BatchCalls.{most_tails}
 use Rattle.batches.proofs.Laws.Batches.{batch-answered}
 use Rattle.fronts.proofs.Laws.StandIn.{stand_in_room-is}
 use Rattle.batch.specs.Removal.{word_room}
 use Rattle.batch.proofs.Laws.Tails.{survey-count, tails-survey}
-use Rattle.batch.proofs.Laws.Entries.{Entered, entered-none, entered_all, below, at-end, end-within, ready, again}
+use Rattle.batch.proofs.Laws.Entries.{entered-none, entered_all, below, at-end, end-within, ready, again}
 use Rattle.batch.proofs.entries.put_entries.Goals as goal
 
 pub summary_of-requires : goal.summary_of-requires
@@ -58,8 +58,16 @@ slice_bounds-put_entry-end-in-loop-i c =
     end-within _ _ _ _ _ _ _ _ l.invariant c.requires.flags_value _ c.requires.t_value c.loop-i-test.true
 
 pub put_entry-requires : goal.put_entry-requires
-put_entry-requires c = let l = c.loop-i in let p = ready _ _ _ _ _ _ _ _ l.invariant c.requires.flags_value _ c.requires.t_value c.loop-i-test.true in
-    record { tail_in_bounds = p.0; tail_bound = p.1.0; tail_bound_2 = p.1.1.0; i_in_bounds = p.1.1.1.0; i_in_bounds_2 = p.1.1.1.1.0; i_in_bounds_3 = p.1.1.1.1.1 }
+put_entry-requires c =
+    let l = c.loop-i in let p = ready _ _ _ _ _ _ _ _ l.invariant c.requires.flags_value _ c.requires.t_value c.loop-i-test.true in
+    record {
+      tail_in_bounds = p.0;
+      tail_bound = p.1.0;
+      tail_bound_2 = p.1.1.0;
+      i_in_bounds = p.1.1.1.0;
+      i_in_bounds_2 = p.1.1.1.1.0;
+      i_in_bounds_3 = p.1.1.1.1.1;
+    }
 
 pub overflow_add-i : goal.overflow_add-i
 unfolding most_tails
@@ -90,5 +98,6 @@ pub shape_of-flags : goal.shape_of-flags
 shape_of-flags c = c.loop-i.invariant.sizes.2
 
 pub returns : goal.returns
-returns c = let p = entered_all _ _ _ _ _ _ _ _ c.loop-i.invariant c.requires.flags_value (omega (arith, survey-count _ (tails-survey _ c.requires.t_value), c.loop-i-test.false)) in
+returns c =
+    let p = entered_all _ _ _ _ _ _ _ _ c.loop-i.invariant c.requires.flags_value (omega (arith, survey-count _ (tails-survey _ c.requires.t_value), c.loop-i-test.false)) in
     record { lengths_after = p.0; answers_after = p.1.0; flags_after = p.1.1 }

@@ -1,17 +1,8 @@
 -- `batch::entries::put_entries` meets its contract. The loop's invariant: the buffers hold the entries of the tails done, and the stand-in stands before the
 -- next. The measure is how many tails are left. Assumes nothing.
-use Prim.Native.Nat.{◌-◌, ◌≤◌, ◌<◌}
-use mathlib.Core.Path.{refl}
-use native.Mathlib.Omega.{arith}
-use lib.ListN.{length, get_or}
-use borrow.Author.Rules.{rules}
-use Rattle.turkish.specs.Calls.{limit}
-use Rattle.batches.specs.BatchCalls.{batch, most_tails}
-use Rattle.batches.proofs.Laws.Batches.{batch-answered}
-use Rattle.fronts.proofs.Laws.StandIn.{stand_in_room-is}
-use Rattle.batch.specs.Removal.{word_room}
-use Rattle.batch.proofs.Laws.Tails.{survey-count, tails-survey}
-use Rattle.batch.proofs.Laws.Entries.{Entered, entered-none, entered_all, below, at-end, end-within, ready, again}
+use Prim.Native.Nat.{◌-◌}
+use Rattle.batches.specs.BatchCalls.{batch}
+use Rattle.batch.proofs.Laws.Entries.{Entered}
 use Rattle.batch.proofs.entries.put_entries.Given as goal
 
 abbrev pub invariant-loop-i : goal.invariant-loop-i

@@ -26,5 +26,11 @@ overflow_cast-lengths c =
     search rules
 
 pub returns : goal.returns
-returns c = let removal = c.stem_behind-r.ensures.value in
-    record { word_after = c.stem_behind-r.ensures.word_after; lengths_after = ap (λ (r : Removal). set c.args.lengths.now c.args.i (c.args.n + length c.args.tail.now - r.bytes)) removal; answers_after = ap (set c.args.answers.now c.args.i) (c.bit.ensures ∙ ap (λ (r : Removal). bit r.yes) removal); flags_after = ap (set c.args.flags.now c.args.i) (c.bit-2.ensures ∙ ap (λ (r : Removal). bit r.flag) removal) }
+returns c =
+    let removal = c.stem_behind-r.ensures.value in
+    record {
+      word_after = c.stem_behind-r.ensures.word_after;
+      lengths_after = ap (λ (r : Removal). set c.args.lengths.now c.args.i (c.args.n + length c.args.tail.now - r.bytes)) removal;
+      answers_after = ap (set c.args.answers.now c.args.i) (c.bit.ensures ∙ ap (λ (r : Removal). bit r.yes) removal);
+      flags_after = ap (set c.args.flags.now c.args.i) (c.bit-2.ensures ∙ ap (λ (r : Removal). bit r.flag) removal);
+    }

@@ -1,6 +1,5 @@
 -- `batch::entries::stem_behind` meets its contract: the tail is put behind the first bytes of the word, and the stage's word ends with it.
 -- Assumes nothing.
-use borrow.Author.Rules.{rules}
 use Rattle.batch.proofs.Laws.Removals.{behind-end, behind-kept, behind-removal}
 use Rattle.batch.proofs.entries.stem_behind.Goals as goal
 
@@ -13,4 +12,7 @@ overflow_sub-result c =
     behind-kept _ _ c.args.tail.now c.args.word.now _ c.requires (c.put_all-end.ensures.value, c.put_all-end.ensures.out_after) _ c.stem_nominal_verb_suffixes-o.ensures
 
 pub returns : goal.returns
-returns c = record { value = behind-removal _ _ c.args.tail.now c.args.word.now _ c.requires (c.put_all-end.ensures.value, c.put_all-end.ensures.out_after) _ c.stem_nominal_verb_suffixes-o.ensures; word_after = c.put_all-end.ensures.out_after }
+returns c = record {
+  value = behind-removal _ _ c.args.tail.now c.args.word.now _ c.requires (c.put_all-end.ensures.value, c.put_all-end.ensures.out_after) _ c.stem_nominal_verb_suffixes-o.ensures;
+  word_after = c.put_all-end.ensures.out_after;
+}

@@ -1,7 +1,6 @@
 -- `batch::refusal::refusal_of` meets its contract: the words' number, then that of the tails, then that of the rooms. Assumes nothing.
 use mathlib.Core.Path.{sym, ◌∙◌}
 use native.Mathlib.Omega.{arith}
-use borrow.Author.Rules.{rules}
 use Rattle.batches.specs.BatchCalls.{most_tails}
 use Rattle.batch.proofs.Laws.Tails.{survey-count, survey-short}
 use Rattle.batch.proofs.Laws.Refusals.{number-words, number-many, number_short, number-rooms}

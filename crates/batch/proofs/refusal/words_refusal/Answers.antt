@@ -5,7 +5,6 @@ use Rattle.turkish.specs.Calls.{limit}
 use Rattle.batch.proofs.Laws.Refusals.{is_text-tails, words-front-over, words-joined-over, words-front-no-text, words-tail-no-text, words-texts}
 use Rattle.batch.proofs.Laws.Tails.{survey-longest}
 use borrow.Author.Tests.{not-true, not-false}
-use borrow.Author.Rules.{rules}
 use Rattle.batch.proofs.refusal.words_refusal.Goals as goal
 
 pub returns-then-front-gt-LIMIT : goal.returns-then-front-gt-LIMIT

@@ -2,13 +2,8 @@
 -- of all of it. The measure is what is left of it. Assumes nothing.
 use Prim.Native.Nat.{◌+◌, ◌-◌, ◌≤◌}
 use mathlib.Core.Path.{◌≡◌}
-use mathlib.Core.Logic.{⊎_elim}
-use native.Mathlib.Nat.{zero-add}
-use native.Mathlib.Omega.{arith}
-use lib.ListN.{get_or}
-use borrow.Author.Rules.{rules}
 use Rattle.batch.specs.Tails.{leads}
-use Rattle.batch.proofs.Laws.Tails.{part, lead, lead-none, lead-one, leads-at, leads-end, leads-within}
+use Rattle.batch.proofs.Laws.Tails.{part}
 use Rattle.batch.proofs.tails.count_leads.Given as goal
 
 abbrev pub invariant-loop-i : goal.invariant-loop-i

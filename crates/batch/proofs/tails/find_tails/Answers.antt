@@ -2,12 +2,10 @@
 -- what all have. The measure is what is left of the slice. Assumes nothing.
 use Prim.Native.Nat.{◌-◌, ◌≤◌, ◌<◌, max}
 use mathlib.Core.Path.{◌≡◌}
-use mathlib.Core.Logic.{⊎_elim}
 use native.Mathlib.Omega.{arith}
-use lib.ListN.{length, set}
-use borrow.Author.Rules.{rules}
+use lib.ListN.{set}
 use Rattle.batches.specs.BatchCalls.{most_tails}
-use Rattle.batch.proofs.Laws.Tails.{line-ends, line-within, Found, found_none, found-line, found_all}
+use Rattle.batch.proofs.Laws.Tails.{line-ends, line-within, found_none, found-line, found_all}
 use Rattle.batch.proofs.tails.find_tails.Goals.{then-count-lt-TAILS, else-count-lt-TAILS, then-longest-end, else-longest-end}
 use Rattle.batch.proofs.tails.find_tails.Goals as goal
 

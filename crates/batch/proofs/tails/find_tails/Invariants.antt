@@ -1,13 +1,8 @@
 -- `batch::tails::find_tails` meets its contract. The loop's invariant: what is found of the lines before the place and what the rest has are
 -- what all have. The measure is what is left of the slice. Assumes nothing.
-use Prim.Native.Nat.{◌-◌, ◌≤◌, ◌<◌, max}
-use mathlib.Core.Path.{◌≡◌}
-use mathlib.Core.Logic.{⊎_elim}
-use native.Mathlib.Omega.{arith}
-use lib.ListN.{length, set}
-use borrow.Author.Rules.{rules}
-use Rattle.batches.specs.BatchCalls.{most_tails}
-use Rattle.batch.proofs.Laws.Tails.{line-ends, line-within, Found, found_none, found-line, found_all}
+use Prim.Native.Nat.{◌-◌}
+use lib.ListN.{length}
+use Rattle.batch.proofs.Laws.Tails.{Found}
 use Rattle.batch.proofs.tails.find_tails.Given as goal
 
 abbrev pub invariant-loop-at : goal.invariant-loop-at

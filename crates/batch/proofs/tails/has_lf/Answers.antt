@@ -1,12 +1,9 @@
 -- `batch::tails::has_lf` meets its contract. The loop's invariant: what is found so far or in the part from the place on is what is found in
 -- all of it. The measure is what is left of it. Assumes nothing.
-use Prim.Native.Nat.{◌-◌, ◌≤◌}
-use mathlib.Core.Path.{◌≡◌, refl, ◌∙◌}
-use mathlib.Core.Bool.{◌||◌}
+use mathlib.Core.Path.{refl, ◌∙◌}
 use native.Mathlib.Omega.{arith}
-use borrow.Author.Rules.{rules}
-use Rattle.turkish.specs.Letters.{lf, has}
-use Rattle.batch.proofs.Laws.Tails.{part, has-at, has_end}
+use Rattle.turkish.specs.Letters.{lf}
+use Rattle.batch.proofs.Laws.Tails.{has-at, has_end}
 use Rattle.batch.proofs.tails.has_lf.Goals as goal
 
 pub loop-i-init : goal.loop-i-init

@@ -1,14 +1,12 @@
 -- `batch::tails::line_at` meets its contract. The invariant of both loops: what remains of the line ends where the line ends, and has the
 -- characters that are not counted yet. The measure is what is left of the slice. Assumes nothing.
-use Prim.Native.Nat.{◌+◌, ◌-◌}
+use Prim.Native.Nat.{◌+◌}
 use mathlib.Core.Path.{◌≡◌, refl, sym, ◌∙◌}
-use mathlib.Core.Logic.{⊎_elim}
 use native.Mathlib.Omega.{arith}
-use lib.ListN.{length, get_or}
-use borrow.Author.Rules.{rules}
+use lib.ListN.{get_or}
 use borrow.Author.Tests.{not-true, not-false}
 use Rattle.turkish.specs.Letters.{lf}
-use Rattle.batch.proofs.Laws.Tails.{lead, lead-one, lead-none, line-lf, line-end, Remains}
+use Rattle.batch.proofs.Laws.Tails.{lead, lead-one, lead-none, line-lf, line-end}
 use Rattle.batch.proofs.Laws.Tails.{remains-start, remains-fit, remains-part, remains-byte, remains-none}
 use Rattle.batch.proofs.tails.line_at.Goals.{then-not-is_continuation, else-not-is_continuation}
 use Rattle.batch.proofs.tails.line_at.Goals as goal
@@ -48,8 +46,10 @@ loop-at-2-preserved c =
     let other = c.if-w-at-ne-LF.true-raw in
     let k : c.if-not-is_continuation.chars ≡ l.chars + lead b =
     let r = c.is_continuation.ensures in
-    elim c.if-not-is_continuation.branch [ then-not-is_continuation u ↦ lead-one b l.chars r u.if-not-is_continuation.true-raw u.chars-is
-    | else-not-is_continuation u ↦ lead-none b l.chars r u.if-not-is_continuation.false-raw u.chars-is ] in
+    elim c.if-not-is_continuation.branch [
+      | then-not-is_continuation u ↦ lead-one b l.chars r u.if-not-is_continuation.true-raw u.chars-is
+      | else-not-is_continuation u ↦ lead-none b l.chars r u.if-not-is_continuation.false-raw u.chars-is
+    ] in
     remains-byte _ l.invariant c.loop-at-2-test.true (not-true _ other) k
 
 pub returns-else-w-at-ne-LF : goal.returns-else-w-at-ne-LF

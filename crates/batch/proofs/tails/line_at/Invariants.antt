@@ -1,15 +1,8 @@
 -- `batch::tails::line_at` meets its contract. The invariant of both loops: what remains of the line ends where the line ends, and has the
 -- characters that are not counted yet. The measure is what is left of the slice. Assumes nothing.
-use Prim.Native.Nat.{◌+◌, ◌-◌}
-use mathlib.Core.Path.{◌≡◌, refl, sym, ◌∙◌}
-use mathlib.Core.Logic.{⊎_elim}
-use native.Mathlib.Omega.{arith}
-use lib.ListN.{length, get_or}
-use borrow.Author.Rules.{rules}
-use borrow.Author.Tests.{not-true, not-false}
-use Rattle.turkish.specs.Letters.{lf}
-use Rattle.batch.proofs.Laws.Tails.{lead, lead-one, lead-none, line-lf, line-end, Remains}
-use Rattle.batch.proofs.Laws.Tails.{remains-start, remains-fit, remains-part, remains-byte, remains-none}
+use Prim.Native.Nat.{◌-◌}
+use lib.ListN.{length}
+use Rattle.batch.proofs.Laws.Tails.{Remains}
 use Rattle.batch.proofs.tails.line_at.Given as goal
 
 abbrev pub invariant-loop-at : goal.invariant-loop-at

@@ -13,11 +13,13 @@ pub loop-i-init : goal.loop-i-init
 loop-i-init c = (c.requires.from_nonzero, c.requires.from_in_bounds, c.requires.from_value)
 
 pub returns-then-not-all_follow : goal.returns-then-not-all_follow
-returns-then-not-all_follow c = let v = c.loop-i.invariant in
+returns-then-not-all_follow c =
+    let v = c.loop-i.invariant in
     record { result_nonzero = v.0; upper_bound = v.1; result_value = v.2 }
 
 pub skip-i-requires : goal.skip-i-requires
-skip-i-requires c = let w = c.args.w.now in
+skip-i-requires c =
+    let w = c.args.w.now in
     let l = c.loop-i in
     let i = l.i in
     let f = sym c.all_follow.ensures ∙ not-eq-true _ c.if-not-all_follow.false-raw in
@@ -27,23 +29,35 @@ pub loop-i-preserved : goal.loop-i-preserved
 loop-i-preserved c = let s = c.skip-i.ensures in (omega arith, s.upper_bound, s.result_value)
 
 pub returns-then-all_follow : goal.returns-then-all_follow
-returns-then-all_follow c = let w = c.args.w.now in
+returns-then-all_follow c =
+    let w = c.args.w.now in
     let n = length w in
     let l = c.loop-i in
     let f = sym c.all_follow-then-i-w.ensures ∙ c.if-all_follow.true in
-    record { result_nonzero = omega arith; upper_bound = le_refl n; result_value = walked_to w l.i (n - 32) n (omega arith) (omega arith) l.invariant.2 f }
+    record {
+      result_nonzero = omega arith;
+      upper_bound = le_refl n;
+      result_value = walked_to w l.i (n - 32) n (omega arith) (omega arith) l.invariant.2 f;
+    }
 
 pub returns-then-w-i-le32 : goal.returns-then-w-i-le32
-returns-then-w-i-le32 c = let v = c.loop-i.invariant in
+returns-then-w-i-le32 c =
+    let v = c.loop-i.invariant in
     record { result_nonzero = v.0; upper_bound = v.1; result_value = v.2 }
 
 pub returns-then-all_follow-2 : goal.returns-then-all_follow-2
-returns-then-all_follow-2 c = let w = c.args.w.now in
+returns-then-all_follow-2 c =
+    let w = c.args.w.now in
     let n = length w in
     let l = c.loop-i in
     let f = sym c.all_follow-2.ensures ∙ c.if-all_follow-2.true in
-    record { result_nonzero = omega arith; upper_bound = le_refl n; result_value = walked_to w l.i (n - 64) n (omega arith) (omega arith) l.invariant.2 f }
+    record {
+      result_nonzero = omega arith;
+      upper_bound = le_refl n;
+      result_value = walked_to w l.i (n - 64) n (omega arith) (omega arith) l.invariant.2 f;
+    }
 
 pub returns : goal.returns
-returns c = let v = c.loop-i.invariant in
+returns c =
+    let v = c.loop-i.invariant in
     record { result_nonzero = v.0; upper_bound = v.1; result_value = v.2 }

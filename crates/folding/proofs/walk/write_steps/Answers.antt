@@ -1,6 +1,5 @@
--- `folding::walk::write_steps` meets its contract. The loop's invariant: the fold of what was passed is written, `at` is its end, and there
--- is room for the rest. The measure is what is left of the word. In each answer s is the start, test the loop's test and l the loop.
--- Assumes nothing.
+-- `folding::walk::write_steps` meets its contract. The loop's invariant: the fold of what was passed is written, `at` is its end, and there is room
+-- for the rest. The measure is what is left of the word. Assumes nothing.
 use mathlib.Core.Path.{refl}
 use native.Mathlib.Omega.{arith}
 use borrow.Author.Rules.{rules}
@@ -52,5 +51,6 @@ loop-i-preserved c =
     (omega arith, search rules, next)
 
 pub returns : goal.returns
-returns c = let l = c.loop-i in let p = reached-end c.args.w.now c.args.out.now l.out l.at l.i l.invariant.2 c.loop-i-test.false in
+returns c =
+    let l = c.loop-i in let p = reached-end c.args.w.now c.args.out.now l.out l.at l.i l.invariant.2 c.loop-i-test.false in
     record { value = p.0; out_after = p.1 }

@@ -1,6 +1,5 @@
--- `folding::walk::write_steps` meets its contract. The loop's invariant: the fold of what was passed is written, `at` is its end, and there
--- is room for the rest. The measure is what is left of the word. In each answer s is the start, test the loop's test and l the loop.
--- Assumes nothing.
+-- `folding::walk::write_steps` meets its contract. The loop's invariant: the fold of what was passed is written, `at` is its end, and there is room
+-- for the rest. The measure is what is left of the word. Assumes nothing.
 use Prim.Native.Nat.{◌-◌, ◌≤◌}
 use mathlib.Core.Path.{◌≡◌}
 use lib.ListN.{length}

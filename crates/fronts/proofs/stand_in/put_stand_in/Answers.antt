@@ -1,5 +1,5 @@
--- `fronts::stand_in::put_stand_in` meets its contract. The loop's invariant: of the vowels passed those that are counted are written, `at` is
--- their end, and there is room for the others. The measure is how many are left. In each answer l is the loop. Assumes nothing.
+-- `fronts::stand_in::put_stand_in` meets its contract. The loop's invariant: of the vowels passed those that are counted are written, `at` is their
+-- end, and there is room for the others. The measure is how many are left. Assumes nothing.
 use mathlib.Core.Path.{◌≡◌, refl, ◌∙◌}
 use native.Mathlib.Omega.{arith}
 use lib.ListN.{length}
@@ -40,6 +40,7 @@ unfolding room_from most_vowel_bytes
 put_vowel-requires c = omega (arith, c.loop-k.invariant.2.room)
 
 pub returns : goal.returns
-returns c = let l = c.loop-k in
+returns c =
+    let l = c.loop-k in
     let e : l.k ≡ 8 = omega arith in let p = written_last _ (rw e at l.invariant.2) (c.put_vowel.ensures.value, c.put_vowel.ensures.out_after) in
     record { value = p.0; out_after = p.1 }

@@ -1,5 +1,5 @@
--- `fronts::stand_in::put_stand_in` meets its contract. The loop's invariant: of the vowels passed those that are counted are written, `at` is
--- their end, and there is room for the others. The measure is how many are left. In each answer l is the loop. Assumes nothing.
+-- `fronts::stand_in::put_stand_in` meets its contract. The loop's invariant: of the vowels passed those that are counted are written, `at` is their
+-- end, and there is room for the others. The measure is how many are left. Assumes nothing.
 use Prim.Native.Nat.{◌-◌, ◌≤◌}
 use mathlib.Core.Path.{◌≡◌}
 use lib.ListN.{length}

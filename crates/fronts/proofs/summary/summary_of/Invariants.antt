@@ -1,6 +1,5 @@
 -- `fronts::summary::summary_of` meets its contract. The loop's invariant: it has passed some of the front's characters, the record stands behind
--- them, and the summary is theirs. The measure is what is left of the front's bytes. In each answer s is the start, l the loop and p the step.
--- Assumes nothing.
+-- them, and the summary is theirs. The measure is what is left of the front's bytes. Assumes nothing.
 use Prim.Native.Nat.{◌-◌}
 use lib.ListN.{length}
 use Rattle.fronts.proofs.Laws.Summaries.{Passed}

@@ -1,4 +1,4 @@
--- `letters::among::find_among_b` meets its contract. The loop's invariant: the search from the key at `base` on, which is the i-th,
+-- `keys::among::find_among_b` meets its contract. The loop's invariant: the search from the key at `base` on, which is the i-th,
 -- answers as the whole search does. The measure is what is left of the table. Assumes nothing.
 use mathlib.Core.Path.{refl, ap, ◌∙◌}
 use native.Mathlib.Omega.{arith}

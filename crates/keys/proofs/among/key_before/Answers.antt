@@ -1,5 +1,5 @@
--- `letters::among::key_before` meets its contract: the key's last three letters are held to the three characters seen at once, and the rest to
--- the text. In each answer e is the place behind the test of the three, s the start, and l1 to l3 the letters. Assumes nothing.
+-- `keys::among::key_before` meets its contract: the key's last three letters are held to the three characters seen at once, and the rest to the text.
+-- Assumes nothing.
 use Prim.Native.Nat.{◌+◌, ◌-◌}
 use mathlib.Core.Path.{sym, ap, subst, ◌∙◌}
 use native.Mathlib.Omega.{arith}
@@ -64,7 +64,11 @@ pub overflow_add-base-2 : goal.overflow_add-base-2
 overflow_add-base-2 c = omega (arith, c.ranges, c.requires)
 
 pub key_rest-requires : goal.key_rest-requires
-key_rest-requires c = record { fact = subst (Open _) (sym c.moved_to.ensures) (open-three _ c.args.s c.requires.sees); from_le_upto = omega arith; upto_in_bounds = omega (arith, c.requires.width_in_bounds) }
+key_rest-requires c = record {
+  fact = subst (Open _) (sym c.moved_to.ensures) (open-three _ c.args.s c.requires.sees);
+  from_le_upto = omega arith;
+  upto_in_bounds = omega (arith, c.requires.width_in_bounds);
+}
 
 pub returns : goal.returns
 returns c =

@@ -1,4 +1,4 @@
--- `letters::among::key_rest` meets its contract. The loop's invariant: what is left of the key has to be passed from where the letters
+-- `keys::among::key_rest` meets its contract. The loop's invariant: what is left of the key has to be passed from where the letters
 -- before it have led. The measure is what is left of the key. Assumes nothing.
 use Prim.Native.Nat.{◌-◌}
 use mathlib.Core.Path.{refl, sym, ap, ◌∙◌}

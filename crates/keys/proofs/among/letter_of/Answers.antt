@@ -1,4 +1,4 @@
--- `letters::among::letter_of` meets its contract: behind the key's width there is none. Assumes nothing.
+-- `keys::among::letter_of` meets its contract: behind the key's width there is none. Assumes nothing.
 use borrow.Author.Tests.{le-leb, lt-leb}
 use Rattle.keys.specs.Keys.{letter_from}
 use Rattle.keys.proofs.among.letter_of.Goals as goal

@@ -1,4 +1,4 @@
--- `letters::joint::mark_suffix_with_optional_U_vowel` meets its contract: two characters are read back, and the optional U goes by them; where the
+-- `keys::joint::mark_suffix_with_optional_U_vowel` meets its contract: two characters are read back, and the optional U goes by them; where the
 -- first begins the part there is no second. Assumes nothing.
 use mathlib.Core.Path.{sym, ap, ◌∙◌}
 use mathlib.Core.Bool.{false, not}

@@ -1,4 +1,4 @@
--- `letters::joint::mark_suffix_with_optional_consonant` meets its contract: two characters are read back, and the optional letter goes by them.
+-- `keys::joint::mark_suffix_with_optional_consonant` meets its contract: two characters are read back, and the optional letter goes by them.
 -- Assumes nothing.
 use mathlib.Core.Path.{sym, ◌∙◌}
 use mathlib.Core.Bool.{true}

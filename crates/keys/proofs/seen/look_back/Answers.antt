@@ -1,4 +1,4 @@
--- `letters::seen::look_back` meets its contract: three bytes below 128 are three characters, and any others are read one after the other.
+-- `keys::seen::look_back` meets its contract: three bytes below 128 are three characters, and any others are read one after the other.
 -- Assumes nothing.
 use Prim.Native.Nat.{ℕ, ◌-◌, ◌<◌}
 use mathlib.Core.Path.{refl, ◌∙◌}

@@ -1,4 +1,4 @@
--- `letters::seen::read_three` meets its contract: three characters read one after the other. Assumes nothing.
+-- `keys::seen::read_three` meets its contract: three characters read one after the other. Assumes nothing.
 use native.Mathlib.Omega.{arith}
 use Rattle.utf8.proofs.Laws.Part.{low-length-le, low-cursor-le, cursor-length-le, cursor-part-le}
 use Rattle.keys.proofs.Laws.Reads.{first-le, second-le, third-le, three_at-made}

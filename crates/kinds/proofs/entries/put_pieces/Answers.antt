@@ -1,5 +1,5 @@
--- `kinds::entries::put_pieces` meets its contract. The loop's invariant: the entries of the pieces passed are written, and the output keeps
--- its length. The measure is what is left of them. In each answer s is the start, and t the loop's test. Assumes nothing.
+-- `kinds::entries::put_pieces` meets its contract. The loop's invariant: the entries of the pieces passed are written, and the output keeps its
+-- length. The measure is what is left of them. Assumes nothing.
 use mathlib.Core.Path.{◌≡◌, refl}
 use native.Mathlib.Omega.{arith}
 use lib.ListN.{length, length-set}

@@ -1,5 +1,4 @@
--- `kinds::spelling::put_line` meets its contract: the parts written one after the other are the piece's line, and they fit. In each answer
--- `named` is the place behind the name, and s the start. Assumes nothing.
+-- `kinds::spelling::put_line` meets its contract: the parts written one after the other are the piece's line, and they fit. Assumes nothing.
 use native.Mathlib.Omega.{arith}
 use Rattle.turkish.specs.Letters.{tab, lf}
 use Rattle.writing.proofs.Laws.Put.{wrote_nothing, wrote-byte, wrote-bytes, wrote-all}
@@ -23,7 +22,10 @@ pub put_bytes-c-requires : goal.put_bytes-c-requires
 put_bytes-c-requires c =
     let enough = name_of-fits _ c.name_of-name.ensures in
     let size = length-piece_line _ _ c.requires.first_le_last c.requires.last_in_bounds _ _ enough (name_of-letters _ c.name_of-name.ensures) in
-    record { n_in_bounds = omega (arith, letters-fit c.args.w.now c.args.p c.requires.first_le_last c.requires.last_in_bounds); n_in_bounds_2 = omega (arith, size) }
+    record {
+      n_in_bounds = omega (arith, letters-fit c.args.w.now c.args.p c.requires.first_le_last c.requires.last_in_bounds);
+      n_in_bounds_2 = omega (arith, size);
+    }
 
 pub put_byte-requires : goal.put_byte-requires
 put_byte-requires c =

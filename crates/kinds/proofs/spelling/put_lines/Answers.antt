@@ -1,6 +1,5 @@
--- `kinds::spelling::put_lines` meets its contract. The loop's invariant: the lines of the pieces passed are written, `at` is their end, and
--- the output keeps its length. The measure is what is left of them. In each answer s is the start, t the loop's test, and l the loop.
--- Assumes nothing.
+-- `kinds::spelling::put_lines` meets its contract. The loop's invariant: the lines of the pieces passed are written, `at` is their end, and the
+-- output keeps its length. The measure is what is left of them. Assumes nothing.
 use mathlib.Core.Path.{◌≡◌, refl}
 use native.Mathlib.Omega.{arith}
 use lib.ListN.{length}
@@ -25,10 +24,15 @@ bounds-r-i c = search rules
 
 pub put_line-at-requires : goal.put_line-at-requires
 unfolding entry unused most_pieces
-put_line-at-requires c = let r = c.args.r in
+put_line-at-requires c =
+    let r = c.args.r in
     let three : length r.pieces ≡ 3 = search (rules, length-mapped) in
     let room = text_of-room c.args.w.now r.pieces c.loop-i.i unused r.count (omega arith) c.loop-i-test.true in
-    record { first_le_last = c.requires.inside.whole _ c.loop-i-test.true; last_in_bounds = c.requires.inside.within _ c.loop-i-test.true; p_in_bounds = omega arith }
+    record {
+      first_le_last = c.requires.inside.whole _ c.loop-i-test.true;
+      last_in_bounds = c.requires.inside.within _ c.loop-i-test.true;
+      p_in_bounds = omega arith;
+    }
 
 pub overflow_add-i : goal.overflow_add-i
 unfolding most_pieces
@@ -52,5 +56,6 @@ unfolding most_pieces
 shape_of-out c = search rules
 
 pub returns : goal.returns
-returns c = let l = c.loop-i in
+returns c =
+    let l = c.loop-i in
     let e : l.i ≡ c.args.r.count = omega arith in record { value = rw (← e) l.invariant.2; out_after = rw (← e) l.invariant.3 }

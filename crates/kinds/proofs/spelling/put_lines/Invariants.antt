@@ -1,6 +1,5 @@
--- `kinds::spelling::put_lines` meets its contract. The loop's invariant: the lines of the pieces passed are written, `at` is their end, and
--- the output keeps its length. The measure is what is left of them. In each answer s is the start, t the loop's test, and l the loop.
--- Assumes nothing.
+-- `kinds::spelling::put_lines` meets its contract. The loop's invariant: the lines of the pieces passed are written, `at` is their end, and the
+-- output keeps its length. The measure is what is left of them. Assumes nothing.
 use Prim.Native.Nat.{◌-◌, ◌≤◌}
 use mathlib.Core.Path.{◌≡◌}
 use mathlib.Core.List.{map}

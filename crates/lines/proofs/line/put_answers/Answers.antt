@@ -8,7 +8,8 @@ use Rattle.lines.proofs.line.put_answers.Goals as goal
 
 pub returns : goal.returns
 unfolding answers tab yes_no one_zero
-returns c = let syllable = c.either.ensures in
+returns c =
+    let syllable = c.either.ensures in
     let yes = c.either-2.ensures in let p = wrote-all (answers-bytes c.args.syllable c.args.yes c.args.flag syllable yes c.either-3.ensures)
     (wrote-byte _
     (wrote-byte _

@@ -8,7 +8,8 @@ use Rattle.lines.proofs.line.put_refused.Goals as goal
 
 pub returns : goal.returns
 unfolding tab lf refused_line
-returns c = let p = wrote-all refl
+returns c =
+    let p = wrote-all refl
     (wrote-byte _
     (wrote-byte _ (wrote-byte _ (wrote-byte _ (wrote_nothing c.requires.at_in_bounds) (c.put_byte-a.ensures.value, c.put_byte-a.ensures.out_after)) (c.put_byte-b.ensures.value, c.put_byte-b.ensures.out_after)) (c.put_byte-c.ensures.value, c.put_byte-c.ensures.out_after))
     (c.put_byte.ensures.value, c.put_byte.ensures.out_after)) in

@@ -9,16 +9,19 @@ use Rattle.lines.proofs.Laws.LineText.{whole_text-one, whole_text-run}
 use Rattle.lines.proofs.line.put_whole.Goals as goal
 
 pub returns-then-not-syllable : goal.returns-then-not-syllable
-returns-then-not-syllable c = let p = wrote-all (whole_text-one _ c.requires.w_value _ c.requires.syllable_value (not-true _ c.if-not-syllable.true-raw))
+returns-then-not-syllable c =
+    let p = wrote-all (whole_text-one _ c.requires.w_value _ c.requires.syllable_value (not-true _ c.if-not-syllable.true-raw))
     (wrote-whole c.args.w.now (wrote_nothing (omega arith)) (c.put_bytes.ensures.value, c.put_bytes.ensures.out_after)) in
     record { value = p.0; out_after = p.1 }
 
 pub put_run-requires : goal.put_run-requires
-put_run-requires c = let f = whole_run_of-fits _ _ (le_refl _) _ c.whole_of.ensures in
+put_run-requires c =
+    let f = whole_run_of-fits _ _ (le_refl _) _ c.whole_of.ensures in
     record { keep_in_bounds = f.0; more_bound = f.1.0; from_le_upto = f.1.1.0; upto_in_bounds = f.1.1.1.0; from_in_bounds = omega arith }
 
 pub returns : goal.returns
-returns c = let pre = c.requires in let p = put-equal _ _
+returns c =
+    let pre = c.requires in let p = put-equal _ _
     (whole_text-run _ pre.w_value _ pre.syllable_value (not-false _ c.if-not-syllable.false-raw) _ c.whole_of.ensures)
     (c.put_run.ensures.value, c.put_run.ensures.out_after) in
     record { value = p.0; out_after = p.1 }

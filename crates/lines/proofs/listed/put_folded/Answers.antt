@@ -11,7 +11,8 @@ use Rattle.lines.proofs.listed.put_folded.Goals as goal
 
 pub returns-then-f-ne0 : goal.returns-then-f-ne0
 unfolding limit
-returns-then-f-ne0 c = let p = put-equal _ _ (ap list_line (call-refused _ _ _ _ (omega arith) (c.fold_word-f.ensures.value, c.fold_word-f.ensures.out_after) c.if-f-ne0.true)) (c.put_line.ensures.value, c.put_line.ensures.out_after) in
+returns-then-f-ne0 c =
+    let p = put-equal _ _ (ap list_line (call-refused _ _ _ _ (omega arith) (c.fold_word-f.ensures.value, c.fold_word-f.ensures.out_after) c.if-f-ne0.true)) (c.put_line.ensures.value, c.put_line.ensures.out_after) in
     record { value = p.0; out_after = p.1 }
 
 pub slice_bounds-text-end : goal.slice_bounds-text-end
@@ -25,5 +26,6 @@ slice_bounds-put_line-end c =
 
 pub returns : goal.returns
 unfolding limit
-returns c = let p = put-equal _ _ (ap list_line (call-text _ _ _ _ (omega arith) (c.fold_word-f.ensures.value, c.fold_word-f.ensures.out_after) c.if-f-ne0.false)) (c.put_line-2.ensures.value, c.put_line-2.ensures.out_after) in
+returns c =
+    let p = put-equal _ _ (ap list_line (call-text _ _ _ _ (omega arith) (c.fold_word-f.ensures.value, c.fold_word-f.ensures.out_after) c.if-f-ne0.false)) (c.put_line-2.ensures.value, c.put_line-2.ensures.out_after) in
     record { value = p.0; out_after = p.1 }

@@ -15,7 +15,8 @@ loop-i-init c = (omega arith, record { line-length = omega arith; held-le = omeg
 
 pub returns-then-out-o-lt-LINE : goal.returns-then-out-o-lt-LINE
 unfolding line_room limit
-returns-then-out-o-lt-LINE c = let l = c.loop-i in let p = left-parts (sym (feed_bytes-full _ _ l.i _ (omega arith)) ∙ l.invariant.3) in
+returns-then-out-o-lt-LINE c =
+    let l = c.loop-i in let p = left-parts (sym (feed_bytes-full _ _ l.i _ (omega arith)) ∙ l.invariant.3) in
     record { used_value = p.0; held_value = p.1.0; written_value = p.1.1.0; line_after = p.1.1.1.0; out_after = p.1.1.1.1 }
 
 pub feed_byte-p-requires : goal.feed_byte-p-requires
@@ -36,5 +37,6 @@ loop-i-preserved c =
     )
 
 pub returns : goal.returns
-returns c = let l = c.loop-i in let p = left-parts (sym (feed_bytes-end _ _ l.i _ (omega arith)) ∙ l.invariant.3) in
+returns c =
+    let l = c.loop-i in let p = left-parts (sym (feed_bytes-end _ _ l.i _ (omega arith)) ∙ l.invariant.3) in
     record { used_value = p.0; held_value = p.1.0; written_value = p.1.1.0; line_after = p.1.1.1.0; out_after = p.1.1.1.1 }

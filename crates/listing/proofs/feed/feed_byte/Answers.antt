@@ -12,7 +12,8 @@ slice_bounds-put_listed-end-then-b-eq10 c = let a = c.args in omega (arith, leng
 
 pub returns-then-b-eq10 : goal.returns-then-b-eq10
 unfolding end_line
-returns-then-b-eq10 c = let a = c.args in
+returns-then-b-eq10 c =
+    let a = c.args in
     let e : a.b ≡ 0x0A = omega arith in
     let put = c.put_listed-end.ensures in
     let is = feed_byte_of-lf a.folded a.b (standing 0 a.line.now a.held a.out.now a.at) e in
@@ -20,8 +21,15 @@ returns-then-b-eq10 c = let a = c.args in
 
 pub returns : goal.returns
 unfolding hold_byte_of
-returns c = let a = c.args in
+returns c =
+    let a = c.args in
     let hold = c.hold_byte.ensures in
     let other : a.b ≡ 0x0A → ⊥ = λ e. omega arith in
     let is = feed_byte_of-other a.folded a.b (standing 0 a.line.now a.held a.out.now a.at) other in
-    record { used_value = refl; held_value = rw is hold.value; written_value = rw is refl; line_after = rw is hold.line_after; out_after = rw is refl }
+    record {
+      used_value = refl;
+      held_value = rw is hold.value;
+      written_value = rw is refl;
+      line_after = rw is hold.line_after;
+      out_after = rw is refl;
+    }

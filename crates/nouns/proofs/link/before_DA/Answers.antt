@@ -1,5 +1,4 @@
--- `nouns::link::before_DA` meets its contract: lAr, or possessives and what stands behind that, or nothing. In each answer l is the place
--- behind lAr, and s behind what is seen from the record. Assumes nothing.
+-- `nouns::link::before_DA` meets its contract: lAr, or possessives and what stands behind that, or nothing. Assumes nothing.
 use Rattle.theorems.specs.Simple.Grammar.{mark_of}
 use Rattle.theorems.specs.Simple.Marks.{lAr}
 use Rattle.theorems.specs.Simple.NounMarks.{possessives}

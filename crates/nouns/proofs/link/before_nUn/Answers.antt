@@ -1,5 +1,4 @@
--- `nouns::link::before_nUn` meets its contract: lArI, or possessives or sU and what stands behind that, or the chain. In each answer r is
--- the place behind sU, p behind possessives, l behind lArI, and s behind what is seen from the record. Assumes nothing.
+-- `nouns::link::before_nUn` meets its contract: lArI, or possessives or sU and what stands behind that, or the chain. Assumes nothing.
 use Rattle.theorems.specs.Simple.Grammar.{mark_of}
 use Rattle.theorems.specs.Simple.NounMarks.{possessives, sU, lArI}
 use Rattle.keys.proofs.Laws.Sees.{sees-made}

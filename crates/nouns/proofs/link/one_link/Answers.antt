@@ -1,5 +1,4 @@
--- `nouns::link::one_link` meets its contract: `ki`, and before it DA or nUn with what stands behind that. In each answer k is the place
--- behind `ki`, d behind the record before it, s behind what is seen from there, and p behind DA. Assumes nothing.
+-- `nouns::link::one_link` meets its contract: `ki`, and before it DA or nUn with what stands behind that. Assumes nothing.
 use mathlib.Core.Path.{refl}
 use borrow.Author.Tests.{not-true, not-false}
 use Rattle.theorems.specs.Simple.Grammar.{mark_of}

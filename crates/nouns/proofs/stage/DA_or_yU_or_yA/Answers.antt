@@ -1,5 +1,4 @@
--- `nouns::stage::DA_or_yU_or_yA` meets its contract: each of the three where those before it do not fit. In each answer d is the place
--- behind DA, and u behind yU. Assumes nothing.
+-- `nouns::stage::DA_or_yU_or_yA` meets its contract: each of the three where those before it do not fit. Assumes nothing.
 use Rattle.theorems.specs.Simple.Grammar.{mark_of}
 use Rattle.theorems.specs.Simple.NounMarks.{yU, yA, DA}
 use Rattle.theorems.specs.Simple.Nouns.{either}

@@ -1,5 +1,4 @@
--- `nouns::stage::after_DA` meets its contract: what may stand behind DA, yU or yA is tried from where that leads. In each answer m is the place behind
--- the mark. Assumes nothing.
+-- `nouns::stage::after_DA` meets its contract: what may stand behind DA, yU or yA is tried from where that leads. Assumes nothing.
 use mathlib.Core.Path.{◌∙◌}
 use borrow.Author.Tests.{not-true, not-false}
 use Rattle.theorems.specs.Simple.Nouns.{perhaps, after_DA_of}

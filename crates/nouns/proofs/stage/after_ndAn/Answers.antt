@@ -1,5 +1,4 @@
--- `nouns::stage::after_ndAn` meets its contract: sU goes from where ndAn or nU leads. In each answer m is the place behind those two, and d
--- behind the record to which they lead. Assumes nothing.
+-- `nouns::stage::after_ndAn` meets its contract: sU goes from where ndAn or nU leads. Assumes nothing.
 use borrow.Author.Tests.{not-true, not-false}
 use Rattle.theorems.specs.Simple.Nouns.{chain, owned_by_sU_of, after_ndAn_of}
 use Rattle.keys.specs.Passed.{not_passed_of}

@@ -1,5 +1,5 @@
--- `nouns::stage::after_pronominal` meets its contract: what is cut from where ndA or nA leads, or the chain before them where nothing is. In
--- each answer p is the place behind those two, d behind the record to which they lead, and q behind what is cut. Assumes nothing.
+-- `nouns::stage::after_pronominal` meets its contract: what is cut from where ndA or nA leads, or the chain before them where nothing is. Assumes
+-- nothing.
 use mathlib.Core.Path.{refl, ◌∙◌}
 use borrow.Author.Tests.{not-true, not-false}
 use Rattle.theorems.specs.Simple.Nouns.{chain, pronominal, after_pronominal_of, whole}

@@ -1,5 +1,5 @@
 -- `nouns::stage::chain_alone` meets its contract: without `ki` the chain fails; with it the chain fits where its place is not the record's own.
--- In each answer k is the place behind the chain. Assumes nothing.
+-- Assumes nothing.
 use mathlib.Core.Path.{◌∙◌}
 use borrow.Author.Tests.{not-true}
 use Rattle.keys.specs.Passed.{not_passed_of}

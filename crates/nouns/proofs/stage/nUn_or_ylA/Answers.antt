@@ -1,5 +1,4 @@
--- `nouns::stage::nUn_or_ylA` meets its contract: nUn, or ylA where that does not fit. In each answer m is the place behind the first.
--- Assumes nothing.
+-- `nouns::stage::nUn_or_ylA` meets its contract: nUn, or ylA where that does not fit. Assumes nothing.
 use Rattle.theorems.specs.Simple.Grammar.{mark_of}
 use Rattle.theorems.specs.Simple.NounMarks.{nUn, ylA}
 use Rattle.nouns.specs.Stage.{nUn_or_ylA_of}

@@ -1,5 +1,4 @@
--- `nouns::stage::ndAn_or_nU` meets its contract: ndAn, or nU where that does not fit. In each answer m is the place behind the first.
--- Assumes nothing.
+-- `nouns::stage::ndAn_or_nU` meets its contract: ndAn, or nU where that does not fit. Assumes nothing.
 use Rattle.theorems.specs.Simple.Grammar.{mark_of}
 use Rattle.theorems.specs.Simple.NounMarks.{ndAn, nU}
 use Rattle.nouns.specs.Stage.{ndAn_or_nU_of}

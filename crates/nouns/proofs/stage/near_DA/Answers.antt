@@ -1,5 +1,4 @@
--- `nouns::stage::near_DA` meets its contract: the chain goes from where possessives or lAr leads. In each answer m is the place behind
--- those. Assumes nothing.
+-- `nouns::stage::near_DA` meets its contract: the chain goes from where possessives or lAr leads. Assumes nothing.
 use mathlib.Core.Path.{refl}
 use borrow.Author.Tests.{not-true, not-false}
 use Rattle.theorems.specs.Simple.Nouns.{both, perhaps, chain}

@@ -1,5 +1,4 @@
--- `nouns::stage::near_DAn` meets its contract: possessives, then a plural, then the chain, each where those before it do not fit. In each
--- answer l is the place behind the second, p behind possessives, and s behind what is seen from the record. Assumes nothing.
+-- `nouns::stage::near_DAn` meets its contract: possessives, then a plural, then the chain, each where those before it do not fit. Assumes nothing.
 use Rattle.theorems.specs.Simple.Nouns.{either, chain, plural, possessed}
 use Rattle.keys.proofs.Laws.Sees.{sees-made}
 use Rattle.nouns.specs.Stage.{near_DAn_of}

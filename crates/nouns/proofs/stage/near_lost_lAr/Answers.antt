@@ -1,5 +1,4 @@
--- `nouns::stage::near_lost_lAr` meets its contract: the chain, or possessives or sU where it does not fit. In each answer o is the place
--- behind those, and k behind the chain. Assumes nothing.
+-- `nouns::stage::near_lost_lAr` meets its contract: the chain, or possessives or sU where it does not fit. Assumes nothing.
 use mathlib.Core.Path.{refl}
 use Rattle.theorems.specs.Simple.Nouns.{chain, owned}
 use Rattle.keys.specs.Passed.{passed_to, not_passed_of}

@@ -1,6 +1,5 @@
--- `nouns::stage::near_nUn` meets its contract: lAr and what may stand behind it, then possessives or sU, then the chain, each where those
--- before it do not fit. In each answer o is the place behind the second, l behind lAr, and s behind what is seen from the record. Assumes
--- nothing.
+-- `nouns::stage::near_nUn` meets its contract: lAr and what may stand behind it, then possessives or sU, then the chain, each where those before it
+-- do not fit. Assumes nothing.
 use mathlib.Core.Path.{refl}
 use Rattle.theorems.specs.Simple.Grammar.{mark_of}
 use Rattle.theorems.specs.Simple.Marks.{lAr}

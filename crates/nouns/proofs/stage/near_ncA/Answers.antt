@@ -1,5 +1,4 @@
--- `nouns::stage::near_ncA` meets its contract: lArI, then possessives or sU, then a plural, each where those before it do not fit. In each
--- answer o is the place behind the second, l behind lArI, and s behind what is seen from the record. Assumes nothing.
+-- `nouns::stage::near_ncA` meets its contract: lArI, then possessives or sU, then a plural, each where those before it do not fit. Assumes nothing.
 use Rattle.theorems.specs.Simple.Grammar.{mark_of}
 use Rattle.theorems.specs.Simple.NounMarks.{lArI}
 use Rattle.theorems.specs.Simple.Nouns.{either, chain, plural, owned}

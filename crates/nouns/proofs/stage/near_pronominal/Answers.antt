@@ -1,5 +1,4 @@
--- `nouns::stage::near_pronominal` meets its contract: lArI, or sU where that does not fit. In each answer s is the place behind what is seen
--- from the record. Assumes nothing.
+-- `nouns::stage::near_pronominal` meets its contract: lArI, or sU where that does not fit. Assumes nothing.
 use Rattle.theorems.specs.Simple.Grammar.{mark_of}
 use Rattle.theorems.specs.Simple.NounMarks.{lArI}
 use Rattle.theorems.specs.Simple.Nouns.{chain, owned_by_sU_of}

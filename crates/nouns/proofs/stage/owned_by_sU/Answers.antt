@@ -1,5 +1,4 @@
--- `nouns::stage::owned_by_sU` meets its contract: a plural is tried from where sU leads. In each answer m is the place behind
--- the mark. Assumes nothing.
+-- `nouns::stage::owned_by_sU` meets its contract: a plural is tried from where sU leads. Assumes nothing.
 use mathlib.Core.Path.{◌∙◌}
 use borrow.Author.Tests.{not-true, not-false}
 use Rattle.theorems.specs.Simple.Grammar.{mark_of}

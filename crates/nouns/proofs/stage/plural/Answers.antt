@@ -1,5 +1,4 @@
--- `nouns::stage::plural` meets its contract: the chain goes from where lAr leads. In each answer m is the place behind
--- the mark. Assumes nothing.
+-- `nouns::stage::plural` meets its contract: the chain goes from where lAr leads. Assumes nothing.
 use mathlib.Core.Path.{◌∙◌}
 use borrow.Author.Tests.{not-true, not-false}
 use Rattle.theorems.specs.Simple.Grammar.{mark_of}

@@ -1,5 +1,4 @@
--- `nouns::stage::possessed` meets its contract: a plural is tried from where possessives leads. In each answer m is the place behind
--- the mark. Assumes nothing.
+-- `nouns::stage::possessed` meets its contract: a plural is tried from where possessives leads. Assumes nothing.
 use mathlib.Core.Path.{◌∙◌}
 use borrow.Author.Tests.{not-true, not-false}
 use Rattle.theorems.specs.Simple.Grammar.{mark_of}

@@ -1,5 +1,5 @@
--- `nouns::stage::possessives_or_lAr` meets its contract: possessives with lAr tried from where it leads, or lAr where it does not fit. In
--- each answer p is the place behind possessives, and s behind what is seen from the record. Assumes nothing.
+-- `nouns::stage::possessives_or_lAr` meets its contract: possessives with lAr tried from where it leads, or lAr where it does not fit. Assumes
+-- nothing.
 use mathlib.Core.Path.{refl, ◌∙◌}
 use Rattle.theorems.specs.Simple.Grammar.{mark_of}
 use Rattle.theorems.specs.Simple.Marks.{lAr}

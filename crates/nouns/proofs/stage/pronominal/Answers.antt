@@ -1,5 +1,4 @@
--- `nouns::stage::pronominal` meets its contract: ndA, or nA where that does not fit. In each answer m is the place behind the first.
--- Assumes nothing.
+-- `nouns::stage::pronominal` meets its contract: ndA, or nA where that does not fit. Assumes nothing.
 use Rattle.theorems.specs.Simple.Grammar.{mark_of}
 use Rattle.theorems.specs.Simple.NounMarks.{ndA, nA}
 use Rattle.theorems.specs.Simple.Nouns.{pronominal}

@@ -1,5 +1,4 @@
--- `nouns::stage::try_lAr` meets its contract: the place to which lAr leads, and its own place where that does not fit. In
--- each answer s is the place behind what is seen from the record. Assumes nothing.
+-- `nouns::stage::try_lAr` meets its contract: the place to which lAr leads, and its own place where that does not fit. Assumes nothing.
 use Rattle.theorems.specs.Simple.Grammar.{mark_of}
 use Rattle.theorems.specs.Simple.Marks.{lAr}
 use Rattle.keys.proofs.Laws.Sees.{sees-made}

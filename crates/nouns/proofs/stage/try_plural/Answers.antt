@@ -1,5 +1,4 @@
--- `nouns::stage::try_plural` meets its contract: the place to which a plural leads, and its own place where that does not fit. In
--- each answer s is the place behind what is seen from the record. Assumes nothing.
+-- `nouns::stage::try_plural` meets its contract: the place to which a plural leads, and its own place where that does not fit. Assumes nothing.
 use Rattle.theorems.specs.Simple.Nouns.{chain, plural}
 use Rattle.keys.proofs.Laws.Sees.{sees-made}
 use Rattle.nouns.proofs.Laws.Passing.{passes-seen, place-perhaps, place_none}

@@ -6,15 +6,19 @@ use Rattle.outputs.proofs.Laws.RunCalls.{noun_call-noun_out-refused, noun_call-n
 use Rattle.outputs.proofs.noun.noun_word.Goals as goal
 
 pub returns-then-n-ne0 : goal.returns-then-n-ne0
-returns-then-n-ne0 c = let p = noun_call-noun_out-refused _ _ _ c.refusal_into-n.ensures c.if-n-ne0.true in
+returns-then-n-ne0 c =
+    let p = noun_call-noun_out-refused _ _ _ c.refusal_into-n.ensures c.if-n-ne0.true in
     record { value = p.0; out_after = p.1 }
 
 pub write_run-length-requires : goal.write_run-length-requires
-write_run-length-requires c = let room = into-room _ _ _ _ c.refusal_into-n.ensures c.if-n-ne0.false in let p = left_run-fits _ _ room _ c.stem_noun_suffixes-u.ensures _ c.left.ensures in
+write_run-length-requires c =
+    let room = into-room _ _ _ _ c.refusal_into-n.ensures c.if-n-ne0.false in
+    let p = left_run-fits _ _ room _ c.stem_noun_suffixes-u.ensures _ c.left.ensures in
     record { keep_in_bounds = p.0; more_bound = p.1.0; from_le_upto = p.1.1.0; upto_in_bounds = p.1.1.1.0; from_in_bounds = p.1.1.1.1 }
 
 pub returns : goal.returns
-returns c = let p = noun_call-noun_out-given _ _ _ c.refusal_into-n.ensures c.if-n-ne0.false _
+returns c =
+    let p = noun_call-noun_out-given _ _ _ c.refusal_into-n.ensures c.if-n-ne0.false _
     c.stem_noun_suffixes-u.ensures _
     c.left.ensures _ _
     c.write_run-length.ensures.value

@@ -12,7 +12,8 @@ use borrow.Author.Rules.{rules}
 use Rattle.outputs.proofs.pass.pass_word.Goals as goal
 
 pub returns-then-n-ne0 : goal.returns-then-n-ne0
-returns-then-n-ne0 c = let p = pass_call-pass_out-refused _ _ _ c.refusal_into-n.ensures c.if-n-ne0.true in
+returns-then-n-ne0 c =
+    let p = pass_call-pass_out-refused _ _ _ c.refusal_into-n.ensures c.if-n-ne0.true in
     record { value = p.0; out_after = p.1 }
 
 pub copy-length-requires : goal.copy-length-requires
@@ -21,7 +22,9 @@ copy-length-requires c =
 
 pub returns-then-not-more_than_one_syllable_word : goal.returns-then-not-more_than_one_syllable_word
 unfolding chars
-returns-then-not-more_than_one_syllable_word c = let no = sym c.more_than_one_syllable_word.ensures ∙ not-true _ c.if-not-more_than_one_syllable_word.true-raw in let p = pass_call-pass_out-short _ _ _ c.refusal_into-n.ensures c.if-n-ne0.false no _ _
+returns-then-not-more_than_one_syllable_word c =
+    let no = sym c.more_than_one_syllable_word.ensures ∙ not-true _ c.if-not-more_than_one_syllable_word.true-raw in
+    let p = pass_call-pass_out-short _ _ _ c.refusal_into-n.ensures c.if-n-ne0.false no _ _
     c.copy-length.ensures.value
     (c.copy-length.ensures.out_after ∙ copy_written _ _) in
     record { value = p.0; out_after = p.1 }
@@ -35,7 +38,9 @@ copy-length-requires-then-not-s c =
 
 pub returns-then-not-s : goal.returns-then-not-s
 unfolding chars
-returns-then-not-s c = let yes = sym c.more_than_one_syllable_word.ensures ∙ not-false _ c.if-not-more_than_one_syllable_word.false-raw in let p = pass_call-pass_out-kept _ _ _ c.refusal_into-n.ensures c.if-n-ne0.false yes _
+returns-then-not-s c =
+    let yes = sym c.more_than_one_syllable_word.ensures ∙ not-false _ c.if-not-more_than_one_syllable_word.false-raw in
+    let p = pass_call-pass_out-kept _ _ _ c.refusal_into-n.ensures c.if-n-ne0.false yes _
     c.stem_nominal_verb_suffixes-s.ensures
     (not-true _ c.if-not-s.true) _ _
     c.copy-length-then-not-s.ensures.value
@@ -46,14 +51,17 @@ pub postlude-r-requires : goal.postlude-r-requires
 postlude-r-requires c = kept-le _ _ c.stem_nominal_verb_suffixes-s.ensures
 
 pub write_repair-length-requires : goal.write_repair-length-requires
-write_repair-length-requires c = let room = into-room _ _ _ _ c.refusal_into-n.ensures c.if-n-ne0.false in
+write_repair-length-requires c =
+    let room = into-room _ _ _ _ c.refusal_into-n.ensures c.if-n-ne0.false in
     let front = kept-le _ _ c.stem_nominal_verb_suffixes-s.ensures in
     let fits = repair-fits _ _ _ _ c.postlude-r.ensures front room in
     search rules
 
 pub returns : goal.returns
 unfolding chars
-returns c = let yes = sym c.more_than_one_syllable_word.ensures ∙ not-false _ c.if-not-more_than_one_syllable_word.false-raw in let p = pass_call-pass_out-repaired _ _ _ c.refusal_into-n.ensures c.if-n-ne0.false yes _
+returns c =
+    let yes = sym c.more_than_one_syllable_word.ensures ∙ not-false _ c.if-not-more_than_one_syllable_word.false-raw in
+    let p = pass_call-pass_out-repaired _ _ _ c.refusal_into-n.ensures c.if-n-ne0.false yes _
     c.stem_nominal_verb_suffixes-s.ensures
     (not-false _ c.if-not-s.false) _
     c.postlude-r.ensures _ _

@@ -12,5 +12,9 @@ pub copy-requires : goal.copy-requires
 copy-requires c = simp length-take (omega arith)
 
 pub returns : goal.returns
-returns c = let fits = c.requires in
-    record { value = length-repair _ _ fits.keep_in_bounds fits.more_bound; out_after = written-repair _ _ fits.keep_in_bounds fits.more_bound _ _ _ c.copy.ensures.out_after c.write_two.ensures }
+returns c =
+    let fits = c.requires in
+    record {
+      value = length-repair _ _ fits.keep_in_bounds fits.more_bound;
+      out_after = written-repair _ _ fits.keep_in_bounds fits.more_bound _ _ _ c.copy.ensures.out_after c.write_two.ensures;
+    }

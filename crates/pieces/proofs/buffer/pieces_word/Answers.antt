@@ -9,7 +9,8 @@ use Rattle.pieces.proofs.Laws.Calls.{pieces_call-refused, pieces_call-given}
 use Rattle.pieces.proofs.buffer.pieces_word.Goals as goal
 
 pub returns-then-n-ne0 : goal.returns-then-n-ne0
-returns-then-n-ne0 c = let p = pieces_call-refused _ _ _ c.refusal_short-n.ensures c.if-n-ne0.true in
+returns-then-n-ne0 c =
+    let p = pieces_call-refused _ _ _ c.refusal_short-n.ensures c.if-n-ne0.true in
     record { value = p.0; pieces_out = p.1 }
 
 pub pieces_of-r-requires : goal.pieces_of-r-requires
@@ -17,9 +18,14 @@ pieces_of-r-requires c = short-accepted 5 _ 9 _ _ (omega arith) c.refusal_short-
 
 pub put_pieces-requires : goal.put_pieces-requires
 unfolding pieces_room
-put_pieces-requires c = let accepts = short-accepted 5 _ 9 _ _ (omega arith) c.refusal_short-n.ensures c.if-n-ne0.false in
-    record { near = subst Near (sym c.pieces_of-r.ensures) (near-removed _ accepts); pieces_room_in_bounds = short-room 5 _ 9 _ _ (omega arith) c.refusal_short-n.ensures c.if-n-ne0.false }
+put_pieces-requires c =
+    let accepts = short-accepted 5 _ 9 _ _ (omega arith) c.refusal_short-n.ensures c.if-n-ne0.false in
+    record {
+      near = subst Near (sym c.pieces_of-r.ensures) (near-removed _ accepts);
+      pieces_room_in_bounds = short-room 5 _ 9 _ _ (omega arith) c.refusal_short-n.ensures c.if-n-ne0.false;
+    }
 
 pub returns : goal.returns
-returns c = let p = pieces_call-given _ _ _ c.refusal_short-n.ensures c.if-n-ne0.false c.pieces_of-r.ensures c.put_pieces.ensures in
+returns c =
+    let p = pieces_call-given _ _ _ c.refusal_short-n.ensures c.if-n-ne0.false c.pieces_of-r.ensures c.put_pieces.ensures in
     record { value = p.0; pieces_out = p.1 }

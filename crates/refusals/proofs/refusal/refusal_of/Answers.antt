@@ -1,4 +1,4 @@
--- `words::refusal::refusal_of` meets its contract: each of its tests is one of the definition's.
+-- `refusals::refusal::refusal_of` meets its contract: each of its tests is one of the definition's.
 -- Assumes nothing.
 use mathlib.Core.Path.{sym, ◌∙◌}
 use Rattle.turkish.specs.Calls.{limit}

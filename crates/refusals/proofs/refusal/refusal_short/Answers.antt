@@ -1,4 +1,4 @@
--- `words::refusal::refusal_short` meets its contract: the word's own number comes first, and then the room is tested.
+-- `refusals::refusal::refusal_short` meets its contract: the word's own number comes first, and then the room is tested.
 -- Assumes nothing.
 use Rattle.refusals.proofs.Laws.Refusals.{refusal_short_of-word, refusal_short_of-room, refusal_short_of-none}
 use Rattle.refusals.proofs.refusal.refusal_short.Goals as goal

@@ -1,4 +1,4 @@
--- `stages::postlude::append_U_to_stems_ending_with_d_or_g` meets its contract: where the character seen last is d or g, the vowel is
+-- `repairs::postlude::append_U_to_stems_ending_with_d_or_g` meets its contract: where the character seen last is d or g, the vowel is
 -- the one gained after the last vowel before it. Assumes nothing.
 use native.Mathlib.Omega.{arith}
 use Rattle.vowels.proofs.Laws.LastVowel.{last-ch}

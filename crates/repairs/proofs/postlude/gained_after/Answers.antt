@@ -1,4 +1,4 @@
--- `stages::postlude::gained_after` meets its contract: in an arm the vowel is one of its two numbers, in the last one none of them.
+-- `repairs::postlude::gained_after` meets its contract: in an arm the vowel is one of its two numbers, in the last one none of them.
 -- Assumes nothing.
 use Prim.Native.Nat.{ℕ}
 use mathlib.Core.Path.{◌≡◌, refl, sym, subst, ◌∙◌}

@@ -1,4 +1,4 @@
--- `stages::postlude::is_reserved_word` meets its contract: the bytes tested are an ASCII literal, and so are the characters.
+-- `repairs::postlude::is_reserved_word` meets its contract: the bytes tested are an ASCII literal, and so are the characters.
 -- Assumes nothing.
 use mathlib.Core.Path.{sym, ◌∙◌}
 use Rattle.turkish.specs.Letters.{text}

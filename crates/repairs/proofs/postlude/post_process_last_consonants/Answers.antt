@@ -1,4 +1,4 @@
--- `stages::postlude::post_process_last_consonants` meets its contract: the table A_23 computes to the four keys, and the place found
+-- `repairs::postlude::post_process_last_consonants` meets its contract: the table A_23 computes to the four keys, and the place found
 -- says which of them the last character is. Assumes nothing.
 use mathlib.Core.Path.{ap, ◌∙◌}
 use native.Mathlib.Omega.{arith}

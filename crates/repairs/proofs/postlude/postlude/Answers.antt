@@ -1,4 +1,4 @@
--- `stages::postlude::postlude` meets its contract: each return is the repair by the tests on its way. Assumes nothing.
+-- `repairs::postlude::postlude` meets its contract: each return is the repair by the tests on its way. Assumes nothing.
 use mathlib.Core.Path.{sym, ◌∙◌}
 use native.Mathlib.Omega.{arith}
 use Rattle.utf8.specs.Characters.{before}

@@ -1,5 +1,4 @@
--- `stages::stage::after_lAr` meets its contract: the first mark of the group that fits. In each answer x1, x2, .. are the places behind the marks in
--- their order. Assumes nothing.
+-- `stages::stage::after_lAr` meets its contract: the first mark of the group that fits. Assumes nothing.
 use Rattle.theorems.specs.Simple.Pieces.{trace}
 use Rattle.marks.proofs.Laws.Marks.{reach-first, reach-next}
 use Rattle.stages.proofs.stage.after_lAr.Goals as goal

@@ -1,5 +1,4 @@
--- `stages::stage::fifth_branch` meets its contract: ymUs_ is tried from where a person's ending leads, after its deletion. In each answer l is
--- the place behind what is seen there. Assumes nothing.
+-- `stages::stage::fifth_branch` meets its contract: ymUs_ is tried from where a person's ending leads, after its deletion. Assumes nothing.
 use mathlib.Core.Path.{refl, sym, ◌∙◌}
 use Rattle.theorems.specs.Simple.Grammar.{try}
 use Rattle.theorems.specs.Simple.Marks.{ymUs}

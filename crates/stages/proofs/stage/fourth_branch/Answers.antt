@@ -1,5 +1,4 @@
--- `stages::stage::fourth_branch` meets its contract: what must follow nUz goes on from where that leads. In each answer l is the place behind
--- what is seen there. Assumes nothing.
+-- `stages::stage::fourth_branch` meets its contract: what must follow nUz goes on from where that leads. Assumes nothing.
 use mathlib.Core.Path.{refl}
 use Rattle.theorems.specs.Simple.Marks.{nUz}
 use Rattle.theorems.specs.Simple.Pieces.{trace}

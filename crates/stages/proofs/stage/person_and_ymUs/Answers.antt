@@ -1,5 +1,5 @@
--- `stages::stage::person_and_ymUs` meets its contract: ymUs_ goes on from where a person's ending leads, and stands alone where none fits.
--- In each answer l is the place behind what is seen there. Assumes nothing.
+-- `stages::stage::person_and_ymUs` meets its contract: ymUs_ goes on from where a person's ending leads, and stands alone where none fits. Assumes
+-- nothing.
 use mathlib.Core.Path.{sym, ap, ◌∙◌}
 use Rattle.theorems.specs.Simple.Marks.{ymUs}
 use Rattle.theorems.specs.Simple.Pieces.{trace_of, trace}

@@ -1,5 +1,4 @@
--- `stages::stage::second_branch` meets its contract: what follows cAsInA goes on from where that leads. In each answer l is the place behind
--- what is seen there. Assumes nothing.
+-- `stages::stage::second_branch` meets its contract: what follows cAsInA goes on from where that leads. Assumes nothing.
 use mathlib.Core.Path.{sym, ◌∙◌}
 use Rattle.theorems.specs.Simple.Grammar.{mark, ◌then◌}
 use Rattle.theorems.specs.Simple.Marks.{cAsInA, ymUs}

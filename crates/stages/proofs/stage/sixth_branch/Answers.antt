@@ -1,5 +1,5 @@
--- `stages::stage::sixth_branch` meets its contract: a person's ending or nothing and ymUs_ are tried whole from where DUr leads, after its
--- deletion. In each answer l is the place behind what is seen there. Assumes nothing.
+-- `stages::stage::sixth_branch` meets its contract: a person's ending or nothing and ymUs_ are tried whole from where DUr leads, after its deletion.
+-- Assumes nothing.
 use mathlib.Core.Path.{sym, ◌∙◌}
 use Rattle.theorems.specs.Simple.Grammar.{mark, ◌then◌, try}
 use Rattle.theorems.specs.Simple.Marks.{DUr, ymUs}

@@ -1,7 +1,5 @@
--- `stages::stage::stem_nominal_verb_suffixes` meets its contract: the branches one after the other from the word's end, each where the last
--- letter does not rule it out. In each answer a is the place behind the record of the branch that fits, b behind the branch, and j before its
--- guard, where the ways past the branches before it meet. Where they meet, b is what is told past a branch that was tried, and g past one that
--- was ruled out. Assumes nothing.
+-- `stages::stage::stem_nominal_verb_suffixes` meets its contract: the branches one after the other from the word's end, each where the last letter
+-- does not rule it out. Assumes nothing.
 use Prim.Native.Char.{code}
 use mathlib.Core.Path.{◌≡◌, refl, sym, ◌∙◌}
 use lib.Dec.{eqb}

@@ -1,5 +1,4 @@
--- `stages::stage::third_branch` meets its contract: what may follow lAr is tried from where that leads, after its deletion. In each answer l is
--- the place behind what is seen there. Assumes nothing.
+-- `stages::stage::third_branch` meets its contract: what may follow lAr is tried from where that leads, after its deletion. Assumes nothing.
 use mathlib.Core.Path.{refl, ◌∙◌}
 use Rattle.theorems.specs.Simple.Grammar.{try}
 use Rattle.theorems.specs.Simple.Marks.{lAr}

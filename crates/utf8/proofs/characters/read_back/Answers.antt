@@ -15,7 +15,8 @@ pub returns-then-b-lt128 : goal.returns-then-b-lt128
 returns-then-b-lt128 c = read_back_of-ascii c.args.w.now c.args.c _ (omega arith) c.requires refl c.if-b-lt128.true
 
 pub returns-then-is_continuation : goal.returns-then-is_continuation
-returns-then-is_continuation c = let t = c.if-is_continuation.true in
+returns-then-is_continuation c =
+    let t = c.if-is_continuation.true in
     let on = c.is_continuation.result in
     let off = c.is_continuation-then-c-ge2.result in
     read_back_of-two c.args.w.now c.args.c _ _ _ c.if-c-ge2.true c.requires refl refl

@@ -1,4 +1,4 @@
--- `letters::harmony::check_vowel_harmony` meets its contract. The first loop's invariant: what is found from here on is what is found from
+-- `vowels::harmony::check_vowel_harmony` meets its contract. The first loop's invariant: what is found from here on is what is found from
 -- c on; the second's: what is sought from here on, with the yes so far, is what is found from c on, and v is the vowel with its
 -- partners. The measure is the place. Assumes nothing.
 use mathlib.Core.Path.{refl, sym, ap, ◌∙◌}

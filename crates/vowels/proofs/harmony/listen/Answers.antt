@@ -1,4 +1,4 @@
--- `letters::harmony::listen` meets its contract: harmony is walked for in the part of the word from limit_backward on. Assumes nothing.
+-- `vowels::harmony::listen` meets its contract: harmony is walked for in the part of the word from limit_backward on. Assumes nothing.
 use Prim.Native.Nat.{◌+◌, ◌≤◌}
 use mathlib.Core.Path.{sym, ◌∙◌}
 use native.Mathlib.Omega.{arith}

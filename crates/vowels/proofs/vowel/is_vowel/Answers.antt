@@ -1,4 +1,4 @@
--- `letters::vowel::is_vowel` meets its contract: the sound of a code point tells whether it is a vowel.
+-- `vowels::vowel::is_vowel` meets its contract: the sound of a code point tells whether it is a vowel.
 -- Assumes nothing.
 use mathlib.Core.Path.{sym, ◌∙◌}
 use Rattle.vowels.proofs.Laws.Sounds.{sound_of-no_vowel, sound_of-a_vowel}

@@ -1,4 +1,4 @@
--- `letters::walk::last_vowel` meets its contract. The walk's invariant: what is left to walk has the last vowel of all of it. The
+-- `vowels::walk::last_vowel` meets its contract. The walk's invariant: what is left to walk has the last vowel of all of it. The
 -- measure is the place. Assumes nothing.
 use mathlib.Core.Path.{refl, sym, ◌∙◌}
 use native.Mathlib.Omega.{arith}

@@ -15,5 +15,6 @@ loop-i-preserved c =
     (omega arith, length-set l.out _ _ ∙ l.invariant.1, set_next _ _ _ _ _ (omega arith) (omega arith) l.invariant.2)
 
 pub returns : goal.returns
-returns c = let e : c.loop-i.i ≡ c.args.n = omega arith in
+returns c =
+    let e : c.loop-i.i ≡ c.args.n = omega arith in
     record { value = refl; out_after = cc }

@@ -1,4 +1,4 @@
--- `letters::seen::Three::from` meets its contract: it makes the record. Assumes nothing.
+-- `keys::seen::Three::from` meets its contract: it makes the record. Assumes nothing.
 use mathlib.Core.Path.{refl}
 use Rattle.keys.proofs.seen.Three.from.Goals as goal
 

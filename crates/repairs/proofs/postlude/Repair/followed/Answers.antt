@@ -1,4 +1,4 @@
--- `stages::postlude::Repair::followed` meets its contract: one byte below 0x80, two bytes below 0x800, and each fits a byte.
+-- `repairs::postlude::Repair::followed` meets its contract: one byte below 0x80, two bytes below 0x800, and each fits a byte.
 -- Assumes nothing.
 use Rattle.repairs.proofs.Laws.Repairs.{followed-one, followed-two}
 use Rattle.repairs.proofs.postlude.Repair.followed.Goals as goal

@@ -1,4 +1,4 @@
--- `letters::harmony::Accord::or_else` meets its contract. Assumes nothing.
+-- `vowels::harmony::Accord::or_else` meets its contract. Assumes nothing.
 use Rattle.vowels.specs.Accord.{or_accord}
 use Rattle.vowels.proofs.harmony.Accord.or_else.Goals as goal
 

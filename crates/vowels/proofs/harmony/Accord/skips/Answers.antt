@@ -1,4 +1,4 @@
--- `letters::harmony::Accord::skips` meets its contract. Assumes nothing.
+-- `vowels::harmony::Accord::skips` meets its contract. Assumes nothing.
 use mathlib.Core.Path.{refl}
 use Rattle.vowels.specs.Accord.{skips}
 use Rattle.vowels.proofs.harmony.Accord.skips.Goals as goal

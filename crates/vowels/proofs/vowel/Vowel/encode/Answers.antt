@@ -1,4 +1,4 @@
--- `letters::vowel::Vowel::encode` meets its contract: a vowel has one byte or two, as its code point is below 80 (hexadecimal) or not.
+-- `vowels::vowel::Vowel::encode` meets its contract: a vowel has one byte or two, as its code point is below 80 (hexadecimal) or not.
 -- Assumes nothing.
 use native.Mathlib.Omega.{arith}
 use Rattle.vowels.proofs.Laws.Sounds.{vowel-short, encoded_of-one, encoded_of-two}

@@ -1,4 +1,4 @@
--- `letters::vowel::Vowel::has_partner` meets its contract: the tests that failed and the one that passed are the definition's.
+-- `vowels::vowel::Vowel::has_partner` meets its contract: the tests that failed and the one that passed are the definition's.
 -- Assumes nothing.
 use borrow.Author.Tests.{eq-eqb, ne_eqb}
 use Rattle.vowels.specs.Sounds.{partners}

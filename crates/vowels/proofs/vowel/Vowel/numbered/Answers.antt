@@ -1,4 +1,4 @@
--- `letters::vowel::Vowel::numbered` meets its contract. Each arm's vowel is what the definition computes to at the arm's number; the last arm's
+-- `vowels::vowel::Vowel::numbered` meets its contract. Each arm's vowel is what the definition computes to at the arm's number; the last arm's
 -- number is 0 or past the vowels. Assumes nothing.
 use Prim.Native.Nat.{ℕ, suc, ◌<◌}
 use mathlib.Core.Path.{◌≡◌, sym, ap}

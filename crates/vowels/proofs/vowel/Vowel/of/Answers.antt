@@ -1,4 +1,4 @@
--- `letters::vowel::Vowel::of` meets its contract. Each arm's vowel is what the definition computes to at the arm's number; the last
+-- `vowels::vowel::Vowel::of` meets its contract. Each arm's vowel is what the definition computes to at the arm's number; the last
 -- arm's code point is none of the eight. Assumes nothing.
 use mathlib.Core.Path.{sym, ap}
 use Rattle.turkish.specs.Letters.{text, any, has}
