@@ -33,5 +33,5 @@ pub run-exact : (w : List ℕ) (i : ℕ) → i ≤ length w → RunOf w i (run_e
 run-exact w i h = run_end_of-run w i h
 
 -- there is no other place where it could stop so
-pub run_only : (w : List ℕ) (i r' : ℕ) → RunOf w i r' → r' ≡ run_end_of w i
-run_only w i r' p = run_end_of-only w i r' p
+pub run-only : (w : List ℕ) (i r' : ℕ) → RunOf w i r' → r' ≡ run_end_of w i
+run-only w i r' p = run_end_of-only w i r' p

@@ -74,8 +74,8 @@ pub headings-listed : listing true (encode_all (text "IŞIKLAR\nİZLERDİR\nA\tB
 headings-listed = example-lines.1
 
 -- any line fits the room for one
-pub lines_fit : (w : List ℕ) → length (list_line w) ≤ line_room
-lines_fit = list_line-size
+pub lines-fit : (w : List ℕ) → length (list_line w) ≤ line_room
+lines-fit = list_line-size
 
 -- ---- a stream in blocks ----
 

@@ -85,8 +85,9 @@ fn close<W: Write>(
     to.write_all(&out[..last])
 }
 
-// Lists what a reader gives, up to its end or to an error. The listing is that of all that the reader had left; where reading failed it is
-// that of the lines that were ended by then, and a line that the error broke off is not listed.
+// Lists what a reader gives, up to its end or to an error. Of a reader and a writer whose bytes std knows, as a slice and a Vec, the listing is
+// that of all that the reader had left; where reading failed it is that of the lines that were ended by then, and a line that the error broke
+// off is not listed. Of files and of the standard streams std knows no bytes.
 fn list_stream<R: Read, W: Write>(
     from: &mut R,
     to: &mut W,

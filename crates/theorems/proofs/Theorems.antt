@@ -215,9 +215,9 @@ pub fronts-fare-alike : (u v o p : List ℕ) → Pair u v → length u + 2 ≤ l
 fronts-fare-alike = pair-fares-alike
 
 -- of an accepted word the suffix stage leaves nothing exactly when it is empty, siniz, sunuz, sınız or sünüz
-pub nothing_left : (w : List ℕ) → accepted w ≡ true → eqb (stage_call w).length 0 ≡ one_of left_empty w
+pub nothing-left : (w : List ℕ) → accepted w ≡ true → eqb (stage_call w).length 0 ≡ one_of left_empty w
 unfolding stage_call
-nothing_left w a = rw (a, stage_text-length w a) (left-empty w a)
+nothing-left w a = rw (a, stage_text-length w a) (left-empty w a)
 
 -- ---- words with their outcome ----
 
@@ -415,8 +415,8 @@ pub noun-words : NounWords.Met NounWords.nouns
 noun-words = (NounWords.outcomes).0
 
 -- and words of the whole run
-pub whole_words : NounWords.Met NounWords.wholes
-whole_words = (NounWords.outcomes).1
+pub whole-words : NounWords.Met NounWords.wholes
+whole-words = (NounWords.outcomes).1
 
 -- in whatever state it is entered at the text's end, the noun stage leaves the simple form's text and answer
 pub noun-of-source : (s : State) → s.cursor ≡ 0

@@ -1,7 +1,7 @@
 -- turkish.sbl, whole: its groupings, its keys and its commands, in its own order. A line ends with its number in
 -- turkish.sbl where the Rust's comments give one. Held by a program against the comments and the code of the Rust (turkish.rs), from which
--- the numbers are: the sequence of commands with their lines and parentheses, literals, groupings and keys. Each routine has its name
--- behind `define`, as there; otherwise a `_` in a name is a `-` here. One command after another is `then`, `[` and `]` are ⟦ and ⟧, `true`
+-- the numbers are: the sequence of commands with their lines and parentheses, literals, groupings and keys. Each routine has its name,
+-- behind `define` too, as there; in a table's name a `-` stands for `_` (`A-0`). One command after another is `then`, `[` and `]` are ⟦ and ⟧, `true`
 -- is `succeed`, `non-` before a grouping is `outside`, `continue_stemming_noun_suffixes` as a test is `is_set`. A routine that calls itself
 -- stands in `routine`, and its call of itself is `itself`. Assumes nothing.
 use Prim.Native.String.{String}
