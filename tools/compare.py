@@ -6,7 +6,7 @@ usage: compare.py specs LANDED PORTED      the files of specs/, word by word: PO
        compare.py laws PORTED NOW          the statements of the laws in proofs/, by name and text
 
 The first two print what has another number of words, each word of LANDED that stands for two of PORTED, and each of PORTED that stands for two of LANDED; nothing of the three where
-spelling alone differs. Imports are left out, and brackets and dots, since a projection is written otherwise. The last prints the laws that are gone and those of another statement.
+spelling alone differs. Imports are left out, and brackets and dots, since a projection is written otherwise. The last prints the laws that are gone, also under another name, and those of another statement.
 """
 
 import collections
@@ -18,7 +18,8 @@ WORD = r'"[^"]*"|[^\s(){}.;,"]+|[{};,]'
 
 
 def files(top, folder, ending):
-    for at, _, names in os.walk(os.path.join(top, "crates")):
+    for at, folders, names in os.walk(os.path.join(top, "crates")):
+        folders[:] = [f for f in folders if f != "out"]
         if f"/{folder}" in at:
             for name in sorted(names):
                 if name.endswith(ending):
