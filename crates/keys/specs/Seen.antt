@@ -17,13 +17,9 @@ three_at w c =
       third = get_or (behind w c) 2 0;
     }
 
--- these with a record
-abbrev pub seen_from : Three → Cursor → Seen
-seen_from t c = record { c = c; one = t.one; last = t.last; two = t.two; second = t.second; three = t.three; third = t.third }
-
--- and with the one that they stand behind
+-- with the record that they stand behind
 unfoldable pub seen_at : List ℕ → Cursor → Seen
-seen_at w c = seen_from (three_at w c) c
+seen_at w c = record { c = c; ending = three_at w c }
 
 -- an open record with what is seen from it
 pub record Sees (w : List ℕ) (s : Seen) : Type 0 where

@@ -4,5 +4,4 @@
 pub mod among;
 pub mod ends;
 pub mod joint;
-pub mod passed;
 pub mod seen;

@@ -1,25 +1,12 @@
 // A cursor with the three characters before it, read once: most marks fail by these alone.
 ghost use Rattle.std.specs.Prelude.{◌≡◌};
 ghost use Rattle.utf8.specs.Behind.{Open};
-ghost use Rattle.keys.specs.Seen.{three_at, seen_from, seen_at};
+ghost use Rattle.keys.specs.Seen.{three_at, seen_at};
 
 use utf8::characters;
 use utf8::cursor::Cursor;
 
-// The record; the last character before it, the one before that and the third (0 where there is none); and the place before each.
-#[derive(Clone, Copy)]
-pub struct Seen {
-    pub c: Cursor,
-    pub one: usize,
-    pub last: u32,
-    pub two: usize,
-    pub second: u32,
-    pub three: usize,
-    pub third: u32,
-}
-
-// The three characters and the places alone. The record goes past the function that reads them: copied into its answer it would come back
-// by moves that wait for the stores before them.
+// The last character before a record, the one before that and the third (0 where there is none), and the place before each.
 #[derive(Clone, Copy)]
 pub struct Three {
     pub one: usize,
@@ -30,24 +17,15 @@ pub struct Three {
     pub third: u32,
 }
 
-impl Three {
-    // These, seen from a record.
-    fn from(self, c: Cursor) -> Seen
-        ensures { result ≡ seen_from self c }
-    {
-        Seen {
-            c,
-            one: self.one,
-            last: self.last,
-            two: self.two,
-            second: self.second,
-            three: self.three,
-            third: self.third,
-        }
-    }
+// The record, and what stands before it.
+#[derive(Clone, Copy)]
+pub struct Seen {
+    pub c: Cursor,
+    pub ending: Three,
 }
 
-// The three read one after the other. It is called from two places, so that the compiler leaves it where it is.
+// The three read one after the other. It is called from two places, so that the compiler leaves it where it is. The record goes past it: copied
+// into its answer it would come back by moves that wait for the stores before them.
 fn read_three(w: &[u8], c: Cursor) -> Three
     requires { Open w.now c }
     ensures { result ≡ three_at w.now c }
@@ -74,7 +52,10 @@ pub fn look_back(w: &[u8], c: Cursor) -> Seen
 {
     let at = c.cursor;
     if at - c.limit_backward < 3 {
-        return read_three(w, c).from(c);
+        return Seen {
+            c,
+            ending: read_three(w, c),
+        };
     }
     let x = w[at - 1];
     let y = w[at - 2];
@@ -82,13 +63,18 @@ pub fn look_back(w: &[u8], c: Cursor) -> Seen
     if (x < 0x80) & (y < 0x80) & (z < 0x80) {
         return Seen {
             c,
-            one: at - 1,
-            last: x as u32,
-            two: at - 2,
-            second: y as u32,
-            three: at - 3,
-            third: z as u32,
+            ending: Three {
+                one: at - 1,
+                two: at - 2,
+                three: at - 3,
+                last: x as u32,
+                second: y as u32,
+                third: z as u32,
+            },
         };
     }
-    read_three(w, c).from(c)
+    Seen {
+        c,
+        ending: read_three(w, c),
+    }
 }

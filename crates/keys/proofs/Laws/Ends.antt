@@ -95,6 +95,6 @@ trace-unfit p unset cs e f = absurd (false≢true e)
 -- ---- what is seen ----
 
 -- the last character seen is the last one behind the record
-pub last-seen : (w : List ℕ) (s : Seen) → Sees w s → s.last ≡ get_or (behind w s.c) 0 0
+pub last-seen : (w : List ℕ) (s : Seen) → Sees w s → s.ending.last ≡ get_or (behind w s.c) 0 0
 unfolding seen_at
-last-seen w s sees = ap (λ (x : Seen). x.last) sees.is
+last-seen w s sees = ap (λ (x : Seen). x.ending.last) sees.is

@@ -18,7 +18,8 @@ use Rattle.turkish.specs.Source.{U}
 use Rattle.turkish.specs.Vowels.{vowels, vowel}
 use Rattle.theorems.specs.Simple.Grammar.{fail, took, optional}
 use Rattle.keys.specs.Ends.{is_U_of}
-use Rattle.keys.specs.Passed.{passed_to, not_passed_of, passes}
+use Rattle.std.specs.Prelude.{Some, None}
+use Rattle.keys.specs.Passed.{passes}
 use Rattle.utf8.proofs.Laws.Part.{part_from}
 use Rattle.keys.proofs.Laws.Reads.{low, at, first-ch, first-at, first-place, second-ch}
 
@@ -102,7 +103,7 @@ module _ (w : List ℕ) (c : Cursor) {a : Read} (a-is : a ≡ read_back_of (part
       let z : ◌≡◌ {A = ℕ} 0 1 = cc in omega arith
 
   -- with nothing before the first character an optional letter fails
-  pub passes-short : (letters : List ℕ) (vowelled : Bool) → a.at ≡ 0 → not_passed_of ≡ passes w c (optional letters vowelled (behind w c))
+  pub passes-short : (letters : List ℕ) (vowelled : Bool) → a.at ≡ 0 → None ≡ passes w c (optional letters vowelled (behind w c))
   unfolding passes
   passes-short letters vowelled e = sym (ap (passes w c) (optional-short letters vowelled (behind w c) (first_alone e)))
 
@@ -113,7 +114,7 @@ module _ (w : List ℕ) (c : Cursor) {a : Read} (a-is : a ≡ read_back_of (part
 
     module _ (letters : List ℕ) (vowelled : Bool) where
       -- with a second of the wrong kind it fails
-      pub passes-wrong : cond vowelled (vowel b.ch) (not (vowel b.ch)) ≡ false → not_passed_of ≡ passes w c (optional letters vowelled (behind w c))
+      pub passes-wrong : cond vowelled (vowel b.ch) (not (vowel b.ch)) ≡ false → None ≡ passes w c (optional letters vowelled (behind w c))
       unfolding passes
       passes-wrong e = sym (ap (passes w c) (optional-wrong letters vowelled (behind w c) (rw (second-ch w c a-is b-is) at e)))
 
@@ -123,17 +124,17 @@ module _ (w : List ℕ) (c : Cursor) {a : Read} (a-is : a ≡ read_back_of (part
         takes = optional-right letters vowelled (behind w c) there (rw (second-ch w c a-is b-is) at right)
 
         -- the letter joins
-        pub passes-joined : has letters a.ch ≡ true → passed_to (low w c + a.at) ≡ passes w c (optional letters vowelled (behind w c))
+        pub passes-joined : has letters a.ch ≡ true → Some (low w c + a.at) ≡ passes w c (optional letters vowelled (behind w c))
         unfolding passes
         passes-joined s =
             let stands = rw (first-ch w c a-is) at s in
             let one : took (cond (has letters (get_or (behind w c) 0 0)) 1 0) true ≡ took 1 true = rw stands in
-            ap passed_to (first-place w c a-is) ∙ sym (ap (passes w c) (takes ∙ one))
+            ap Some (first-place w c a-is) ∙ sym (ap (passes w c) (takes ∙ one))
 
         -- and without it the record stays
-        pub passes-free : Open w c → has letters a.ch ≡ false → passed_to c.cursor ≡ passes w c (optional letters vowelled (behind w c))
+        pub passes-free : Open w c → has letters a.ch ≡ false → Some c.cursor ≡ passes w c (optional letters vowelled (behind w c))
         unfolding passes
         passes-free o n =
             let stands-not = rw (first-ch w c a-is) at n in
             let none : took (cond (has letters (get_or (behind w c) 0 0)) 1 0) true ≡ took 0 true = rw stands-not in
-            ap (λ (r : Cursor). passed_to r.cursor) (sym (back_by-zero w c o)) ∙ sym (ap (passes w c) (takes ∙ none))
+            ap (λ (r : Cursor). Some r.cursor) (sym (back_by-zero w c o)) ∙ sym (ap (passes w c) (takes ∙ none))

@@ -16,15 +16,9 @@ use Rattle.utf8.specs.Steps.{move_to}
 use Rattle.utf8.specs.Behind.{read_back_of, behind, back_by, Open}
 use Rattle.utf8.proofs.Laws.Characters.{back-le, back-add, before_back}
 use Rattle.utf8.proofs.Laws.ReadBack.{read_back_of-ascii}
-use Rattle.keys.specs.declared.seen.Seen.{Seen}
 use Rattle.keys.specs.declared.seen.Three.{Three}
-use Rattle.keys.specs.Seen.{three_at, seen_from, seen_at}
+use Rattle.keys.specs.Seen.{three_at}
 use Rattle.utf8.proofs.Laws.Part.{part_from, part_from-drop, low-cursor-le, cursor-part-le}
-
--- the characters and places read before a record, with the record, are all that is seen
-pub seen_from-three : (w : List ℕ) (c : Cursor) {t : Three} → t ≡ three_at w c → seen_from t c ≡ seen_at w c
-unfolding seen_at
-seen_from-three w c e = ap (λ (t : Three). seen_from t c) e
 
 module _ (w : List ℕ) (c : Cursor) where
   -- where the part begins before which nothing is looked at
@@ -110,11 +104,6 @@ module _ (w : List ℕ) (c : Cursor) where
             (three_at w c)
         three_at-made = rw (first-ch, second-ch, third-ch, first-place, second-place, third-place)
 
-        -- all that is seen
-        seen_at-made : ◌≡◌ {A = Seen} (record { c = c; one = low + a.at; last = a.ch; two = low + b.at; second = b.ch; three = low + d.at; third = d.ch })
-            (seen_at w c)
-        seen_at-made = seen_from-three w c three_at-made
-
 -- three bytes that are tested at one go
 pub all_plain : (x y z : ℕ) → ltb x 0x80 && ltb y 0x80 && ltb z 0x80 ≡ true → (x < 0x80) × (y < 0x80) × (z < 0x80)
 all_plain x y z e =
@@ -134,10 +123,10 @@ module _ (w : List ℕ) (c : Cursor) (o : Open w c) (h : 3 ≤ c.cursor - c.limi
       let one : k + 1 - 1 ≡ k = omega arith in
       rw one at (read_back_of-ascii (part_from w (low w c)) (k + 1) b (omega arith) (omega (arith, cursor-part-le w c o)) (rw one (e ∙ part-byte k)) s)
 
-  pub seen_at-plain : (x y z : ℕ) → x ≡ get_or w (c.cursor - 1) 0 → y ≡ get_or w (c.cursor - 2) 0 → z ≡ get_or w (c.cursor - 3) 0
+  pub three_at-plain : (x y z : ℕ) → x ≡ get_or w (c.cursor - 1) 0 → y ≡ get_or w (c.cursor - 2) 0 → z ≡ get_or w (c.cursor - 3) 0
       → x < 0x80 → y < 0x80 → z < 0x80
-      → ◌≡◌ {A = Seen} (record { c = c; one = c.cursor - 1; last = x; two = c.cursor - 2; second = y; three = c.cursor - 3; third = z }) (seen_at w c)
-  seen_at-plain x y z ex ey ez sx sy sz =
+      → ◌≡◌ {A = Three} (record { one = c.cursor - 1; two = c.cursor - 2; three = c.cursor - 3; last = x; second = y; third = z }) (three_at w c)
+  three_at-plain x y z ex ey ez sx sy sz =
       let k : ℕ = at w c - 3 in
       let le = low-cursor-le w c o in
       let px : c.cursor - 1 ≡ low w c + (k + 1 + 1) = omega arith in
@@ -147,4 +136,4 @@ module _ (w : List ℕ) (c : Cursor) (o : Open w c) (h : 3 ≤ c.cursor - c.limi
       let a = rw top at (plain-read x (k + 1 + 1) (omega arith) (rw (← px) ex) sx) in
       let b = plain-read y (k + 1) (omega arith) (rw (← py) ey) sy in
       let d = plain-read z k (omega arith) (rw (← pz) ez) sz in
-      rw (px, py, pz) (seen_at-made w c a b d)
+      rw (px, py, pz) (three_at-made w c a b d)

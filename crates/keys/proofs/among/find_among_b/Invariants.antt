@@ -1,15 +1,10 @@
--- `keys::among::find_among_b` meets its contract. The loop's invariant: the search from the key at `base` on, which is the i-th,
--- answers as the whole search does. The measure is what is left of the table. Assumes nothing.
-use Prim.Native.Nat.{◌-◌, ◌≤◌}
+-- `keys::among::find_among_b` meets its contract. The loop's invariant: the search from the i-th key on answers as the whole search does.
+-- Assumes nothing.
 use mathlib.Core.Path.{◌≡◌}
-use lib.ListN.{length, drop}
+use lib.ListN.{drop}
 use Rattle.keys.specs.Keys.{rows}
 use Rattle.keys.specs.Search.{found_from, found}
 use Rattle.keys.proofs.among.find_among_b.Given as goal
 
-abbrev pub invariant-loop-base : goal.invariant-loop-base
-invariant-loop-base l =
-    (l.i ≤ l.base) × (l.base ≤ length l.keys) × (found_from l.i (rows l.width (drop l.base l.keys)) l.w l.s.c ≡ found (rows l.width l.keys) l.w l.s.c)
-
-abbrev pub decreases-loop-base : goal.decreases-loop-base
-decreases-loop-base l = length l.keys - l.base
+abbrev pub invariant-loop-i : goal.invariant-loop-i
+invariant-loop-i g l = found_from l.i (rows (drop l.i l.keys)) l.w l.s.c ≡ found (rows l.keys) l.w l.s.c

@@ -5,7 +5,6 @@ use mathlib.Core.Bool.{false, not}
 use native.Mathlib.Omega.{arith}
 use Rattle.turkish.specs.Letters.{text}
 use Rattle.turkish.specs.Source.{U}
-use Rattle.keys.specs.Passed.{not_passed_of}
 use Rattle.utf8.proofs.Laws.Part.{low-length-le, low-cursor-le, cursor-length-le, cursor-part-le}
 use Rattle.keys.proofs.Laws.Reads.{first-le}
 use Rattle.keys.proofs.Laws.Optional.{has-U, second-there, passes-short, passes-wrong, passes-joined, passes-free}
@@ -24,7 +23,6 @@ pub read_back-a-requires : goal.read_back-a-requires
 read_back-a-requires c = cursor-part-le _ _ c.requires
 
 pub returns-then-a-eq0 : goal.returns-then-a-eq0
-unfolding not_passed_of
 returns-then-a-eq0 c =
     passes-short c.args.w.now c.args.c c.read_back-a.ensures (text U) false c.if-a-eq0.true
 
@@ -35,13 +33,12 @@ read_back-b-requires c =
     omega (arith, cursor-part-le w r c.requires, first-le w r c.read_back-a.ensures)
 
 pub returns-then-is_vowel : goal.returns-then-is_vowel
-unfolding not_passed_of
 returns-then-is_vowel c =
     passes-wrong c.args.w.now c.args.c c.read_back-a.ensures c.read_back-b.ensures (text U) false
     (ap not (sym c.is_vowel.ensures ∙ c.if-is_vowel.true))
 
-pub overflow_add-low : goal.overflow_add-low
-overflow_add-low c =
+pub overflow_add-result : goal.overflow_add-result
+overflow_add-result c =
     let w = c.args.w.now in
     let r = c.args.c in
     omega (arith, cursor-length-le w r c.requires, low-cursor-le w r c.requires, first-le w r c.read_back-a.ensures)
@@ -52,7 +49,7 @@ returns-then-is_U c =
     let there = second-there w c.args.c c.read_back-a.ensures c.if-a-eq0.false in
     let right = ap not (sym c.is_vowel.ensures ∙ c.if-is_vowel.false) in
     let stands = sym (has-U c.read_back-a.result.ch) ∙ sym c.is_U.ensures ∙ c.if-is_U.true in
-    c.to.ensures ∙ passes-joined w c.args.c c.read_back-a.ensures c.read_back-b.ensures (text U) false there right stands
+    passes-joined w c.args.c c.read_back-a.ensures c.read_back-b.ensures (text U) false there right stands
 
 pub returns : goal.returns
 returns c =
@@ -60,4 +57,4 @@ returns c =
     let there = second-there w c.args.c c.read_back-a.ensures c.if-a-eq0.false in
     let right = ap not (sym c.is_vowel.ensures ∙ c.if-is_vowel.false) in
     let stands-not = sym (has-U c.read_back-a.result.ch) ∙ sym c.is_U.ensures ∙ c.if-is_U.false in
-    c.to-2.ensures ∙ passes-free w c.args.c c.read_back-a.ensures c.read_back-b.ensures (text U) false there right c.requires stands-not
+    passes-free w c.args.c c.read_back-a.ensures c.read_back-b.ensures (text U) false there right c.requires stands-not

@@ -5,7 +5,6 @@ use mathlib.Core.Bool.{true}
 use mathlib.Core.List.{[], ◌∷◌}
 use native.Mathlib.Omega.{arith}
 use borrow.Author.Tests.{eq-eqb, ne_eqb, not-true, not-false}
-use Rattle.keys.specs.Passed.{not_passed_of}
 use Rattle.utf8.proofs.Laws.Part.{low-length-le, low-cursor-le, cursor-length-le, cursor-part-le}
 use Rattle.keys.proofs.Laws.Reads.{first-le}
 use Rattle.keys.proofs.Laws.Optional.{has_one, second-vowel, passes-wrong, passes-joined, passes-free}
@@ -30,13 +29,12 @@ read_short_back-b-requires c =
     omega (arith, cursor-part-le w r c.requires, first-le w r c.read_short_back-a.ensures)
 
 pub returns-then-not-is_vowel : goal.returns-then-not-is_vowel
-unfolding not_passed_of
 returns-then-not-is_vowel c =
     passes-wrong c.args.w.now c.args.c c.read_short_back-a.ensures c.read_short_back-b.ensures (c.args.letter ∷ []) true
     (sym c.is_vowel.ensures ∙ not-true _ c.if-not-is_vowel.true-raw)
 
-pub overflow_add-low : goal.overflow_add-low
-overflow_add-low c =
+pub overflow_add-result : goal.overflow_add-result
+overflow_add-result c =
     let w = c.args.w.now in
     let r = c.args.c in
     omega (arith, cursor-length-le w r c.requires, low-cursor-le w r c.requires, first-le w r c.read_short_back-a.ensures)
@@ -46,7 +44,7 @@ returns-then-a-letter c =
     let w = c.args.w.now in
     let is = sym c.is_vowel.ensures ∙ not-false _ c.if-not-is_vowel.false-raw in
     let stands = sym (has_one c.args.letter c.read_short_back-a.result.ch) ∙ eq-eqb _ _ c.if-a-letter.true in
-    c.to.ensures ∙ passes-joined w c.args.c c.read_short_back-a.ensures c.read_short_back-b.ensures (c.args.letter ∷ []) true
+    passes-joined w c.args.c c.read_short_back-a.ensures c.read_short_back-b.ensures (c.args.letter ∷ []) true
     (second-vowel w c.args.c c.read_short_back-a.ensures c.read_short_back-b.ensures is) is stands
 
 pub returns : goal.returns
@@ -54,5 +52,5 @@ returns c =
     let w = c.args.w.now in
     let is = sym c.is_vowel.ensures ∙ not-false _ c.if-not-is_vowel.false-raw in
     let stands-not = sym (has_one c.args.letter c.read_short_back-a.result.ch) ∙ ne_eqb _ _ c.if-a-letter.false in
-    c.to-2.ensures ∙ passes-free w c.args.c c.read_short_back-a.ensures c.read_short_back-b.ensures (c.args.letter ∷ []) true
+    passes-free w c.args.c c.read_short_back-a.ensures c.read_short_back-b.ensures (c.args.letter ∷ []) true
     (second-vowel w c.args.c c.read_short_back-a.ensures c.read_short_back-b.ensures is) is c.requires stands-not
