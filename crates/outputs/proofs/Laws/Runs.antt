@@ -35,7 +35,7 @@ use Rattle.theorems.proofs.Source.Calls.{noun_stage-yes, noun_text-simple, whole
 use Rattle.stages.specs.declared.stage.Outcome.{Outcome}
 use Rattle.repairs.specs.declared.postlude.Repair.{Repair}
 use Rattle.stages.specs.Outcome.{outcome_of}
-use Rattle.repairs.specs.Repairs.{ending, repair_text, unchanged, repair_of}
+use Rattle.repairs.specs.Repairs.{ending, letter_bytes, repair_text, unchanged, repair_of}
 use Rattle.repairs.proofs.RepairText.{repair-text, repair-size}
 use Rattle.nouns.specs.declared.stage.Uninflected.{Uninflected}
 use Rattle.nouns.specs.Stage.{whole_left, cut_left, left_at, uninflected_of}
@@ -197,11 +197,11 @@ module _ (w : List ℕ) (s : Outcome) (q : s ≡ outcome_of w) where
 abbrev pub Fits : List ℕ → Run → ℕ → Type 0
 Fits w r room =
     (r.repair.keep ≤ length w)
-    × ((r.repair.more ≤ 2) × ((r.from ≤ r.upto) × ((r.upto ≤ length w) × (r.repair.keep + r.repair.more + (r.upto - r.from) ≤ room))))
+    × ((r.from ≤ r.upto) × ((r.upto ≤ length w) × (r.repair.keep + length (letter_bytes r.repair.letter) + (r.upto - r.from) ≤ room)))
 
 -- more room is no harm
 fits_more : (w : List ℕ) (r : Run) (n room : ℕ) → n ≤ room → Fits w r n → Fits w r room
-fits_more w r n room h (k, (m, (f, (u, l)))) = (k, (m, (f, (u, omega arith))))
+fits_more w r n room h (k, (f, (u, l))) = (k, (f, (u, omega arith)))
 
 module _ (w : List ℕ) (n : ℕ) (h : n ≤ length w) where
   -- what the noun stage leaves of the first n bytes takes no more
@@ -227,7 +227,7 @@ module _ (w : List ℕ) (n : ℕ) (h : n ≤ length w) where
 
       go : (t : Bool) → Fits w (cond t (left_run u n) (record { repair = repair_of w u.front; from = n; upto = n })) (n + 2)
       go true = fits_more w (left_run u n) n (n + 2) (omega arith) noun-fits
-      go false = let s = repair-size w u.front noun-fits.0 in omega (arith, s.keeps, s.adds, noun-fits.1.1.1.1)
+      go false = let s = repair-size w u.front noun-fits.0 in omega (arith, s.keeps, s.adds, noun-fits.1.1.1)
 
 -- what stands before the cut lies within the word
 pub uninflected_of-front : (w : List ℕ) (n : ℕ) → n ≤ length w → (u : Uninflected) → u ≡ uninflected_of w n → u.front ≤ length w
