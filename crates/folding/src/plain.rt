@@ -10,11 +10,8 @@ pub(crate) fn is_plain(w: &[u8]) -> bool
     ensures { result ≡ plain w.now }
 {
     let mut ok = true;
-    let mut i = 0;
-    while i < w.len() {
-        let b = w[i];
-        ok = ok & (b < 0x80) & (b != 0x49);
-        i += 1;
+    for &b in w {
+        ok &= (b < 0x80) & (b != 0x49);
     }
     ok
 }
@@ -24,9 +21,7 @@ pub(crate) fn write_plain(w: &[u8], out: &mut [u8])
     requires { length w.now ≤ length out.old }
     ensures { out.new ≡ written (map small_byte w.now) out.old }
 {
-    let mut i = 0;
-    while i < w.len() {
-        out[i] = step::small(w[i]);
-        i += 1;
+    for (i, &b) in w.iter().enumerate() {
+        out[i] = step::small(b);
     }
 }

@@ -13,7 +13,6 @@ use Rattle.lines.specs.Line.{fields, list_line}
 use Rattle.lines.specs.Listed.{listed}
 use Rattle.listing.specs.Listing.{listing}
 use Rattle.lines.specs.Room.{line_room}
-use Rattle.listing.specs.Feed.{most}
 use Rattle.listing.specs.Fed.{feeding}
 use Rattle.listing.specs.Blocks.{fed_all, Call, taken_by, written_by}
 use Rattle.listing.proofs.Lines as Lines
@@ -84,18 +83,17 @@ pub any-blocks : (folded : Bool) (blocks : List (List ℕ)) → fed_all folded [
 any-blocks = blocks-listing
 
 -- whatever calls of `feed` are made, with whatever outputs, they write the listing of what they take, `finish` closing it
-pub any-calls : (folded : Bool) (calls : List Call) (line : List ℕ) → length line ≡ most
-    → written_by folded calls line 0 ≡ listing folded (flatten (taken_by folded calls line 0))
+pub any-calls : (folded : Bool) (calls : List Call) → written_by folded calls [] ≡ listing folded (flatten (taken_by folded calls []))
 any-calls = written_by-listing
 
-module _ (folded : Bool) (block : List ℕ) (from : ℕ) (line : List ℕ) (held : ℕ) (out : List ℕ) (l : length line ≡ most) (h : held ≤ most) where
+module _ (folded : Bool) (block : List ℕ) (from : ℕ) (held out : List ℕ) where
   -- where a line has room in the output a call takes something of what is left of its block
-  pub calls-go-on : line_room ≤ length out → from < length block → from < (feeding folded block from line held out).used
-  calls-go-on r k = (feeding-call folded block from line held out l h).used-more k r
+  pub calls-go-on : line_room ≤ length out → from < length block → from < (feeding folded block from held out).used
+  calls-go-on r k = (feeding-call folded block from held out).used-more k r
 
   -- and it skips nothing: what it takes and what it leaves for the next call make up the block
-  pub calls-skip-nothing : let s = feeding folded block from line held out in drop from block ≡ take (s.used - from) (drop from block) ++ drop s.used block
-  calls-skip-nothing = (feeding-call folded block from line held out l h).parts
+  pub calls-skip-nothing : let s = feeding folded block from held out in drop from block ≡ take (s.used - from) (drop from block) ++ drop s.used block
+  calls-skip-nothing = (feeding-call folded block from held out).parts
 
 -- a list cut behind a line feed may be listed in parts: the listing of both together is the listings one after the other
 pub any-parts : (folded : Bool) (a b : List ℕ) → listing folded (a ++ (lf ∷ b)) ≡ listing folded (a ++ (lf ∷ [])) ++ listing folded b

@@ -15,16 +15,16 @@ pub record Call : Type 0 where
   pub from : ℕ
   pub out : List ℕ
 
--- the parts of their blocks that calls take, with the first `held` bytes of `line` held before them
-unfoldable pub taken_by : Bool → List Call → List ℕ → ℕ → List (List ℕ)
-taken_by folded [] line held = []
-taken_by folded (c ∷ cs) line held =
-    let s = feeding folded c.block c.from line held c.out in
-    take (s.used - c.from) (drop c.from c.block) ∷ taken_by folded cs s.line s.held
+-- the parts of their blocks that calls take, with `held` held before them
+unfoldable pub taken_by : Bool → List Call → List ℕ → List (List ℕ)
+taken_by folded [] held = []
+taken_by folded (c ∷ cs) held =
+    let s = feeding folded c.block c.from held c.out in
+    take (s.used - c.from) (drop c.from c.block) ∷ taken_by folded cs s.held
 
 -- the bytes that the calls write, one after the other, and at the end those of `finish`
-unfoldable pub written_by : Bool → List Call → List ℕ → ℕ → List ℕ
-written_by folded [] line held = last_out folded (take held line)
-written_by folded (c ∷ cs) line held =
-    let s = feeding folded c.block c.from line held c.out in
-    take s.written s.out ++ written_by folded cs s.line s.held
+unfoldable pub written_by : Bool → List Call → List ℕ → List ℕ
+written_by folded [] held = last_out folded held
+written_by folded (c ∷ cs) held =
+    let s = feeding folded c.block c.from held c.out in
+    take s.written s.out ++ written_by folded cs s.held

@@ -19,13 +19,13 @@ unfolding put
 front-written s out o n e p = rw (e, p) (take-append_seam s (drop (0 + length s) out))
 
 -- what a call writes, and then what is left of the block gives, are what all of it gives
-pub out-turn : {folded : Bool} {block : List ℕ} {from : ℕ} {line : List ℕ} {held : ℕ} {out : List ℕ} {s : Fed} {used held' written' : ℕ} {line' out' : List ℕ}
-    → OneCall folded block from line held out s → used ≡ s.used → held' ≡ s.held → line' ≡ s.line → written' ≡ s.written → out' ≡ s.out
-    → take written' out' ++ fed_out folded (take held' line') (drop used block) ≡ fed_out folded (take held line) (drop from block)
-out-turn {folded} {block} {from} {line} {held} {s = s} c u h l w o =
-    rw (u, h, l, w, o, c.held-is, c.text-is)
-    (sym (fed_out-append folded (take held line) (take (s.used - from) (drop from block)) (drop s.used block)))
-    ∙ ap (fed_out folded (take held line)) (sym c.parts)
+pub out-turn : {folded : Bool} {block : List ℕ} {from : ℕ} {held out : List ℕ} {s : Fed} {used written' : ℕ} {held' out' : List ℕ}
+    → OneCall folded block from held out s → used ≡ s.used → held' ≡ s.held → written' ≡ s.written → out' ≡ s.out
+    → take written' out' ++ fed_out folded held' (drop used block) ≡ fed_out folded held (drop from block)
+out-turn {folded} {block} {from} {held} {s = s} c u h w o =
+    rw (u, h, w, o, c.held-is, c.text-is)
+    (sym (fed_out-append folded held (take (s.used - from) (drop from block)) (drop s.used block)))
+    ∙ ap (fed_out folded held) (sym c.parts)
 
 -- so what was written, that, and what is left give all
 pub written-turn : (written text rest' : List ℕ) {rest all : List ℕ} → written ++ rest ≡ all → text ++ rest' ≡ rest → (written ++ text) ++ rest' ≡ all

@@ -3,15 +3,16 @@
 // over and written, in fixed memory.
 #![tactic(auto)]
 
-ghost use Rattle.std.specs.Prelude.{◌≡◌, ◌≤◌, ◌<◌, ◌↔◌, ℕ, List, [], length, take, IsTrue, IfOk, IfErr, OnOk, IfSome};
+ghost use Rattle.std.specs.Prelude.{◌≡◌, ◌≤◌, ◌<◌, ℕ, List, [], length, IfErr, OnOk, IfSome};
 ghost use Rattle.std.specs.Io.KnownBytes.{Appends, Consumes};
 ghost use Rattle.writing.specs.Put.{put};
 ghost use Rattle.lines.specs.Room.{line_room};
 ghost use Rattle.listing.specs.Listing.{listing};
-ghost use Rattle.listing.specs.Feed.{most, fed_line, fed_out, last_out};
+ghost use Rattle.listing.specs.Feed.{fed_line, fed_out, last_out};
 ghost use Rattle.stemlist.specs.Stopped.{IsReading};
 
 use listing::feed;
+use listing::held::Held;
 use std::env::FillError;
 use std::fmt::InlineText;
 use std::io::{Read, Write};
@@ -39,49 +40,44 @@ enum Stop {
     Writing(io::Error),
 }
 
-// Writes the lines of the words that end in the block. Where all was written, how many bytes are held of the line after the whole block.
+// Whether folded forms are listed, and the fixed memory of a listing: a block of input, and one of output.
+#[derive(Drop)]
+struct Listing {
+    folded: bool,
+    block: [u8; BLOCK],
+    out: [u8; BLOCK],
+}
+
+// Writes the lines of the words that end in the block, and holds what is left of its last line. A call of `feed` takes as much as the output has
+// room for, so the place moves on by what each one says.
 fn drain<W: Write>(
     to: &mut W,
     folded: bool,
     block: &[u8],
-    line: &mut [u8],
-    held: usize,
+    held: &mut Held,
     out: &mut [u8],
-) -> io::Result<usize>
-    requires line_len { length line.old ≡ most }
-    requires held_le_most { held ≤ most }
-    requires line_room_in_bounds { line_room ≤ length out.old }
-    ensures held_le_most_2 { IfOk result (λ h. h ≤ most) }
-    ensures held_value { IfOk result (λ h. h ≡ length (fed_line (take held line.old) block.now)) }
-    ensures line_after { IfOk result (λ h. take h line.new ≡ fed_line (take held line.old) block.now) }
-    ensures written { OnOk result (Appends (W.contents to.old) (W.contents to.new) (fed_out folded (take held line.old) block.now)) }
+) -> io::Result<()>
+    requires { line_room ≤ length out.old }
+    ensures held_after { OnOk result (held.new ≡ fed_line held.old block.now) }
+    ensures written { OnOk result (Appends (W.contents to.old) (W.contents to.new) (fed_out folded held.old block.now)) }
 {
     let mut used = 0;
-    let mut h = held;
     while used < block.len() {
-        let p = feed::feed(folded, block, used, line, h, out);
+        let p = feed::feed(folded, block, used, held, out);
         used = p.used;
-        h = p.held;
         let written = p.written;
         to.write_all(&out[..written])?;
     }
-    Ok(h)
+    Ok(())
 }
 
-// Writes the line that the input's end closes: it stands at the front of the output. Whether that could be written.
-fn close<W: Write>(
-    to: &mut W,
-    folded: bool,
-    line: &[u8],
-    held: usize,
-    out: &mut [u8],
-) -> io::Result<()>
-    requires held_in_bounds { held ≤ length line.now }
-    requires line_room_in_bounds { line_room ≤ length out.old }
-    ensures out_after { out.new ≡ put 0 (last_out folded (take held line.now)) out.old }
-    ensures written { OnOk result (Appends (W.contents to.old) (W.contents to.new) (last_out folded (take held line.now))) }
+// Writes the line that the input's end closes: it stands at the front of the output.
+fn close<W: Write>(to: &mut W, folded: bool, held: &Held, out: &mut [u8]) -> io::Result<()>
+    requires { line_room ≤ length out.old }
+    ensures out_after { out.new ≡ put 0 (last_out folded held.now) out.old }
+    ensures written { OnOk result (Appends (W.contents to.old) (W.contents to.new) (last_out folded held.now)) }
 {
-    let last = feed::finish(folded, line, held, out);
+    let last = feed::finish(folded, held, out);
     to.write_all(&out[..last])
 }
 
@@ -93,23 +89,21 @@ fn list_stream<R: Read, W: Write>(
     to: &mut W,
     folded: bool,
     block: &mut [u8],
-    line: &mut [u8],
     out: &mut [u8],
 ) -> Result<(), Stop>
-    requires line_len { length line.old ≡ most }
-    requires line_room_in_bounds { line_room ≤ length out.old }
+    requires { line_room ≤ length out.old }
     ensures written { OnOk result (0 < length block.old → IfSome (R.remaining from.old) (λ input.
         Appends (W.contents to.old) (W.contents to.new) (listing folded input))) }
     ensures broken { IfErr result (λ stop. IsReading stop → (read : List ℕ) × Consumes (R.remaining from.old) (R.remaining from.new) read
         × Appends (W.contents to.old) (W.contents to.new) (fed_out folded [] read)) }
 {
-    let mut held: usize = 0;
+    let mut held = Held::new();
     for _ in 0..u64::MAX {
         let n = from.read(block).map_err(Stop::Reading)?;
         if n == 0 {
-            return close(to, folded, line, held, out).map_err(Stop::Writing);
+            return close(to, folded, &held, out).map_err(Stop::Writing);
         }
-        held = drain(to, folded, &block[..n], line, held, out).map_err(Stop::Writing)?;
+        drain(to, folded, &block[..n], &mut held, out).map_err(Stop::Writing)?;
     }
     Err(Stop::Reading(io::Error::from(io::ErrorKind::TimedOut)))
 }
@@ -133,107 +127,85 @@ fn report(rt: &HostRuntime, what: &[u8], error: io::Error) {
     let _ = to.write_all(b"\n");
 }
 
-// Lists what a reader gives, up to its end or to an error, which is reported, in reading under the input's name; a line that such an
-// error broke off is not listed. Whether all could be written.
+// Lists what a reader gives, up to its end or to an error. An error in reading is reported under the input's name, and a line that it
+// broke off is not listed; one in writing is handed on.
 fn list<R: Read>(
     rt: &HostRuntime,
     from: &mut R,
     name: &[u8],
-    folded: bool,
-    block: &mut [u8],
-    line: &mut [u8],
-    out: &mut [u8],
-) -> bool
-    requires line_len { length line.old ≡ most }
-    requires line_room_in_bounds { line_room ≤ length out.old }
-{
-    match list_stream(from, &mut rt.stdout(), folded, block, line, out) {
-        Ok(()) => true,
+    listing: &mut Listing,
+) -> io::Result<()> {
+    match list_stream(
+        from,
+        &mut rt.stdout(),
+        listing.folded,
+        &mut listing.block,
+        &mut listing.out,
+    ) {
+        Ok(()) => Ok(()),
         Err(Stop::Reading(e)) => {
             report(rt, name, e);
-            true
+            Ok(())
         }
-        Err(Stop::Writing(e)) => {
-            report(rt, b"standard output", e);
-            false
-        }
+        Err(Stop::Writing(e)) => Err(e),
     }
 }
 
-// Whether two texts are equal.
-fn same(a: &[u8], b: &[u8]) -> bool
-    ensures { IsTrue result ↔ (a.now ≡ b.now) }
-{
-    a == b
+// Lists standard input.
+fn list_input(rt: &HostRuntime, listing: &mut Listing) -> io::Result<()> {
+    list(rt, &mut rt.stdin(), b"standard input", listing)
 }
 
-// Lists the file of a name; `-` is standard input. One that cannot be opened is reported. Whether all could be written.
-fn list_file(
-    rt: &HostRuntime,
-    name: &[u8],
-    folded: bool,
-    block: &mut [u8],
-    line: &mut [u8],
-    out: &mut [u8],
-) -> bool
-    requires line_len { length line.old ≡ most }
-    requires line_room_in_bounds { line_room ≤ length out.old }
-{
-    if same(name, b"-") {
-        return list(
-            rt,
-            &mut rt.stdin(),
-            b"standard input",
-            folded,
-            block,
-            line,
-            out,
-        );
+// Lists the file of a name; `-` is standard input. One that cannot be opened is reported.
+fn list_file(rt: &HostRuntime, name: &[u8], listing: &mut Listing) -> io::Result<()> {
+    if name == b"-".as_slice() {
+        return list_input(rt, listing);
     }
     let opened = match str::from_utf8(name) {
         Ok(path) => fs::open(rt, path),
         Err(_) => Err(io::Error::from_raw_os_error(NOT_TEXT)),
     };
     match opened {
-        Ok(mut file) => list(rt, &mut file, name, folded, block, line, out),
+        Ok(mut file) => list(rt, &mut file, name, listing),
         Err(e) => {
             report(rt, name, e);
-            true
+            Ok(())
         }
     }
 }
 
-// Lists the file that argument i names. Whether all could be written.
-fn list_argument(
-    rt: &HostRuntime,
-    i: usize,
-    folded: bool,
-    block: &mut [u8],
-    line: &mut [u8],
-    out: &mut [u8],
-) -> bool
-    requires line_len { length line.old ≡ most }
-    requires line_room_in_bounds { line_room ≤ length out.old }
-{
+// Lists the file that argument i names.
+fn list_argument(rt: &HostRuntime, i: usize, listing: &mut Listing) -> io::Result<()> {
     let mut name = [0u8; NAME];
     match rt.arg(i, &mut name) {
-        Ok(n) => list_file(rt, &name[..n], folded, block, line, out),
+        Ok(n) => list_file(rt, &name[..n], listing),
         Err(e) => {
             let code = match e {
                 FillError::TooLong => TOO_LONG,
                 FillError::NotPresent => INVALID,
             };
             report(rt, &name, io::Error::from_raw_os_error(code));
-            true
+            Ok(())
         }
     }
+}
+
+// Lists the files that the arguments from `first` on name.
+fn list_arguments(rt: &HostRuntime, first: usize, listing: &mut Listing) -> io::Result<()> {
+    for i in first..usize::MAX {
+        if is_missing(rt, i) {
+            return Ok(());
+        }
+        list_argument(rt, i, listing)?;
+    }
+    Ok(())
 }
 
 // Whether argument i is this text, which is not empty.
 fn is_argument(rt: &HostRuntime, i: usize, text: &[u8]) -> bool {
     let mut name = [0u8; NAME];
     match rt.arg(i, &mut name) {
-        Ok(n) => same(&name[..n], text),
+        Ok(n) => &name[..n] == text,
         Err(_) => false,
     }
 }
@@ -244,9 +216,6 @@ fn is_missing(rt: &HostRuntime, i: usize) -> bool {
 }
 
 fn main(rt: HostRuntime) {
-    let mut block = [0u8; BLOCK];
-    let mut out = [0u8; BLOCK];
-    let mut line = [0u8; feed::HELD];
     let mut i: usize = 1;
     let folded = is_argument(&rt, i, b"--fold");
     if folded {
@@ -255,21 +224,17 @@ fn main(rt: HostRuntime) {
     if is_argument(&rt, i, b"--") {
         i += 1;
     }
-    if is_missing(&rt, i) {
-        list(
-            &rt,
-            &mut rt.stdin(),
-            b"standard input",
-            folded,
-            &mut block,
-            &mut line,
-            &mut out,
-        );
-        return;
-    }
-    for i in i..usize::MAX {
-        if is_missing(&rt, i) || !list_argument(&rt, i, folded, &mut block, &mut line, &mut out) {
-            return;
-        }
+    let mut listing = Listing {
+        folded,
+        block: [0; BLOCK],
+        out: [0; BLOCK],
+    };
+    let listed = if is_missing(&rt, i) {
+        list_input(&rt, &mut listing)
+    } else {
+        list_arguments(&rt, i, &mut listing)
+    };
+    if let Err(e) = listed {
+        report(&rt, b"standard output", e);
     }
 }

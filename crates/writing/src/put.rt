@@ -27,11 +27,7 @@ pub fn put_bytes(out: &mut [u8], at: usize, s: &[u8], n: usize) -> usize
     ensures value { result ≡ at + n }
     ensures out_after { out.new ≡ put at (take n s.now) out.old }
 {
-    let mut i = 0;
-    while i < n {
-        out[at + i] = s[i];
-        i += 1;
-    }
+    out[at..at + n].copy_from_slice(&s[..n]);
     at + n
 }
 

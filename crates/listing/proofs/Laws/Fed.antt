@@ -6,7 +6,7 @@ use mathlib.Core.Bool.{Bool, true, false}
 use mathlib.Core.List.{List, [], ◌∷◌, ◌++◌, append-nil}
 use native.Mathlib.Omega.{arith}
 use native.Mathlib.Numerals.{add-one}
-use lib.ListN.{length, take, drop, get_or, length-append, length-set, drop_of_length-le}
+use lib.ListN.{length, drop, get_or, length-append, drop_of_length-le}
 use lib.Seq.{drop-cons}
 use lib.Dec.{eqb}
 use borrow.Author.Tests.{eq-eqb, ne_eqb, lt-ltb, le-ltb}
@@ -15,11 +15,11 @@ use Rattle.writing.specs.Put.{put}
 use Rattle.lines.specs.Line.{list_line}
 use Rattle.lines.specs.Listed.{listed}
 use Rattle.lines.specs.Room.{line_room}
-use Rattle.listing.specs.Feed.{most, fed_out, fed_line}
+use Rattle.listing.specs.Feed.{fed_out, fed_line}
 use Rattle.listing.specs.Fed.{Fed, standing, end_line, hold_byte_of, feed_byte_of, feed_bytes}
 use Rattle.listing.proofs.Blocks.{fed_line-append, fed_out-append}
 use Rattle.encoding.proofs.Laws.Booleans.{lt-or-le}
-use Rattle.listing.proofs.Laws.Held.{lf-or-other, held_next-le, take-held_next}
+use Rattle.listing.proofs.Laws.Held.{lf-or-other}
 use Rattle.writing.proofs.Laws.Put.{put-nothing, put-put, length-put, put-end}
 use Rattle.lines.proofs.Laws.LineText.{list_line-size}
 
@@ -37,10 +37,10 @@ module _ (folded : Bool) (b : ℕ) (s : Fed) where
   feed_byte_of-other h = rw (ne_eqb b lf h)
 
 -- how much was taken before changes nothing else
-feed_byte_of-standing : (folded : Bool) (b i : ℕ) (line : List ℕ) (h : ℕ) (out : List ℕ) (o : ℕ)
-    → let f = feed_byte_of folded b (standing 0 line h out o) in standing (i + 1) f.line f.held f.out f.written ≡ feed_byte_of folded b (standing i line h out o)
+feed_byte_of-standing : (folded : Bool) (b i : ℕ) (held out : List ℕ) (o : ℕ)
+    → let f = feed_byte_of folded b (standing 0 held out o) in standing (i + 1) f.held f.out f.written ≡ feed_byte_of folded b (standing i held out o)
 unfolding feed_byte_of end_line hold_byte_of
-feed_byte_of-standing folded b i line h out o = lf-or-other b (λ e. rw e) (λ e. rw e)
+feed_byte_of-standing folded b i held out o = lf-or-other b (λ e. rw e) (λ e. rw e)
 
 module _ (folded : Bool) (block : List ℕ) (i : ℕ) (s : Fed) where
   -- where a line has no room nothing more is fed
@@ -63,88 +63,68 @@ module _ (folded : Bool) (block : List ℕ) (i : ℕ) (s : Fed) where
   unfolding feed_bytes
   feed_bytes-next k h = rw (drop-cons block i 0 k, add-one, le-ltb (length s.out - s.written) line_room h)
 
--- what a step leaves, part by part, as the contracts give it
-abbrev pub Left : ℕ → ℕ → List ℕ → List ℕ → Fed → Type 0
-Left held written line out s = (held ≡ s.held) × ((written ≡ s.written) × ((line ≡ s.line) × (out ≡ s.out)))
-
 -- equals have equal parts
-pub left-parts : {s t : Fed} → s ≡ t → (s.used ≡ t.used) × (Left s.held s.written s.line s.out t)
-left-parts e = rw e (refl, (refl, (refl, (refl, refl))))
+pub equal-parts : {s t : Fed} → s ≡ t → (s.used ≡ t.used) × (s.written ≡ t.written) × (s.held ≡ t.held) × (s.out ≡ t.out)
+equal-parts e = rw e (refl, refl, refl, refl)
 
--- a turn of the loop: what is to be fed after it leaves what was to be fed before it
-pub feed_bytes-turn : (folded : Bool) (block : List ℕ) (i : ℕ) (line : List ℕ) (h : ℕ) (out : List ℕ) (o : ℕ) {line' out' : List ℕ} {h' o' : ℕ} {all : Fed}
-    → i < length block → line_room ≤ length out - o
-    → Left h' o' line' out' (feed_byte_of folded (get_or block i 0) (standing 0 line h out o))
-    → feed_bytes folded (drop i block) (standing i line h out o) ≡ all
-    → feed_bytes folded (drop (i + 1) block) (standing (i + 1) line' h' out' o') ≡ all
-feed_bytes-turn folded block i line h out o k r e t =
-    rw (e.0, e.1.0, e.1.1.0, e.1.1.1, feed_byte_of-standing folded (get_or block i 0) i line h out o)
-    (sym (feed_bytes-next folded block i (standing i line h out o) k r) ∙ t)
+-- what the contract of one byte leaves is the definition's step
+pub step-is : (folded : Bool) (b i : ℕ) (held out : List ℕ) (o : ℕ) (held' out' : List ℕ) (o' : ℕ)
+    → (let f = feed_byte_of folded b (standing 0 held out o) in (o' ≡ f.written) × (held' ≡ f.held) × (out' ≡ f.out))
+    → standing (i + 1) held' out' o' ≡ feed_byte_of folded b (standing i held out o)
+step-is folded b i held out o held' out' o' e = rw (e.0, e.1, e.2, feed_byte_of-standing folded b i held out o)
 
--- ---- within the bytes lent ----
+-- and what is to be fed after it leaves what was to be fed before it
+pub feed_bytes-turn : (folded : Bool) (block : List ℕ) (i : ℕ) (s : Fed) {t all : Fed} → i < length block → line_room ≤ length s.out - s.written
+    → t ≡ feed_byte_of folded (get_or block i 0) s → feed_bytes folded (drop i block) s ≡ all → feed_bytes folded (drop (i + 1) block) t ≡ all
+feed_bytes-turn folded block i s k r e t = rw e (sym (feed_bytes-next folded block i s k r) ∙ t)
 
--- what is held is within the line's bytes, and what is written within the output
-pub record Within (s : Fed) : Type 0 where
-  pub line-length : length s.line ≡ most
-  pub held-le : s.held ≤ most
-  pub written-le : s.written ≤ length s.out
+-- ---- within the output ----
 
--- a byte more leaves it so
-pub feed_byte_of-within : (folded : Bool) (b : ℕ) (s : Fed) → Within s → Within (feed_byte_of folded b s)
+-- what is written stays within the output with a byte more
+pub feed_byte_of-within : (folded : Bool) (b : ℕ) (s : Fed) → s.written ≤ length s.out → let t = feed_byte_of folded b s in t.written ≤ length t.out
 unfolding feed_byte_of end_line hold_byte_of
-feed_byte_of-within folded b s h =
-    let text = list_line (listed folded (take s.held s.line)) in
-    lf-or-other b
-    (λ e. rw e (record { line-length = h.line-length; held-le = omega arith; written-le = put-end s.written text s.out h.written-le }))
-    (λ e. rw e (record { line-length = length-set s.line s.held b ∙ h.line-length; held-le = held_next-le s.held h.held-le; written-le = h.written-le }))
-
--- so does a turn of the loop
-pub within-turn : (folded : Bool) (b i : ℕ) (line : List ℕ) (h : ℕ) (out : List ℕ) (o : ℕ) {line' out' : List ℕ} {h' o' : ℕ}
-    → Left h' o' line' out' (feed_byte_of folded b (standing 0 line h out o))
-    → Within (standing i line h out o) → Within (standing (i + 1) line' h' out' o')
-within-turn folded b i line h out o e k =
-    rw (e.0, e.1.0, e.1.1.0, e.1.1.1, feed_byte_of-standing folded b i line h out o) (feed_byte_of-within folded b (standing i line h out o) k)
+feed_byte_of-within folded b s h = lf-or-other b (λ e. rw e (put-end s.written (list_line (listed folded s.held)) s.out h)) (λ e. rw e h)
 
 -- ---- what was fed ----
 
 -- the bytes `input` were fed, which made s' of s
 pub record Feeds (folded : Bool) (input : List ℕ) (s s' : Fed) : Type 0 where
   pub used-is : s'.used ≡ s.used + length input
-  pub held-is : take s'.held s'.line ≡ fed_line (take s.held s.line) input
-  pub written_is : s'.written ≡ s.written + length (fed_out folded (take s.held s.line) input)
-  pub out-is : s'.out ≡ put s.written (fed_out folded (take s.held s.line) input) s.out
+  pub held-is : s'.held ≡ fed_line s.held input
+  pub written_is : s'.written ≡ s.written + length (fed_out folded s.held input)
+  pub out-is : s'.out ≡ put s.written (fed_out folded s.held input) s.out
   pub out-length : length s'.out ≡ length s.out
-  pub within : Within s'
+  pub within : s'.written ≤ length s'.out
 
 -- where no byte is fed all stays
-feeds-nothing : (folded : Bool) (s : Fed) → Within s → Feeds folded [] s s
+feeds-nothing : (folded : Bool) (s : Fed) → s.written ≤ length s.out → Feeds folded [] s s
 unfolding fed_out fed_line
 feeds-nothing folded s h =
     record { used-is = omega arith; held-is = refl; written_is = omega arith; out-is = put-nothing s.written s.out; out-length = refl; within = h }
 
 -- a line feed fed writes the line held
-end_line-feeds : (folded : Bool) (b : ℕ) (s : Fed) → eqb b lf ≡ true → Within s → s.written + line_room ≤ length s.out
+end_line-feeds : (folded : Bool) (b : ℕ) (s : Fed) → eqb b lf ≡ true → s.written + line_room ≤ length s.out
     → Feeds folded (b ∷ []) s (feed_byte_of folded b s)
 unfolding fed_out fed_line feed_byte_of end_line
-end_line-feeds folded b s e h r =
-    let word = listed folded (take s.held s.line) in
-    let text : fed_out folded (take s.held s.line) (b ∷ []) ≡ list_line word = rw e (append-nil _) in
+end_line-feeds folded b s e r =
+    let word = listed folded s.held in
+    let text : fed_out folded s.held (b ∷ []) ≡ list_line word = rw e (append-nil _) in
     record {
       used-is = rw e;
       held-is = rw e;
       written_is = rw (text, e);
       out-is = rw (text, e);
       out-length = rw e (length-put s.written (list_line word) s.out (omega (arith, list_line-size word)));
-      within = feed_byte_of-within folded b s h;
+      within = feed_byte_of-within folded b s (omega arith);
     }
 
 -- another byte fed is held
-hold_byte_of-feeds : (folded : Bool) (b : ℕ) (s : Fed) → eqb b lf ≡ false → Within s → Feeds folded (b ∷ []) s (feed_byte_of folded b s)
+hold_byte_of-feeds : (folded : Bool) (b : ℕ) (s : Fed) → eqb b lf ≡ false → s.written ≤ length s.out → Feeds folded (b ∷ []) s (feed_byte_of folded b s)
 unfolding fed_out fed_line feed_byte_of hold_byte_of
 hold_byte_of-feeds folded b s e h =
     record {
       used-is = rw e;
-      held-is = rw e (take-held_next s.line s.held b h.line-length h.held-le);
+      held-is = rw e;
       written_is = rw e (omega arith);
       out-is = rw e (put-nothing s.written s.out);
       out-length = rw e;
@@ -154,16 +134,15 @@ hold_byte_of-feeds folded b s e h =
 -- one part of an input fed after another is both fed
 feeds-append : {folded : Bool} {a b : List ℕ} {s t u : Fed} → Feeds folded a s t → Feeds folded b t u → Feeds folded (a ++ b) s u
 feeds-append {folded} {a} {b} {s} {t} f g =
-    let line = take s.held s.line in
-    let first = fed_out folded line a in
-    let second = fed_out folded (take t.held t.line) b in
-    let text : fed_out folded line (a ++ b) ≡ first ++ second = rw f.held-is (fed_out-append folded line a b) in
+    let first = fed_out folded s.held a in
+    let second = fed_out folded t.held b in
+    let text : fed_out folded s.held (a ++ b) ≡ first ++ second = rw f.held-is (fed_out-append folded s.held a b) in
     record {
       used-is = omega (arith, f.used-is, g.used-is, length-append a b);
-      held-is = g.held-is ∙ rw f.held-is (sym (fed_line-append line a b));
+      held-is = g.held-is ∙ rw f.held-is (sym (fed_line-append s.held a b));
       written_is = rw text (omega (arith, f.written_is, g.written_is, length-append first second));
       out-is = g.out-is ∙ rw (text, f.written_is, f.out-is)
-          (put-put s.written first second s.out (omega (arith, f.written_is, f.within.written-le, f.out-length)));
+          (put-put s.written first second s.out (omega (arith, f.written_is, f.within, f.out-length)));
       out-length = g.out-length ∙ f.out-length;
       within = g.within;
     }
@@ -177,7 +156,7 @@ pub record Part (folded : Bool) (input : List ℕ) (s s' : Fed) : Type 0 where
   pub some : line_room ≤ length s.out - s.written → 0 < length input → 0 < length taken
 
 -- bytes fed as long as a line has room leave such a part
-pub feed_bytes-part : (folded : Bool) (input : List ℕ) (s : Fed) → Within s → Part folded input s (feed_bytes folded input s)
+pub feed_bytes-part : (folded : Bool) (input : List ℕ) (s : Fed) → s.written ≤ length s.out → Part folded input s (feed_bytes folded input s)
 unfolding feed_bytes
 feed_bytes-part folded [] s h = record { taken = []; left = []; parts = refl; feeds = feeds-nothing folded s h; some = λ r k. k }
 feed_bytes-part folded (b ∷ bs) s h =
@@ -186,7 +165,7 @@ feed_bytes-part folded (b ∷ bs) s h =
     (record { taken = []; left = b ∷ bs; parts = refl; feeds = feeds-nothing folded s h; some = λ r _. absurd (omega arith) }))
     (λ k.
     let one : Feeds folded (b ∷ []) s (feed_byte_of folded b s) =
-    lf-or-other b (λ e. end_line-feeds folded b s e h (omega (arith, h.written-le))) (λ e. hold_byte_of-feeds folded b s e h) in
+    lf-or-other b (λ e. end_line-feeds folded b s e (omega arith)) (λ e. hold_byte_of-feeds folded b s e h) in
     let rest = feed_bytes-part folded bs (feed_byte_of folded b s) one.within in
     rw (le-ltb (length s.out - s.written) line_room k)
     (record {

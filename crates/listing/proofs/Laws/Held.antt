@@ -7,9 +7,9 @@ use mathlib.Core.List.{List, [], ◌∷◌, ◌++◌, append-nil}
 use native.Mathlib.Omega.{arith}
 use native.Mathlib.Numerals.{add-one}
 use lib.ListN.{length, take, set, length-append, length-take}
-use lib.Seq.{take_all, take-append-le, take-suc-set, set_out}
+use lib.Seq.{take_all, take-append-le, take-suc-set}
 use lib.Dec.{eqb}
-use borrow.Author.Tests.{lt-ltb, le-ltb}
+use borrow.Author.Tests.{lt-ltb}
 use Rattle.encoding.proofs.Laws.Booleans.{lt-or-le}
 use Rattle.turkish.specs.Letters.{lf}
 use Rattle.turkish.specs.Calls.{limit, refusal, accepted}
@@ -20,7 +20,6 @@ use Rattle.lines.proofs.Laws.Listed.{listed-refused}
 use Rattle.turkish.specs.Lines.{unclosed}
 use Rattle.listing.specs.Listing.{list_all}
 use Rattle.listing.specs.Feed.{most, hold, last_out}
-use Rattle.listing.specs.Fed.{held_next}
 
 -- a byte is a line feed, or it is not
 pub lf-or-other : {P : Type 0} (b : ℕ) → (eqb b lf ≡ true → P) → (eqb b lf ≡ false → P) → P
@@ -78,42 +77,22 @@ last_out-held folded (b ∷ bs) =
     ∙ sym (last_out-line folded (b ∷ bs) (omega arith))
 
 -- where none is held of a line nothing is written at the end
-pub last_out-none : (folded : Bool) (line : List ℕ) (held : ℕ) → held ≡ 0 → last_out folded (take held line) ≡ []
+pub last_out-none : (folded : Bool) (line : List ℕ) → length line ≡ 0 → last_out folded line ≡ []
 unfolding last_out unclosed list_all
-last_out-none folded line held e = rw e
-
--- and where some is held, that
-pub last_out-some : (folded : Bool) (line : List ℕ) (held : ℕ) → 0 < held → held ≤ length line
-    → last_out folded (take held line) ≡ list_line (listed folded (take held line))
-last_out-some folded line held h l = last_out-line folded (take held line) (omega (arith, length-take held line))
+last_out-none folded [] e = refl
+last_out-none folded (b ∷ bs) e = absurd (omega arith)
 
 -- ---- the bytes that hold a line ----
 
--- a byte is held after those held as long as they are fewer than the most that are
-pub held_next-more : (held : ℕ) → held < most → held + 1 ≡ held_next held
-unfolding held_next
-held_next-more held h = rw (lt-ltb held most h)
-
--- and where all are held, no more
-pub held_next-full : (held : ℕ) → most ≤ held → held ≡ held_next held
-unfolding held_next
-held_next-full held h = rw (le-ltb held most h)
-
--- so no more than the most are held
-pub held_next-le : (held : ℕ) → held ≤ most → held_next held ≤ most
-held_next-le held h = lt-or-le held most (λ k. rw (← held_next-more held k) (omega arith)) (λ k. rw (← held_next-full held k) h)
-
--- a byte stored after those held is held with them, where the line has a place for it
-pub take-held_next : (line : List ℕ) (held b : ℕ) → length line ≡ most → held ≤ most → take (held_next held) (set line held b) ≡ hold (take held line) b
+-- a byte stored after the `held` that are held is held with them, where there is a place for it
+pub hold-stored : (line : List ℕ) (held b : ℕ) → length line ≡ most → held < most → take (held + 1) (set line held b) ≡ hold (take held line) b
 unfolding hold
-take-held_next line held b l h = lt-or-le held most more full
-  where
-    more : held < most → take (held_next held) (set line held b) ≡ take most (take held line ++ (b ∷ []))
-    more k =
-        rw (← held_next-more held k, add-one held, take-suc-set line held b (omega arith))
-        (sym (take_all most (take held line ++ (b ∷ [])) (omega (arith, length-append (take held line) (b ∷ []), length-take held line))))
+hold-stored line held b l h =
+    rw (add-one held, take-suc-set line held b (omega arith))
+    (sym (take_all most (take held line ++ (b ∷ [])) (omega (arith, length-append (take held line) (b ∷ []), length-take held line))))
 
-    full : most ≤ held → take (held_next held) (set line held b) ≡ take most (take held line ++ (b ∷ []))
-    full k =
-        rw (← held_next-full held k, set_out line held b (omega arith), take_all held line (omega arith), take-append-le most line (b ∷ []) (omega arith))
-        (sym (take_all most line (omega arith)))
+-- and where all are held, no more is
+pub hold-full : (line : List ℕ) (held b : ℕ) → length line ≡ most → most ≤ held → take held line ≡ hold (take held line) b
+unfolding hold
+hold-full line held b l h =
+    rw (take_all held line (omega arith), take-append-le most line (b ∷ []) (omega arith)) (sym (take_all most line (omega arith)))

@@ -10,20 +10,20 @@ use lib.ListN.{length, take, drop, length-append, length-drop, drop_of_length-le
 use lib.Seq.{take-append_seam, drop-append_seam, drop-drop}
 use Rattle.writing.specs.Put.{put}
 use Rattle.lines.specs.Room.{line_room}
-use Rattle.listing.specs.Feed.{most, fed_out, fed_line}
+use Rattle.listing.specs.Feed.{fed_out, fed_line}
 use Rattle.listing.specs.Fed.{Fed, standing, feeding}
 use Rattle.listing.proofs.Blocks.{fed_line-append}
-use Rattle.listing.proofs.Laws.Fed.{Within, feed_bytes-part}
+use Rattle.listing.proofs.Laws.Fed.{feed_bytes-part}
 
--- s is left of the block from place `from` on, with the first `held` bytes of `line` held and the whole of `out` free
-pub record OneCall (folded : Bool) (block : List ℕ) (from : ℕ) (line : List ℕ) (held : ℕ) (out : List ℕ) (s : Fed) : Type 0 where
+-- s is left of the block from place `from` on, with `held` held before it and the whole of `out` free
+pub record OneCall (folded : Bool) (block : List ℕ) (from : ℕ) (held out : List ℕ) (s : Fed) : Type 0 where
   pub used_le : from ≤ length block → s.used ≤ length block
   pub used-more : from < length block → line_room ≤ length out → from < s.used
   pub parts : drop from block ≡ take (s.used - from) (drop from block) ++ drop s.used block
-  pub held-is : take s.held s.line ≡ fed_line (take held line) (take (s.used - from) (drop from block))
-  pub text-is : take s.written s.out ≡ fed_out folded (take held line) (take (s.used - from) (drop from block))
+  pub held-is : s.held ≡ fed_line held (take (s.used - from) (drop from block))
+  pub text-is : take s.written s.out ≡ fed_out folded held (take (s.used - from) (drop from block))
   pub out-length : length s.out ≡ length out
-  pub within : Within s
+  pub within : s.written ≤ length s.out
 
 -- the part taken and the rest, where the place after the part is known
 parts-of : (block : List ℕ) (from used : ℕ) (taken left : List ℕ) → drop from block ≡ taken ++ left → used ≡ from + length taken
@@ -38,11 +38,10 @@ unfolding put
 take_put s out = rw zero-add (take-append_seam s (drop (length s) out))
 
 -- any call is such
-pub feeding-call : (folded : Bool) (block : List ℕ) (from : ℕ) (line : List ℕ) (held : ℕ) (out : List ℕ) → length line ≡ most → held ≤ most
-    → OneCall folded block from line held out (feeding folded block from line held out)
+pub feeding-call : (folded : Bool) (block : List ℕ) (from : ℕ) (held out : List ℕ) → OneCall folded block from held out (feeding folded block from held out)
 unfolding feeding
-feeding-call folded block from line held out l h =
-    let p = feed_bytes-part folded (drop from block) (standing from line held out 0) (record { line-length = l; held-le = h; written-le = omega arith }) in
+feeding-call folded block from held out =
+    let p = feed_bytes-part folded (drop from block) (standing from held out 0) (omega arith) in
     let f = p.feeds in
     let q = parts-of block from _ p.taken p.left p.parts f.used-is in
     record {
@@ -50,18 +49,16 @@ feeding-call folded block from line held out l h =
       used-more = λ k r. omega (arith, f.used-is, p.some (omega arith) (omega (arith, length-drop from block)));
       parts = rw (q.0, q.1) p.parts;
       held-is = rw q.0 f.held-is;
-      text-is = rw (q.0, f.out-is, f.written_is) (take_put (fed_out folded (take held line) p.taken) out);
+      text-is = rw (q.0, f.out-is, f.written_is) (take_put (fed_out folded held p.taken) out);
       out-length = f.out-length;
       within = f.within;
     }
 
 -- and what it leaves of the block gives the same line held as all of it
-pub call-turn : {folded : Bool} {block : List ℕ} {from : ℕ} {line : List ℕ} {held : ℕ} {out : List ℕ} {s : Fed} {used held' : ℕ} {line' : List ℕ}
-    → OneCall folded block from line held out s → used ≡ s.used → held' ≡ s.held → line' ≡ s.line
-    → fed_line (take held' line') (drop used block) ≡ fed_line (take held line) (drop from block)
-call-turn {block = block} {from} {line} {held} {s = s} c u h l =
-    rw (u, h, l, c.held-is) (sym (fed_line-append (take held line) (take (s.used - from) (drop from block)) (drop s.used block)))
-    ∙ ap (fed_line (take held line)) (sym c.parts)
+pub call-turn : {folded : Bool} {block : List ℕ} {from : ℕ} {held out : List ℕ} {s : Fed} {used : ℕ} {held' : List ℕ}
+    → OneCall folded block from held out s → used ≡ s.used → held' ≡ s.held → fed_line held' (drop used block) ≡ fed_line held (drop from block)
+call-turn {block = block} {from} {held} {s = s} c u h =
+    rw (u, h, c.held-is) (sym (fed_line-append held (take (s.used - from) (drop from block)) (drop s.used block))) ∙ ap (fed_line held) (sym c.parts)
 
 -- nothing is left past the block's end
 pub fed_line-end : (line block : List ℕ) (i : ℕ) → length block ≤ i → fed_line line (drop i block) ≡ line

@@ -11,21 +11,21 @@ pub slice_bounds-write_all-end : goal.slice_bounds-write_all-end
 slice_bounds-write_all-end g c =
     let a = c.args in
     let l = c.loop-used in
-    let call = feeding-call a.folded a.block.now l.used l.line l.h l.out l.invariant.0 l.invariant.3 in
-    omega (arith, c.feed-p.ensures.written_value, call.within.written-le, ap length c.feed-p.ensures.out_after)
+    let call = feeding-call a.folded a.block.now l.used l.held l.out in
+    omega (arith, c.feed-p.ensures.written_value, call.within, ap length c.feed-p.ensures.out_after)
 
 pub slice_bounds-write_all-end-in-loop-used : goal.slice_bounds-write_all-end-in-loop-used
 slice_bounds-write_all-end-in-loop-used g c =
     let a = c.args in
     let l = c.loop-used in
-    let call = feeding-call a.folded a.block.now l.used l.line l.h l.out l.invariant.0 l.invariant.3 in
-    omega (arith, c.feed-p.ensures.written_value, call.within.written-le, ap length c.feed-p.ensures.out_after, length-take c.feed-p.result.written c.feed-p.new.out)
+    let call = feeding-call a.folded a.block.now l.used l.held l.out in
+    omega (arith, c.feed-p.ensures.written_value, call.within, ap length c.feed-p.ensures.out_after, length-take c.feed-p.result.written c.feed-p.new.out)
 
 pub loop-used-smaller : goal.loop-used-smaller
 loop-used-smaller g c =
     let a = c.args in
     let l = c.loop-used in
-    let call = feeding-call a.folded a.block.now l.used l.line l.h l.out l.invariant.0 l.invariant.3 in
+    let call = feeding-call a.folded a.block.now l.used l.held l.out in
     omega (arith, c.feed-p.ensures.used_value, call.used-more (omega arith) (omega arith))
 
 pub loop-used-preserved : goal.loop-used-preserved
@@ -33,35 +33,28 @@ loop-used-preserved g c =
     let a = c.args in
     let l = c.loop-used in
     let e = c.feed-p.ensures in
-    let call = feeding-call a.folded a.block.now l.used l.line l.h l.out l.invariant.0 l.invariant.3 in
-    let (written, joined, appended) = l.invariant.5 in (
-      omega arith,
-      omega (arith, c.feed-p.auto.out, l.invariant.1),
-      omega (arith, e.used_value, call.used_le (omega arith)),
-      omega (arith, e.held_value, call.within.held-le),
-      call-turn call e.used_value e.held_value e.line_after ∙ l.invariant.4,
-      (
+    let call = feeding-call a.folded a.block.now l.used l.held l.out in
+    let (written, joined, appended) = l.invariant.lines in
+    record {
+      out_len = omega (arith, c.feed-p.auto.out, l.invariant.out_len);
+      within = omega (arith, e.used_value, call.used_le (omega arith));
+      line = call-turn call e.used_value e.held_after ∙ l.invariant.line;
+      lines = (
         written ++ take c.feed-p.result.written c.feed-p.new.out,
-        written-turn written _ _ joined (out-turn call e.used_value e.held_value e.line_after e.written_value e.out_after),
+        written-turn written _ _ joined (out-turn call e.used_value e.held_after e.written_value e.out_after),
         Appends-trans _ _ _ _ _ appended c.in_ok-write_all.ensures.bytes,
-      ),
-    )
+      );
+    }
 
-pub returns-clause-held_value : goal.returns-clause-held_value
-returns-clause-held_value g c =
+pub returns-clause-held_after : goal.returns-clause-held_after
+returns-clause-held_after g c =
     let l = c.loop-used in
-    let t = sym (fed_line-end (take l.h l.line) c.args.block.now l.used (omega arith)) ∙ l.invariant.4 in
-    omega (arith, length-take l.h l.line, ap length t)
-
-pub returns-clause-line_after : goal.returns-clause-line_after
-returns-clause-line_after g c =
-    let l = c.loop-used in
-    sym (fed_line-end (take l.h l.line) c.args.block.now l.used (omega arith)) ∙ l.invariant.4
+    sym (fed_line-end l.held c.args.block.now l.used (omega arith)) ∙ l.invariant.line
 
 pub returns-clause-written : goal.returns-clause-written
 returns-clause-written g c =
     let l = c.loop-used in
-    let (written, joined, appended) = l.invariant.5 in
-    let all : written ≡ fed_out c.args.folded (take c.args.held c.args.line.now) c.args.block.now =
-    written-end c.args.folded (take l.h l.line) c.args.block.now l.used (omega arith) joined in
+    let (written, joined, appended) = l.invariant.lines in
+    let all : written ≡ fed_out c.args.folded c.args.held.now c.args.block.now =
+    written-end c.args.folded l.held c.args.block.now l.used (omega arith) joined in
     rw (← all) appended

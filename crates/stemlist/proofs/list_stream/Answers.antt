@@ -12,13 +12,13 @@ use Rattle.stemlist.proofs.list_stream.Goals as goal
 
 pub loop-init : goal.loop-init
 unfolding fed_line fed_out
-loop-init g c = (c.requires.line_len, refl, refl, omega arith, ([], Consumes-nil _, refl, Appends-nil _))
+loop-init g c = (refl, refl, ([], Consumes-nil _, c.new-held.ensures, Appends-nil _))
 
 pub returns-then-n-eq0-clause-written : goal.returns-then-n-eq0-clause-written
 returns-then-n-eq0-clause-written g c =
     let l = c.loop in
     let folded = c.args.folded in
-    let (read, consumed, held, appended) = l.invariant.4 in
+    let (read, consumed, held, appended) = l.invariant.2 in
     let block = take c.in_ok-n.n c.read.new.buf in
     let (next, end) = at_renamed _ c.read.result c.in_ok-n.n _ _ c.in_ok-n.ensures.cases c.read.ensures.bytes in
     let none : block ≡ [] = rw c.if-n-eq0.true refl in
@@ -27,7 +27,7 @@ returns-then-n-eq0-clause-written g c =
     (λ closed room.
     Consumes-whole _ _ _ (λ input. Appends (g.W.Write.contents c.args.to.now) (g.W.Write.contents c.close.new.to) (listing folded input))
     (Consumes-trans _ _ _ _ _ consumed next) (end c.if-n-eq0.true (omega arith))
-    (rw (none, append-nil, ← end-out folded read (take l.held l.line) held) (Appends-trans _ _ _ _ _ appended closed)))
+    (rw (none, append-nil, ← end-out folded read l.held held) (Appends-trans _ _ _ _ _ appended closed)))
     c.close.ensures.written)
 
 pub returns-then-n-eq0-clause-broken : goal.returns-then-n-eq0-clause-broken
@@ -39,22 +39,19 @@ pub loop-preserved : goal.loop-preserved
 loop-preserved g c =
     let l = c.loop in
     let folded = c.args.folded in
-    let (read, consumed, held, appended) = l.invariant.4 in
+    let (read, consumed, held, appended) = l.invariant.2 in
     let block = take c.in_ok-n.n c.read.new.buf in
     let (next, end) = at_renamed _ c.read.result c.in_ok-n.n _ _ c.in_ok-n.ensures.cases c.read.ensures.bytes in
-    let h = c.in_ok-held.held in
-    let cases = c.in_ok-held.ensures.cases in
+    let cases = c.in_ok-map_err.ensures.cases in
     let d = c.drain.ensures in
-    let line = at_renamed _ c.drain.result h _ _ cases d.line_after in (
-      omega arith,
+    let line = at_renamed _ c.drain.result c.in_ok-map_err.field-0 _ _ cases d.held_after in (
+      omega (arith, l.invariant.0),
       omega (arith, l.invariant.1),
-      omega (arith, l.invariant.2),
-      at_renamed _ c.drain.result h _ _ cases d.held_le_most_2,
       (
         read ++ block,
         Consumes-trans _ _ _ _ _ consumed next,
-        line ∙ more-line read block (take l.held l.line) held,
-        rw (← more-out folded read block (take l.held l.line) held)
-            (Appends-trans _ _ _ _ _ appended (at_renamed _ c.drain.result h _ _ cases d.written)),
+        line ∙ more-line read block l.held held,
+        rw (← more-out folded read block l.held held)
+            (Appends-trans _ _ _ _ _ appended (at_renamed _ c.drain.result c.in_ok-map_err.field-0 _ _ cases d.written)),
       ),
     )

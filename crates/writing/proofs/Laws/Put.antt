@@ -1,4 +1,4 @@
--- Texts written into an output, one after the other, are one text written at the first place: by the byte, and by a copy's loop.
+-- Texts written into an output, one after the other, are one text written at the first place: by the byte, and by a copy.
 -- So are a text's front and its end, where they leave no byte between them. Assumes nothing.
 use Prim.Native.Nat.{ℕ, ◌+◌, ◌-◌, ◌≤◌, ◌<◌}
 use mathlib.Core.Path.{◌≡◌, refl, ap, ◌∙◌}
@@ -6,8 +6,9 @@ use mathlib.Core.List.{List, [], ◌∷◌, ◌++◌, append_assoc}
 use native.Mathlib.Omega.{arith}
 use native.Mathlib.Nat.{add-zero, add_assoc}
 use native.Mathlib.Numerals.{add-one}
-use lib.ListN.{length, take, drop, get_or, set, length-append, length-take, length-drop, take-append-drop}
-use lib.Seq.{length-take-le, take_all, take-length, take_at, take-append_seam, drop-append-add, take-take, drop-drop, take-add, set_split, paste, paste-suc}
+use lib.ListN.{length, take, drop, set, length-append, length-take, length-drop, take-append-drop}
+use lib.Seq.{length-take-le, take_all, take-length, take_at, take-append_seam, drop-append-add, take-take, drop-drop, take-add, set_split}
+use borrow.Rule.Slice.PartMut.{put_mid}
 use Rattle.writing.specs.Put.{put}
 
 -- ---- one text ----
@@ -22,16 +23,12 @@ pub set-put : (at b : ℕ) (out : List ℕ) → at < length out → set out at b
 unfolding put
 set-put at b out h = set_split out at b h ∙ rw add-one
 
--- a text written is a copy
-put-paste : (at n : ℕ) (s out : List ℕ) → n ≤ length s → put at (take n s) out ≡ paste out at s n
+-- the first n bytes of a text, copied over the n bytes from place `at` on, are written there
+pub put-copied : (at n : ℕ) (s out : List ℕ) {t : List ℕ} → n ≤ length s → t ≡ take n s → put_mid at (at + n - at) out t ≡ put at (take n s) out
 unfolding put
-put-paste at n s out h = rw (length-take-le n s h, append_assoc)
-
--- the byte at place i of a text, stored after the bytes before it
-pub set_next : (at i : ℕ) (s out o : List ℕ) → at + i < length out → i < length s → o ≡ put at (take i s) out
-    → set o (at + i) (get_or s i 0) ≡ put at (take (i + 1) s) out
-set_next at i s out o h l e =
-    rw (e, put-paste at i s out (omega arith), paste-suc out at s i 0, put-paste at (i + 1) s out (omega arith), add-one)
+put-copied at n s out h e =
+    let k : at + n - at ≡ n = omega arith in
+    rw (k, e, length-take-le n s h, drop-drop)
 
 -- a text written leaves the output's length
 pub length-put : (at : ℕ) (s out : List ℕ) → at + length s ≤ length out → length (put at s out) ≡ length out

@@ -1,19 +1,14 @@
--- `folding::plain::is_plain` meets its contract. The loop's invariant: what passed so far and the test from the place on are the test of
--- the word. The measure is what is left of it. Assumes nothing.
-use mathlib.Core.Path.{refl, ◌∙◌}
-use native.Mathlib.Omega.{arith}
+-- `folding::plain::is_plain` meets its contract. Assumes nothing.
+use mathlib.Core.Path.{◌∙◌}
 use Rattle.folding.proofs.Laws.Plain.{plain_at, plain_end}
 use Rattle.folding.proofs.plain.is_plain.Goals as goal
 
-pub loop-i-init : goal.loop-i-init
-loop-i-init c = (omega arith, refl)
-
-pub loop-i-preserved : goal.loop-i-preserved
-loop-i-preserved c =
-    let l = c.loop-i in
-    (omega arith, plain_at c.args.w.now l.i l.ok c.loop-i-test.true ∙ l.invariant.1)
+pub loop-b-preserved : goal.loop-b-preserved
+loop-b-preserved c =
+    let l = c.loop-b in
+    plain_at c.args.w.now l.b-index l.ok c.loop-b-test.true ∙ l.invariant
 
 pub returns : goal.returns
 returns c =
-    let l = c.loop-i in
-    plain_end c.args.w.now l.i l.ok c.loop-i-test.false ∙ l.invariant.1
+    let l = c.loop-b in
+    plain_end c.args.w.now l.b-index l.ok c.loop-b-test.false ∙ l.invariant

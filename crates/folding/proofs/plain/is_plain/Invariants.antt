@@ -1,14 +1,9 @@
--- `folding::plain::is_plain` meets its contract. The loop's invariant: what passed so far and the test from the place on are the test of
--- the word. The measure is what is left of it. Assumes nothing.
-use Prim.Native.Nat.{◌-◌, ◌≤◌}
+-- `folding::plain::is_plain`: what passed so far and the test from the place on are the test of the word.
 use mathlib.Core.Path.{◌≡◌}
 use mathlib.Core.Bool.{◌&&◌}
-use lib.ListN.{length, drop}
+use lib.ListN.{drop}
 use Rattle.folding.specs.FoldBytes.{plain}
 use Rattle.folding.proofs.plain.is_plain.Given as goal
 
-abbrev pub invariant-loop-i : goal.invariant-loop-i
-invariant-loop-i l = (l.i ≤ length l.w) × (l.ok && plain (drop l.i l.w) ≡ plain l.w)
-
-abbrev pub decreases-loop-i : goal.decreases-loop-i
-decreases-loop-i l = length l.w - l.i
+abbrev pub invariant-loop-b : goal.invariant-loop-b
+invariant-loop-b l = l.ok && plain (drop l.b-index l.w) ≡ plain l.w

@@ -1,15 +1,9 @@
--- `folding::plain::write_plain` meets its contract. The loop's invariant: the bytes passed are written, folded, and the output keeps its
--- length. The measure is what is left of them. Assumes nothing.
-use Prim.Native.Nat.{◌-◌, ◌≤◌}
+-- `folding::plain::write_plain`: the bytes passed are written, folded, and what stands behind them stays.
 use mathlib.Core.Path.{◌≡◌}
-use mathlib.Core.List.{map}
-use lib.ListN.{length, take}
-use Rattle.writing.specs.Put.{put}
+use mathlib.Core.List.{map, ◌++◌}
+use lib.ListN.{take, drop}
 use Rattle.folding.specs.FoldBytes.{small_byte}
 use Rattle.folding.proofs.plain.write_plain.Given as goal
 
 abbrev pub invariant-loop-i : goal.invariant-loop-i
-invariant-loop-i l = (l.i ≤ length l.w) × (length l.out ≡ length l.initial.out) × (l.out ≡ put 0 (take l.i (map small_byte l.w)) l.initial.out)
-
-abbrev pub decreases-loop-i : goal.decreases-loop-i
-decreases-loop-i l = length l.w - l.i
+invariant-loop-i l = l.out ≡ map small_byte (take l.i l.w) ++ drop l.i l.initial.out

@@ -1,21 +1,22 @@
 -- `listing::feed::finish` meets its contract. Where no byte is held nothing is written, and else the line held.
 -- Assumes nothing.
-use mathlib.Core.Path.{refl}
-use lib.ListN.{length-take}
+use Rattle.std.proofs.Common.{◌≡◌, rules, length, ◌<◌}
 use native.Mathlib.Omega.{arith}
-use Rattle.listing.proofs.Laws.Held.{last_out-none, last_out-some}
+use Rattle.listing.proofs.Laws.Held.{last_out-none, last_out-line}
 use Rattle.writing.proofs.Laws.Put.{put-nothing}
 use Rattle.listing.proofs.feed.finish.Goals as goal
 
-pub returns-then-held-eq0 : goal.returns-then-held-eq0
-returns-then-held-eq0 c =
-    let a = c.args in let none = last_out-none a.folded a.line.now a.held (omega arith) in
-    record { value = rw none refl; out_after = rw none (put-nothing 0 a.out.now) }
-
-pub slice_bounds-put_listed-end : goal.slice_bounds-put_listed-end
-slice_bounds-put_listed-end c = let a = c.args in omega (arith, length-take a.held a.line.now)
+pub returns-then-is_empty : goal.returns-then-is_empty
+returns-then-is_empty c =
+    let a = c.args in
+    let line : length c.as_slice-line.result.now ≡ 0 = search rules in
+    let none = last_out-none a.folded c.as_slice-line.result.now line in
+    record { value = rw (← c.as_slice-line.ensures, none); out_after = rw (← c.as_slice-line.ensures, none) (put-nothing 0 a.out.now) }
 
 pub returns : goal.returns
 returns c =
-    let a = c.args in let some = last_out-some a.folded a.line.now a.held (omega arith) (omega arith) in
-    record { value = rw some (omega arith); out_after = rw some c.put_listed.ensures.out_after }
+    let a = c.args in
+    let line : 0 < length c.as_slice-line.result.now = search rules in
+    let some = last_out-line a.folded c.as_slice-line.result.now line in
+    let put = c.put_listed.ensures in
+    record { value = rw (← c.as_slice-line.ensures, some) (omega arith); out_after = rw (← c.as_slice-line.ensures, some) put.out_after }
