@@ -23,14 +23,11 @@ pub(crate) fn may_follow(a: u8, x: u8) -> bool
 pub(crate) fn each_follows(w: &[u8]) -> bool
     ensures { result ≡ short_after 0 w.now }
 {
-    let mut i = 0;
-    let mut a = 0u8;
+    let mut a = 0;
     let mut ok = true;
-    while i < w.len() {
-        let x = w[i];
-        ok = ok & may_follow(a, x);
+    for &x in w {
+        ok &= may_follow(a, x);
         a = x;
-        i += 1;
     }
     ok & (a < 0xC0)
 }
