@@ -29,7 +29,8 @@ fn are_plain(eights: &[[u8; 8]]) -> bool
         .fold(true, |plain, eight| plain & is_plain(eight))
 }
 
-// On from a place by N bytes at a time, which are whole eights, as long as none of them has its top bit set.
+// On from a place by N bytes at a time, which are whole eights, as long as none of them has its top bit set. The place is moved by hand: with the
+// eights counted by `take_while` and `count` Turkish words of 1,000 bytes took 1.2 times as long.
 fn skip_plain<const N: usize>(w: &[u8], from: usize) -> usize
     requires nonzero { 0 < N }
     requires whole_eights { N % word_bytes ≡ 0 }

@@ -38,7 +38,8 @@ fn highest(a: u8) -> u8
     }
 }
 
-// Whether the three bytes before, the nearest first, leave one of their character due.
+// Whether the three bytes before, the nearest first, leave one of their character due. They stand as three parameters here and below, as in the
+// definitions that the contracts cite, `owed`, `follows` and `text_after`.
 fn is_owed(a: u8, b: u8, c: u8) -> bool
     ensures { result ≡ owed a b c }
 {

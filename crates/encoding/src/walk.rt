@@ -7,7 +7,9 @@ ghost use Rattle.encoding.specs.Walked.{byte_before, owed_at, short_next, walked
 
 use crate::{plain, short};
 
-// Whether each of N bytes from a place on may follow the one before it. That one is read anew, so that no byte waits for another.
+// Whether each of N bytes from a place on may follow the one before it. That one is read anew, so that no byte waits for another:
+// by index, as each is read twice, which two slices zipped would say no plainer. Left out of line, as the compiler else does, it made words of
+// 10 to 64 bytes take 1.4 to 1.6 times as long.
 #[inline(always)]
 fn all_follow<const N: usize>(w: &[u8], from: usize) -> bool
     requires from_nonzero { 0 < from }
