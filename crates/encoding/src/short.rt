@@ -4,7 +4,8 @@ ghost use Rattle.encoding.specs.Neighbours.{short_begins, short_follows, short_a
 
 use crate::continuation;
 
-// Whether a character of one or two bytes begins with the byte.
+// Whether a character of one or two bytes begins with the byte. It differs from `begins` in `validity` by a number, but each gives the answer
+// of a definition of its own, and one for both would be no plainer.
 pub(crate) fn begins(x: u8) -> bool
     ensures { result ≡ short_begins x }
 {
@@ -19,18 +20,16 @@ pub(crate) fn may_follow(a: u8, x: u8) -> bool
     (due & continuation::is_continuation(x)) | (!due & begins(x))
 }
 
-// Whether each byte may follow the one before it, and none is due at the end.
+// Whether each byte may follow the one before it, and none is due at the end. `validity` walks so with three bytes before: the two share the
+// loop alone, and a trait for both, with a ghost member for each method, would be longer than they are.
 pub(crate) fn each_follows(w: &[u8]) -> bool
     ensures { result ≡ short_after 0 w.now }
 {
-    let mut i = 0;
-    let mut a = 0u8;
+    let mut a = 0;
     let mut ok = true;
-    while i < w.len() {
-        let x = w[i];
-        ok = ok & may_follow(a, x);
+    for &x in w {
+        ok &= may_follow(a, x);
         a = x;
-        i += 1;
     }
     ok & (a < 0xC0)
 }

@@ -1,6 +1,8 @@
 // The UTF-8 check, by neighbours: each byte is held to the three before it, or, where no character has more than two, to the one before it
 // (`walk`, `short`). Every byte of a part gets the same tests, whatever the others gave, so that many can be looked at in one step.
 ghost use Rattle.std.specs.Prelude.{◌≡◌, true, ◌≤◌, ◌<◌, length, drop};
+ghost use Rattle.std.specs.List.{prefix_len};
+ghost use Rattle.encoding.specs.Encoding.{continuation};
 ghost use Rattle.encoding.specs.Validity.{lead, is_text};
 ghost use Rattle.encoding.specs.Neighbours.{owed, follows, text_after};
 ghost use Rattle.encoding.specs.Parts.{boundary};
@@ -18,29 +20,26 @@ fn begins(x: u8) -> bool
 fn lowest(a: u8) -> u8
     ensures { result ≡ (lead a).low }
 {
-    if a == 0xE0 {
-        return 0xA0;
+    match a {
+        0xE0 => 0xA0,
+        0xF0 => 0x90,
+        _ => 0x80,
     }
-    if a == 0xF0 {
-        return 0x90;
-    }
-    0x80
 }
 
 // The greatest byte that may follow a, where one must.
 fn highest(a: u8) -> u8
     ensures { result ≡ (lead a).high }
 {
-    if a == 0xED {
-        return 0x9F;
+    match a {
+        0xED => 0x9F,
+        0xF4 => 0x8F,
+        _ => 0xBF,
     }
-    if a == 0xF4 {
-        return 0x8F;
-    }
-    0xBF
 }
 
-// Whether the three bytes before, the nearest first, leave one of their character due.
+// Whether the three bytes before, the nearest first, leave one of their character due. They stand as three parameters here and below, as in the
+// definitions that the contracts cite, `owed`, `follows` and `text_after`.
 fn is_owed(a: u8, b: u8, c: u8) -> bool
     ensures { result ≡ owed a b c }
 {
@@ -59,37 +58,48 @@ fn may_follow(a: u8, b: u8, c: u8, x: u8) -> bool
 fn each_follows(w: &[u8]) -> bool
     ensures { result ≡ text_after 0 0 0 w.now }
 {
-    let mut i = 0;
-    let mut a = 0u8;
-    let mut b = 0u8;
-    let mut c = 0u8;
+    let mut a = 0;
+    let mut b = 0;
+    let mut c = 0;
     let mut ok = true;
-    while i < w.len() {
-        let x = w[i];
-        ok = ok & may_follow(a, b, c, x);
+    for &x in w {
+        ok &= may_follow(a, b, c, x);
         c = b;
         b = a;
         a = x;
-        i += 1;
     }
     ok & !is_owed(a, b, c)
 }
 
-// The end of the next part of a word: 128 bytes on, and past the bytes there that go on with a character.
-fn part_end(w: &[u8], i: usize) -> usize
-    requires { i < length w.now }
-    ensures lower_bound { i < result }
+// How many bytes at the front go on with a character.
+fn continuations(w: &[u8]) -> usize
+    ensures { result ≡ prefix_len continuation w.now }
+{
+    w.iter()
+        .take_while(|x| continuation::is_continuation(**x))
+        .count()
+}
+
+// How long the next part is: 128 bytes, and the bytes there that go on with a character.
+fn part_len(w: &[u8]) -> usize
+    requires { 0 < length w.now }
+    ensures lower_bound { 0 < result }
     ensures upper_bound { result ≤ length w.now }
     ensures w_value { boundary (drop result w.now) ≡ true }
 {
-    if w.len() - i <= 128 {
+    if w.len() <= 128 {
         return w.len();
     }
-    let mut end = i + 128;
-    while end < w.len() && continuation::is_continuation(w[end]) {
-        end += 1;
-    }
-    end
+    128 + continuations(&w[128..])
+}
+
+// What stands behind the plain run at the front.
+fn past_run(w: &[u8]) -> &[u8]
+    ensures upper_bound { length result.now ≤ length w.now }
+    ensures w_value { is_text result.now ≡ is_text w.now }
+{
+    let (_, more) = w.split_at(plain::run_end(w, 0));
+    more
 }
 
 // Whether a few bytes are UTF-8. Most words have characters of one and two bytes only, for which fewer tests do.
@@ -111,13 +121,13 @@ pub fn is_utf8(w: &[u8]) -> bool
     if w.len() <= 8 {
         return few_are_utf8(w);
     }
-    let mut i = walk::reach(w);
-    while i < w.len() {
-        let end = part_end(w, i);
-        if !each_follows(&w[i..end]) {
+    let mut rest = walk::rest(w);
+    while !rest.is_empty() {
+        let (part, more) = rest.split_at(part_len(rest));
+        if !each_follows(part) {
             return false;
         }
-        i = plain::run_end(w, end);
+        rest = past_run(more);
     }
     true
 }

@@ -1,146 +1,155 @@
 // How far a word has characters of one and two bytes only, by many bytes in one step and with plain runs skipped. At which place it stops
 // short of the word's end is for speed alone: the contracts say what holds at any place that it may answer.
-ghost use Rattle.std.specs.Prelude.{◌≡◌, true, ◌-◌, ◌≤◌, ◌<◌, length, drop};
+ghost use Rattle.std.specs.Prelude.{◌≡◌, true, ◌+◌, ◌-◌, ◌≤◌, ◌<◌, length, drop, IfSome};
 ghost use Rattle.encoding.specs.Validity.{is_text};
 ghost use Rattle.encoding.specs.PlainRuns.{word_bytes};
 ghost use Rattle.encoding.specs.Walked.{byte_before, owed_at, short_next, walked};
 
 use crate::{plain, short};
 
-// Whether each byte from a place up to another may follow the one before it. That one is read anew, so that no byte waits for another.
-fn all_follow(w: &[u8], from: usize, to: usize) -> bool
+// Whether each of N bytes from a place on may follow the one before it. That one is read anew, so that no byte waits for another:
+// by index, as each is read twice, which two slices zipped would say no plainer. Left out of line, as the compiler else does, it made words of
+// 10 to 64 bytes take 1.4 to 1.6 times as long.
+#[inline(always)]
+fn all_follow<const N: usize>(w: &[u8], from: usize) -> bool
     requires from_nonzero { 0 < from }
-    requires from_le_to { from ≤ to }
-    requires to_in_bounds { to ≤ length w.now }
-    ensures { result ≡ short_next (to - from) (byte_before w.now from) (drop from w.now) }
+    requires in_bounds { from + N ≤ length w.now }
+    ensures { result ≡ short_next N (byte_before w.now from) (drop from w.now) }
 {
-    let mut i = from;
     let mut ok = true;
-    while i < to {
-        ok = ok & short::may_follow(w[i - 1], w[i]);
-        i += 1;
+    for i in from..from + N {
+        ok &= short::may_follow(w[i - 1], w[i]);
     }
     ok
 }
 
-// Whether the byte before a place leaves one of its character due, where no character has more than two.
-fn is_owed_at(w: &[u8], i: usize) -> bool
-    requires i_nonzero { 0 < i }
-    requires i_in_bounds { i ≤ length w.now }
-    ensures { result ≡ owed_at w.now i }
-{
-    0xC0 <= w[i - 1]
+// A word walked over up to a place behind its first byte: what stands there are characters of one and two bytes, of which the last may be
+// unfinished.
+#[derive(Clone, Copy)]
+struct Walk<'a> {
+    word: &'a [u8],
+    at: usize,
+    ghost begun: { 0 < at },
+    ghost within: { at ≤ length word.now },
+    ghost over: { walked word.now at ≡ true },
 }
 
-// Past a plain run, which is tried only where no byte is owed.
-fn skip(w: &[u8], i: usize) -> usize
-    requires i_nonzero { 0 < i }
-    requires i_in_bounds { i ≤ length w.now }
-    requires i_value { walked w.now i ≡ true }
-    ensures lower_bound { i ≤ result }
-    ensures upper_bound { result ≤ length w.now }
-    ensures result_value { walked w.now result ≡ true }
-{
-    if is_owed_at(w, i) {
-        return i;
-    }
-    plain::run_end(w, i)
-}
-
-// Past the plain run at the front, or past the first byte; 0 where that begins no character of one or two bytes.
-fn first(w: &[u8]) -> usize
-    requires { 0 < length w.now }
-    ensures upper_bound { result ≤ length w.now }
-    ensures result_value { walked w.now result ≡ true }
-{
-    let i = plain::run_end(w, 0);
-    if 0 < i {
-        return i;
-    }
-    if short::begins(w[0]) {
-        return 1;
-    }
-    0
-}
-
-// On by 64 bytes at a time, in a word of more. Where fewer are left the last 64 or 32 are tested, some of them a second time.
-fn on_by_64(w: &[u8], from: usize) -> usize
-    requires from_nonzero { 0 < from }
-    requires from_in_bounds { from ≤ length w.now }
-    requires in_bounds { 64 < length w.now }
-    requires from_value { walked w.now from ≡ true }
-    ensures result_nonzero { 0 < result }
-    ensures upper_bound { result ≤ length w.now }
-    ensures result_value { walked w.now result ≡ true }
-{
-    let mut i = from;
-    while 64 <= w.len() - i {
-        if !all_follow(w, i, i + 64) {
-            return i;
+impl<'a> Walk<'a> {
+    // Past the plain run at the front, or past the first byte; none where that begins no character of one or two bytes.
+    fn begin(word: &'a [u8]) -> Option<Walk<'a>>
+        requires { 0 < length word.now }
+        ensures { IfSome result (λ walk. walk.word.now ≡ word.now) }
+    {
+        let run = plain::run_end(word, 0);
+        if 0 < run {
+            return Some(Walk { word, at: run });
         }
-        i = skip(w, i + 64);
-    }
-    if w.len() - i <= 32 {
-        if i < w.len() && all_follow(w, w.len() - 32, w.len()) {
-            return w.len();
+        if short::begins(word[0]) {
+            return Some(Walk { word, at: 1 });
         }
-        return i;
+        None
     }
-    if all_follow(w, w.len() - 64, w.len()) {
-        return w.len();
-    }
-    i
-}
 
-// The same by eight. Each number stands in a function of its own, so that the compiler knows it and tests these bytes in one step.
-fn on_by_8(w: &[u8], from: usize) -> usize
-    requires from_nonzero { 0 < from }
-    requires from_in_bounds { from ≤ length w.now }
-    requires word_bytes_in_bounds { word_bytes < length w.now }
-    requires from_value { walked w.now from ≡ true }
-    ensures result_nonzero { 0 < result }
-    ensures upper_bound { result ≤ length w.now }
-    ensures result_value { walked w.now result ≡ true }
-{
-    let mut i = from;
-    while 8 <= w.len() - i {
-        if !all_follow(w, i, i + 8) {
-            return i;
+    // How many bytes are left.
+    fn left(self) -> usize
+        ensures { result ≡ length self.entry.word.now - self.entry.at }
+    {
+        self.word.len() - self.at
+    }
+
+    // Whether the byte before the place leaves one of its character due, where no character has more than two.
+    fn is_owed(self) -> bool
+        ensures { result ≡ owed_at self.entry.word.now self.entry.at }
+    {
+        0xC0 <= self.word[self.at - 1]
+    }
+
+    // Past a plain run, which is tried only where no byte is owed.
+    fn skip(self) -> Walk<'a>
+        ensures lower_bound { self.entry.at ≤ result.at }
+        ensures word_value { result.word.now ≡ self.entry.word.now }
+    {
+        if self.is_owed() {
+            return self;
         }
-        i = skip(w, i + 8);
+        Walk {
+            word: self.word,
+            at: plain::run_end(self.word, self.at),
+        }
     }
-    if i < w.len() && all_follow(w, w.len() - 8, w.len()) {
-        return w.len();
+
+    // On by N bytes at a time and the plain run behind them, while so many are left and each may follow. N is a parameter of the type, so that
+    // the compiler knows it and tests these bytes in one step.
+    fn steps<const N: usize>(self) -> Walk<'a>
+        requires { 0 < N }
+        ensures { result.word.now ≡ self.entry.word.now }
+    {
+        let mut walk = self;
+        while N <= walk.left() && all_follow::<N>(walk.word, walk.at) {
+            walk = Walk {
+                word: walk.word,
+                at: walk.at + N,
+            }
+            .skip();
+        }
+        walk
     }
-    i
+
+    // To the end, where the last N bytes may follow, some of which were tested before.
+    fn last<const N: usize>(self) -> Walk<'a>
+        requires long { N < length self.word.now }
+        requires few { length self.word.now ≤ self.at + N }
+        ensures { result.word.now ≡ self.entry.word.now }
+    {
+        let end = self.word.len();
+        if all_follow::<N>(self.word, end - N) {
+            return Walk {
+                word: self.word,
+                at: end,
+            };
+        }
+        self
+    }
+
+    // On by N bytes at a time. Where fewer are left the last N of the word are tested, or its last FEW where that is enough.
+    fn on_by<const N: usize, const FEW: usize>(self) -> Walk<'a>
+        requires nonzero { 0 < N }
+        requires few_le_n { FEW ≤ N }
+        requires long { N < length self.word.now }
+        ensures { result.word.now ≡ self.entry.word.now }
+    {
+        let walk = self.steps::<N>();
+        let left = walk.left();
+        if left == 0 || N <= left {
+            return walk;
+        }
+        if left <= FEW {
+            return walk.last::<FEW>();
+        }
+        walk.last::<N>()
+    }
+
+    // What is left from the place on, or from the start of the character that is not over there.
+    fn rest(self) -> &'a [u8]
+        ensures { is_text result.now ≡ is_text self.entry.word.now }
+    {
+        if self.is_owed() {
+            return &self.word[self.at - 1..];
+        }
+        &self.word[self.at..]
+    }
 }
 
-// The place itself, or the start of the character that is not over there.
-fn character_start(w: &[u8], i: usize) -> usize
-    requires i_nonzero { 0 < i }
-    requires i_in_bounds { i ≤ length w.now }
-    requires i_value { walked w.now i ≡ true }
-    ensures upper_bound { result ≤ length w.now }
-    ensures w_value { is_text (drop result w.now) ≡ is_text w.now }
-{
-    if is_owed_at(w, i) {
-        return i - 1;
-    }
-    i
-}
-
-// A place before which stand characters of one and two bytes only: the check of the rest is the check of the word.
-pub(crate) fn reach(w: &[u8]) -> usize
+// A word's rest, before which stand characters of one and two bytes only: its check is the check of the word.
+pub(crate) fn rest(w: &[u8]) -> &[u8]
     requires { word_bytes < length w.now }
-    ensures upper_bound { result ≤ length w.now }
-    ensures w_value { is_text (drop result w.now) ≡ is_text w.now }
+    ensures { is_text result.now ≡ is_text w.now }
 {
-    let i = first(w);
-    if i == 0 {
-        return 0;
-    }
+    let Some(walk) = Walk::begin(w) else {
+        return w;
+    };
     if 64 < w.len() {
-        return character_start(w, on_by_64(w, i));
+        return walk.on_by::<64, 32>().rest();
     }
-    character_start(w, on_by_8(w, i))
+    walk.on_by::<8, 8>().rest()
 }

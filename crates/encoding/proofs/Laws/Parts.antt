@@ -4,15 +4,16 @@ use mathlib.Core.Path.{◌≡◌, refl, sym, ap, ◌∙◌}
 use mathlib.Core.Bool.{Bool, true, false, ◌&&◌, and_assoc, false≢true}
 use mathlib.Core.List.{List, [], ◌∷◌, ◌++◌}
 use native.Mathlib.Omega.{arith}
-use lib.ListN.{length, drop, take, get_or, take-append-drop, drop_of_length-le}
-use lib.Seq.{drop-drop, drop-cons}
+use lib.ListN.{length, drop, take, take-append-drop, drop_of_length-le}
+use lib.Seq.{drop-drop}
 use lib.Dec.{ltb, leb, eqb}
 use borrow.Author.Tests.{le-leb, leb-true, ltb-true, eqb-true}
+use Rattle.std.specs.List.{prefix_len}
 use Rattle.encoding.specs.Validity.{Due, due, refused, next, accepts, is_text, table37}
 use Rattle.encoding.specs.Encoding.{continuation}
 use Rattle.encoding.specs.Parts.{boundary}
 use Rattle.encoding.specs.PlainRuns.{plain_next, run_end_of}
-use Rattle.encoding.proofs.Laws.Booleans.{and_left, and_right, cond_both, not-eq-false}
+use Rattle.encoding.proofs.Laws.Booleans.{and_left, and_right, cond_both, cond_cases, not-eq-false}
 use Rattle.encoding.proofs.Laws.Validity.{next-lead, is_text-row}
 use Rattle.encoding.proofs.Laws.Neighbours.{lead-range}
 use Rattle.encoding.proofs.Laws.PlainRuns.{run-from, run-plain}
@@ -76,15 +77,26 @@ text-cut w i j h b e =
     sym (ap (λ (t : Bool). t && is_text (drop j w)) e) ∙ sym (text-join (take (j - i) (drop i w)) (drop j w) b)
     ∙ ap (λ (v : List ℕ). is_text (take (j - i) (drop i w) ++ v)) (sym d) ∙ ap is_text (take-append-drop (j - i) (drop i w))
 
+-- the check of a word is the check of its first n bytes, told here, and the check of the others
+pub text-parts : (w : List ℕ) (n : ℕ) {t : Bool} → boundary (drop n w) ≡ true → is_text (take n w) ≡ t → t && is_text (drop n w) ≡ is_text w
+text-parts w n b e = let s : n - 0 ≡ n = omega arith in text-cut w 0 n (omega arith) b (ap (λ (k : ℕ). is_text (take k w)) s ∙ e)
+
 -- the end is a place for a cut
 pub boundary_end : (w : List ℕ) (i : ℕ) → length w ≤ i → boundary (drop i w) ≡ true
 unfolding boundary
 boundary_end w i h = rw (drop_of_length-le w h)
 
--- so is a byte that does not go on with a character
-pub boundary-at : (w : List ℕ) (i : ℕ) {t : Bool} → i < length w → t ≡ continuation (get_or w i 0) → t ≡ false → boundary (drop i w) ≡ true
+-- so is the first byte that does not go on with a character
+boundary-first : (w : List ℕ) → boundary (drop (prefix_len continuation w) w) ≡ true
 unfolding boundary
-boundary-at w i h e f = rw (drop-cons w i 0 h, sym e, f)
+boundary-first [] = refl
+boundary-first (x ∷ xs) =
+    cond_cases (λ (n : ℕ). boundary (drop n (x ∷ xs)) ≡ true) (continuation x)
+    (λ e. let s : 1 + prefix_len continuation xs ≡ suc (prefix_len continuation xs) = omega arith in rw s (boundary-first xs)) (λ e. rw e)
+
+-- from a place on
+pub boundary-past : (w : List ℕ) (i n : ℕ) → n ≡ prefix_len continuation (drop i w) → boundary (drop (i + n) w) ≡ true
+boundary-past w i n e = rw (← drop-drop n i w, e) (boundary-first (drop i w))
 
 -- past the end there is nothing to refuse
 pub text-over : (w : List ℕ) (i : ℕ) → length w ≤ i → true ≡ is_text (drop i w)

@@ -1,17 +1,21 @@
 -- Plain runs: eight bytes as one number, whose top bits tell whether they are plain, and where the run from a place on ends.
 -- Assumes nothing.
-use Prim.Native.Nat.{ℕ, zero, suc, ◌+◌, ◌-◌, ◌*◌, ◌/◌, ◌≤◌, ◌<◌}
+use Prim.Native.Nat.{ℕ, zero, suc, ◌+◌, ◌-◌, ◌*◌, ◌/◌, ◌%◌, ◌≤◌, ◌<◌}
 use mathlib.Core.Path.{◌≡◌, refl, sym, ap, ◌∙◌}
-use mathlib.Core.Bool.{Bool, true, false, ◌&&◌, and_assoc, false≢true}
+use mathlib.Core.Bool.{Bool, true, false, ◌&&◌, and_assoc, and-true, false≢true}
 use mathlib.Core.List.{List, [], ◌∷◌}
 use native.Mathlib.Nat.{zero-add, suc-add, add-zero, add-sub_cancel_left}
 use native.Mathlib.Omega.{arith}
-use lib.ListN.{length, drop, get_or, length-drop}
-use lib.Seq.{drop-cons, drop-drop, get_or-drop}
+use lib.ListN.{length, take, drop, get_or, length-drop}
+use Rattle.std.proofs.lemmas.List.{length-take-le}
+use lib.Seq.{drop-cons, drop-drop}
 use lib.Dec.{ltb, eqb, eqb-suc-zero}
 use lib.Bits.{bit_and, and_block, and_high}
 use borrow.Author.Tests.{lt-ltb, le-ltb, ltb-true, ne_eqb}
-use Rattle.encoding.specs.PlainRuns.{word_bytes, four_words, plain_next, run_in, run_end_of, joined}
+use Rattle.std.specs.Int.{w64, from_le_bytes}
+use Rattle.std.specs.List.{fold, list_all}
+use Rattle.std.specs.Simd.{first_chunks}
+use Rattle.encoding.specs.PlainRuns.{word_bytes, plain_next, run_in, run_end_of, joined}
 use Rattle.encoding.proofs.Laws.Booleans.{and_left, and_right, and-false, cond_cases, lt-or-le}
 
 -- ---- the next n bytes ----
@@ -32,7 +36,7 @@ plain-below (suc n) (b ∷ bs) zero e h = ltb-true b 0x80 (and_left (ltb b 0x80)
 plain-below (suc n) (b ∷ bs) (suc j) e h = plain-below n bs j (and_right (ltb b 0x80) (plain_next n bs) e) (omega arith)
 
 -- where too few are left they are not plain
-plain-short : (n : ℕ) (w : List ℕ) → length w < n → plain_next n w ≡ false
+pub plain-short : (n : ℕ) (w : List ℕ) → length w < n → plain_next n w ≡ false
 unfolding plain_next
 plain-short zero w h = absurd (omega arith)
 plain-short (suc n) [] h = refl
@@ -51,13 +55,12 @@ plain-add (suc m) n (b ∷ bs) =
 plain-on : (m n : ℕ) (w : List ℕ) (i : ℕ) → plain_next (m + n) (drop i w) ≡ plain_next m (drop i w) && plain_next n (drop (i + m) w)
 plain-on m n w i = rw (plain-add m n (drop i w), drop-drop m i w)
 
--- whether the eight from a place on are plain
-abbrev pub plain_from : List ℕ → ℕ → Bool
-plain_from w i = plain_next word_bytes (drop i w)
-
--- four eights
-pub plain-four : (w : List ℕ) (i : ℕ) → plain_next four_words (drop i w) ≡ plain_from w i && plain_from w (i + 8) && plain_from w (i + 16) && plain_from w (i + 24)
-plain-four w i = plain-on 24 8 w i ∙ rw (plain-on 16 8 w i, plain-on 8 8 w i)
+-- whether n bytes are plain is told by these n alone
+plain-taken : (n : ℕ) (w : List ℕ) → plain_next n (take n w) ≡ plain_next n w
+unfolding plain_next
+plain-taken zero w = refl
+plain-taken (suc n) [] = refl
+plain-taken (suc n) (b ∷ bs) = ap (λ (t : Bool). ltb b 0x80 && t) (plain-taken n bs)
 
 -- ---- a word of bytes, and its top bits ----
 
@@ -88,11 +91,11 @@ tops-plain (suc n) (b ∷ bs) f h =
     rw (and_block 8 (joined n bs) (tops n) b 0x80 l (omega arith), zero-both (bit_and (joined n bs) (tops n)) (bit_and b 0x80))
     (rw (top-plain b l, tops-plain n bs (λ j. f (suc j)) (omega arith)))
 
--- the eight from a place on, tested as one number
-pub word-plain : (w : List ℕ) (i x : ℕ) → ((j : ℕ) → get_or w j 0 < 0x100) → i + word_bytes ≤ length w → x ≡ joined word_bytes (drop i w)
-    → eqb (bit_and x 0x8080808080808080) 0 ≡ plain_next word_bytes (drop i w)
+-- eight, tested as one number
+pub word-plain : (w : List ℕ) (x : ℕ) → ((j : ℕ) → get_or w j 0 < 0x100) → length w ≡ word_bytes → x ≡ joined word_bytes w
+    → eqb (bit_and x 0x8080808080808080) 0 ≡ plain_next word_bytes w
 unfolding tops
-word-plain w i x f h e = rw e (tops-plain word_bytes (drop i w) (λ j. rw (get_or-drop i w j 0) (f (i + j))) (omega (arith, length-drop i w)))
+word-plain w x f h e = rw e (tops-plain word_bytes w f (omega arith))
 
 -- the byte at a place and n more from the next on
 joined_at : (n : ℕ) (w : List ℕ) (i j : ℕ) → i < length w → suc i ≡ j → joined (suc n) (drop i w) ≡ joined n (drop j w) * 0x100 + get_or w i 0
@@ -117,13 +120,9 @@ joined-sum w i h =
       joined_at 0 w (i + 7) (i + 8) (omega arith) (omega arith),
     )
 
--- the sum of eight numbers that are these bytes
-pub joined_bytes : (w : List ℕ) (i : ℕ) {x₀ x₁ x₂ x₃ x₄ x₅ x₆ x₇ : ℕ} → i + word_bytes ≤ length w
-    → x₀ ≡ get_or w i 0 → x₁ ≡ get_or w (i + 1) 0 → x₂ ≡ get_or w (i + 2) 0 → x₃ ≡ get_or w (i + 3) 0
-    → x₄ ≡ get_or w (i + 4) 0 → x₅ ≡ get_or w (i + 5) 0 → x₆ ≡ get_or w (i + 6) 0 → x₇ ≡ get_or w (i + 7) 0
-    → x₀ + x₁ * 0x100 + x₂ * 0x10000 + x₃ * 0x1000000 + x₄ * 0x100000000 + x₅ * 0x10000000000 + x₆ * 0x1000000000000 + x₇ * 0x100000000000000
-    ≡ joined word_bytes (drop i w)
-joined_bytes w i h e₀ e₁ e₂ e₃ e₄ e₅ e₆ e₇ = rw (e₀, e₁, e₂, e₃, e₄, e₅, e₆, e₇) (sym (joined-sum w i h))
+-- which is what std makes of them
+pub joined_word : (w : List ℕ) → length w ≡ word_bytes → from_le_bytes w64 w ≡ joined word_bytes w
+joined_word w h = sym (joined-sum w 0 (omega arith))
 
 -- ---- a run at the front ----
 
@@ -158,6 +157,30 @@ unfolding run_in
 run_in-none zero w e = refl
 run_in-none (suc k) w e = rw e
 
+-- ---- eights, some in a turn ----
+
+-- a test of all, made one by one
+pub all-folded : {X : Type 0} (p : X → Bool) (t : Bool) (xs : List X) → fold (λ b x. b && p x) t xs ≡ t && list_all p xs
+all-folded p t [] = sym (and-true t)
+all-folded p t (x ∷ xs) = all-folded p (t && p x) xs ∙ and_assoc t (p x) (list_all p xs)
+
+-- whether the first k eights are plain
+eights-plain : (k : ℕ) (w : List ℕ) → list_all (plain_next word_bytes) (first_chunks word_bytes k w) ≡ plain_next (word_bytes * k) w
+unfolding plain_next
+eights-plain zero w = refl
+eights-plain (suc k) w =
+    let n : word_bytes * suc k ≡ word_bytes + word_bytes * k = omega arith in
+    rw (n, plain-add word_bytes (word_bytes * k) w, plain-taken word_bytes w, eights-plain k (drop word_bytes w)) refl
+
+-- whether n bytes from a place on are, told of their eights, where these are all of them
+pub plain-by-eights : (w : List ℕ) (i n m : ℕ) {r : Bool} {es : List (List ℕ)} → m ≡ n → n % word_bytes ≡ 0 → i + n ≤ length w
+    → es ≡ first_chunks word_bytes (length (take m (drop i w)) / word_bytes) (take m (drop i w)) → r ≡ list_all (plain_next word_bytes) es
+    → r ≡ plain_next n (drop i w)
+plain-by-eights w i n m s e h f q =
+    let l : length (take n (drop i w)) ≡ n = length-take-le n (drop i w) (omega (arith, length-drop i w)) in
+    let k : word_bytes * (n / word_bytes) ≡ n = omega arith in
+    q ∙ ap (list_all (plain_next word_bytes)) f ∙ rw (s, l) (eights-plain (n / word_bytes) (take n (drop i w)) ∙ rw k (plain-taken n (drop i w)))
+
 -- ---- where the run from a place on ends ----
 
 -- at the place or later
@@ -191,12 +214,8 @@ pub run_ends : (w : List ℕ) (i : ℕ) → plain_next word_bytes (drop i w) ≡
 unfolding run_end_of
 run_ends w i e = omega (arith, run_in-none (length (drop i w) / word_bytes) (drop i w) e)
 
--- and where fewer than eight are left
-pub run_short : (w : List ℕ) (i : ℕ) → length w < i + word_bytes → run_end_of w i ≡ i
-run_short w i h = run_ends w i (plain-short word_bytes (drop i w) (omega (arith, length-drop i w)))
-
 -- where they are plain it goes on after them
-pub run_on : (w : List ℕ) (i : ℕ) → plain_next word_bytes (drop i w) ≡ true → run_end_of w (i + word_bytes) ≡ run_end_of w i
+run_on : (w : List ℕ) (i : ℕ) → plain_next word_bytes (drop i w) ≡ true → run_end_of w (i + word_bytes) ≡ run_end_of w i
 unfolding run_end_of run_in
 run_on w i e =
     let k : length (drop i w) / word_bytes ≡ suc (length (drop (i + word_bytes) w) / word_bytes) =
@@ -204,7 +223,7 @@ run_on w i e =
     rw (k, e, drop-drop word_bytes i w) (omega arith)
 
 -- and after any number of eights
-pub run-on-eights : (k : ℕ) (w : List ℕ) (i : ℕ) → plain_next (k * word_bytes) (drop i w) ≡ true → run_end_of w (i + k * word_bytes) ≡ run_end_of w i
+run-on-eights : (k : ℕ) (w : List ℕ) (i : ℕ) → plain_next (k * word_bytes) (drop i w) ≡ true → run_end_of w (i + k * word_bytes) ≡ run_end_of w i
 run-on-eights zero w i e = ap (run_end_of w) (add-zero i)
 run-on-eights (suc k) w i e =
     let n : suc k * word_bytes ≡ k * word_bytes + word_bytes = omega arith in
@@ -212,3 +231,9 @@ run-on-eights (suc k) w i e =
     let f = sym (plain-on (k * word_bytes) word_bytes w i) ∙ (rw n at e) in
     ap (run_end_of w) m ∙ run_on w (i + k * word_bytes) (and_right (plain_next (k * word_bytes) (drop i w)) _ f)
     ∙ run-on-eights k w i (and_left (plain_next (k * word_bytes) (drop i w)) _ f)
+
+-- after any number of bytes that is whole eights
+pub run-on-bytes : (w : List ℕ) (i n : ℕ) → n % word_bytes ≡ 0 → plain_next n (drop i w) ≡ true → run_end_of w (i + n) ≡ run_end_of w i
+run-on-bytes w i n e f =
+    let m : n / word_bytes * word_bytes ≡ n = omega arith in
+    sym (ap (λ (k : ℕ). run_end_of w (i + k)) m) ∙ run-on-eights (n / word_bytes) w i (rw m f)

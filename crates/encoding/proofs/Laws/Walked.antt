@@ -43,11 +43,9 @@ walked-less w i j h e =
     let s : j + (i - j) ≡ i = omega arith in
     and_left (short_next j 0 w) _ (sym (next-join j (i - j) 0 w) ∙ ap (walked w) s ∙ e)
 
--- a walk to one place and a second to another, which begins where the first ends or before
-pub walked_to : (w : List ℕ) (i j k : ℕ) → j ≤ i → j ≤ k → walked w i ≡ true → short_next (k - j) (byte_before w j) (drop j w) ≡ true → walked w k ≡ true
-walked_to w i j k h l e f =
-    let s : j + (k - j) ≡ k = omega arith in
-    sym (ap (walked w) s) ∙ walked_on w j (k - j) (walked-less w i j h e) f
+-- a walk to one place and a second of m bytes to another, which begins where the first ends or before
+pub walked_to : (w : List ℕ) (i j m k : ℕ) → j ≤ i → j + m ≡ k → walked w i ≡ true → short_next m (byte_before w j) (drop j w) ≡ true → walked w k ≡ true
+walked_to w i j m k h s e f = sym (ap (walked w) s) ∙ walked_on w j m (walked-less w i j h e) f
 
 -- the first byte
 pub walked-first : (w : List ℕ) → 0 < length w → short_begins (get_or w 0 0) ≡ true → walked w 1 ≡ true

@@ -4,6 +4,4 @@ use Rattle.encoding.proofs.Laws.PlainRuns.{word-plain}
 use Rattle.encoding.proofs.plain.is_plain.Goals as goal
 
 pub returns : goal.returns
-returns c =
-    word-plain c.args.w.now c.args.i c.join.result (λ j. omega (arith, c.type_inv.w j)) c.requires
-    c.join.ensures
+returns c = word-plain c.args.eight.now c.join.result (λ j. omega (arith, c.fits-eight j)) c.told-eight c.join.ensures

@@ -1,17 +1,11 @@
 -- `encoding::short::each_follows` meets its contract: the loop's invariant: what passed so far and the walk from the place are the walk
--- from the start. The measure is what is left of the word. Assumes nothing.
+-- from the start. Assumes nothing.
+use mathlib.Core.Path.{◌∙◌}
 use Rattle.encoding.proofs.Laws.Neighbours.{short-at, short-end}
-use mathlib.Core.Path.{refl, ◌∙◌}
-use native.Mathlib.Omega.{arith}
 use Rattle.encoding.proofs.short.each_follows.Goals as goal
 
-pub loop-i-init : goal.loop-i-init
-loop-i-init c = (omega arith, refl)
-
-pub loop-i-preserved : goal.loop-i-preserved
-loop-i-preserved c =
-    let l = c.loop-i in
-    (omega arith, short-at c.args.w.now _ _ l.ok _ c.loop-i-test.true c.may_follow-ok.ensures ∙ l.invariant.1)
+pub loop-x-preserved : goal.loop-x-preserved
+loop-x-preserved c = let l = c.loop-x in short-at c.args.w.now _ _ l.ok _ c.loop-x-test.true c.may_follow-ok.ensures ∙ l.invariant
 
 pub returns : goal.returns
-returns c = short-end c.args.w.now _ c.loop-i.a c.loop-i.ok c.loop-i-test.false ∙ c.loop-i.invariant.1
+returns c = let l = c.loop-x in short-end c.args.w.now _ l.a l.ok c.loop-x-test.false ∙ l.invariant

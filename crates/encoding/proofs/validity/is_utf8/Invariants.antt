@@ -1,13 +1,12 @@
--- `encoding::validity::is_utf8` meets its contract. The loop's invariant: the check from the place on is the check of the word. The measure
--- is what is left of it. Assumes nothing.
-use Prim.Native.Nat.{◌-◌, ◌≤◌}
+-- `encoding::validity::is_utf8` meets its contract. The loop's invariant: the check of the rest is the check of the word. The measure is
+-- the rest's length. Assumes nothing.
 use mathlib.Core.Path.{◌≡◌}
-use lib.ListN.{length, drop}
+use lib.ListN.{length}
 use Rattle.encoding.specs.Validity.{is_text}
 use Rattle.encoding.proofs.validity.is_utf8.Given as goal
 
-abbrev pub invariant-loop-i : goal.invariant-loop-i
-invariant-loop-i l = (l.i ≤ length l.w) × (is_text (drop l.i l.w) ≡ is_text l.w)
+abbrev pub invariant-loop-rest : goal.invariant-loop-rest
+invariant-loop-rest l = is_text l.rest ≡ is_text l.w
 
-abbrev pub decreases-loop-i : goal.decreases-loop-i
-decreases-loop-i l = length l.w - l.i
+abbrev pub decreases-loop-rest : goal.decreases-loop-rest
+decreases-loop-rest l = length l.rest
