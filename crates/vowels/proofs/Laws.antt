@@ -1,6 +1,6 @@
 -- The laws that the functions' proofs cite, a file for each thing that they are about.
-pub mod Sounds
+pub mod Vowel
 pub mod Walk
 pub mod LastVowel
 pub mod Found
-pub mod Accord
+pub mod Harmony

@@ -1,4 +1,4 @@
 -- How the code holds vowels and what harmony found. No promise to a host rests on these.
-pub mod Sounds
+pub mod Vowel
 pub mod LastVowel
-pub mod Accord
+pub mod Harmony

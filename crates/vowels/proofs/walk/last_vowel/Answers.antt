@@ -29,8 +29,8 @@ gopast-preserved c =
 pub returns-then-at-eq0 : goal.returns-then-at-eq0
 returns-then-at-eq0 c = last_vowel_answer-none _ _ c.if-at-eq0.true ∙ c.gopast.invariant.1
 
-pub returns-then-is_vowel : goal.returns-then-is_vowel
-returns-then-is_vowel c =
+pub returns : goal.returns
+returns c =
     let width = c.last_width-n.ensures in
     let step = before-char_at _ _ _ _ c.if-at-eq0.false width c.char_at-ch.ensures in
     let is = sym c.is_vowel.ensures ∙ c.if-is_vowel.true in

@@ -1,7 +1,7 @@
 -- `vowels::vowel::Vowel::encode` meets its contract: a vowel has one byte or two, as its code point is below 80 (hexadecimal) or not.
 -- Assumes nothing.
 use native.Mathlib.Omega.{arith}
-use Rattle.vowels.proofs.Laws.Sounds.{vowel-short, encoded_of-one, encoded_of-two}
+use Rattle.vowels.proofs.Laws.Vowel.{vowel-short, encoded_of-one, encoded_of-two}
 use Rattle.vowels.proofs.vowel.Vowel.encode.Goals as goal
 
 pub returns-then-ch-lt128 : goal.returns-then-ch-lt128
