@@ -26,7 +26,8 @@ use Rattle.turkish.specs.Letters.{text, from_end, any, has, starts}
 use Rattle.turkish.specs.Vowels.{vowels, vowel}
 use Rattle.theorems.specs.Simple.Grammar.{fail, took, more, after, asking, among, optional, joining, mark_of}
 use Rattle.theorems.specs.Simple.Marks.{by_y, marked, yken}
-use Rattle.keys.specs.Passed.{passed_to, not_passed_of, passes}
+use Rattle.std.specs.Prelude.{Some, None}
+use Rattle.keys.specs.Passed.{passes}
 use Rattle.keys.proofs.Laws.Optional.{optional-get_or}
 use Rattle.keys.proofs.Laws.Literal.{ascii, ascii-reverse_aux, last_width_of-char, literal-chars}
 
@@ -136,7 +137,7 @@ module _ (w : List ℕ) (c : Cursor) (o : Open w c) (k : Over) (is : k ≡ over 
   next-is = rw here-is (ap (λ (x : Over). x.next) is)
 
   -- without `ken` the mark fails
-  pub yken-keyless : k.literal ≡ false → not_passed_of ≡ passes w c (mark_of yken (behind w c))
+  pub yken-keyless : k.literal ≡ false → None ≡ passes w c (mark_of yken (behind w c))
   unfolding ascii passes
   yken-keyless e =
       let none : starts (reverse ken) (behind w c) ≡ false = sym (literal-is ∙ eq_s_b_of-starts w ken c o refl) ∙ e in
@@ -185,18 +186,18 @@ module _ (w : List ℕ) (c : Cursor) (o : Open w c) (k : Over) (is : k ≡ over 
     last_step = previous_char_of-behind w k.here (rw here-back_by (open-back_by w c (3 + cond k.joined 1 0) o))
 
     -- the mark by the fifth character and that record
-    yken-key : passes w c (mark_of yken (behind w c)) ≡ cond (vowel (get_or (behind w c) 4 0)) (passed_to k.here.cursor) not_passed_of
+    yken-key : passes w c (mark_of yken (behind w c)) ≡ cond (vowel (get_or (behind w c) 4 0)) (Some k.here.cursor) None
     unfolding more passes
     yken-key =
         rw (mark_of-yken (behind w c), ken-starts, optional-get_or 0x79 (drop 3 (behind w c)), ← starts-y, ← y-starts, get_or-drop 3 (behind w c) 1 0, here-back_by)
         (go (vowel (get_or (behind w c) 4 0)) (cond k.joined 1 0))
       where
-        go : (t : Bool) (n : ℕ) → passes w c (more 3 true (cond t (took n true) fail)) ≡ cond t (passed_to (back_by w c (3 + n)).cursor) not_passed_of
+        go : (t : Bool) (n : ℕ) → passes w c (more 3 true (cond t (took n true) fail)) ≡ cond t (Some (back_by w c (3 + n)).cursor) None
         go true n = refl
         go false n = refl
 
     -- where no character stands before `ken` and the y, there is no fifth, and the mark fails
-    pub yken-short : k.character ≡ false → not_passed_of ≡ passes w c (mark_of yken (behind w c))
+    pub yken-short : k.character ≡ false → None ≡ passes w c (mark_of yken (behind w c))
     unfolding vowel vowels has any text
     yken-short f = sym (yken-key ∙ rw (none (3 + cond k.joined 1 0) (far k.joined) here-back_by))
       where
@@ -227,10 +228,10 @@ module _ (w : List ℕ) (c : Cursor) (o : Open w c) (k : Over) (is : k ≡ over 
 
     -- the mark after a y, by whether the character passed, v, is a vowel
     pub yken-joined : k.joined ≡ true → k.character ≡ true → {v : ℕ} → v ≡ char_at w k.next.cursor (k.here.cursor - k.next.cursor)
-        → (t : Bool) → vowel v ≡ t → cond t (passed_to k.here.cursor) not_passed_of ≡ passes w c (mark_of yken (behind w c))
+        → (t : Bool) → vowel v ≡ t → cond t (Some k.here.cursor) None ≡ passes w c (mark_of yken (behind w c))
     yken-joined j f d t h = sym (yken-key ∙ rw (← fifth-joined j f, ← d, h))
 
     -- and without one, by whether the next, v, is
     pub yken-apart : k.joined ≡ false → {v : ℕ} → v ≡ (previous_char_of w k.next).ch
-        → (t : Bool) → vowel v ≡ t → cond t (passed_to k.here.cursor) not_passed_of ≡ passes w c (mark_of yken (behind w c))
+        → (t : Bool) → vowel v ≡ t → cond t (Some k.here.cursor) None ≡ passes w c (mark_of yken (behind w c))
     yken-apart j d t h = sym (yken-key ∙ rw (← fifth-apart j, ← d, h))

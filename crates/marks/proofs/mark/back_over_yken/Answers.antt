@@ -5,17 +5,14 @@ use mathlib.Core.Bool.{true, false}
 use native.Mathlib.Omega.{arith}
 use borrow.Author.Tests.{not-true, not-false}
 use Rattle.utf8.specs.declared.step.Step.{Step}
-use Rattle.keys.specs.Passed.{not_passed_of}
 use Rattle.marks.proofs.Laws.Yken.{yken-keyless, yken-bytes, yken-short, yken-joined, yken-apart}
 use Rattle.marks.proofs.mark.back_over_yken.Goals as goal
 
 pub returns-then-not-k : goal.returns-then-not-k
-unfolding not_passed_of
 returns-then-not-k c =
     yken-keyless c.args.w.now c.args.c c.requires c.back_over-k.result c.back_over-k.ensures (not-true _ c.if-not-k.true)
 
 pub returns-then-not-k-2 : goal.returns-then-not-k-2
-unfolding not_passed_of
 returns-then-not-k-2 c =
     yken-short c.args.w.now c.args.c c.requires c.back_over-k.result c.back_over-k.ensures (not-false _ c.if-not-k.false) (not-true _ c.if-not-k-2.true)
 
@@ -28,26 +25,22 @@ char_at-v-requires c =
     yken-bytes c.args.w.now c.args.c c.requires c.back_over-k.result c.back_over-k.ensures (not-false _ c.if-not-k-2.false)
 
 pub returns-then-not-is_vowel : goal.returns-then-not-is_vowel
-unfolding not_passed_of
 returns-then-not-is_vowel c =
     yken-joined c.args.w.now c.args.c c.requires c.back_over-k.result c.back_over-k.ensures
     (not-false _ c.if-not-k.false) c.if-k.true (not-false _ c.if-not-k-2.false) c.char_at-v.ensures false (sym c.is_vowel.ensures ∙ not-true _ c.if-not-is_vowel.true-raw)
 
 pub returns-then-k : goal.returns-then-k
-unfolding not_passed_of
 returns-then-k c =
-    c.to.ensures ∙ yken-joined c.args.w.now c.args.c c.requires c.back_over-k.result c.back_over-k.ensures
+    yken-joined c.args.w.now c.args.c c.requires c.back_over-k.result c.back_over-k.ensures
     (not-false _ c.if-not-k.false) c.if-k.true (not-false _ c.if-not-k-2.false) c.char_at-v.ensures true (sym c.is_vowel.ensures ∙ not-false _ c.if-not-is_vowel.false-raw)
 
 pub returns-then-not-is_vowel-2 : goal.returns-then-not-is_vowel-2
-unfolding not_passed_of
 returns-then-not-is_vowel-2 c =
     yken-apart c.args.w.now c.args.c c.requires c.back_over-k.result c.back_over-k.ensures
     (not-false _ c.if-not-k.false) c.if-k.false (ap (λ (x : Step). x.ch) c.previous_char-p.ensures) false (sym c.is_vowel-2.ensures ∙ not-true _ c.if-not-is_vowel-2.true-raw)
 
 pub returns : goal.returns
-unfolding not_passed_of
 returns c =
-    c.to-2.ensures ∙ yken-apart c.args.w.now c.args.c c.requires c.back_over-k.result c.back_over-k.ensures
+    yken-apart c.args.w.now c.args.c c.requires c.back_over-k.result c.back_over-k.ensures
     (not-false _ c.if-not-k.false) c.if-k.false (ap (λ (x : Step). x.ch) c.previous_char-p.ensures) true
     (sym c.is_vowel-2.ensures ∙ not-false _ c.if-not-is_vowel-2.false-raw)

@@ -5,49 +5,49 @@ use borrow.Author.Tests.{ne_eqb}
 use Rattle.turkish.specs.Letters.{text, from_end}
 use Rattle.theorems.specs.Simple.Marks.{marked, yDU}
 use Rattle.keys.specs.Ends.{ending_in}
-use Rattle.keys.specs.Keys.{up_to_zero, row, rows_within, rows}
+use Rattle.keys.specs.Keys.{up_to_zero, rows}
 use Rattle.keys.specs.Search.{found_from, found}
 use Rattle.marks.proofs.mark.find_yDU.Goals as goal
 
 pub returns-in-105 : goal.returns-in-105
-unfolding rows rows_within row up_to_zero ending_in yDU marked from_end text
+unfolding rows up_to_zero ending_in yDU marked from_end text
 returns-in-105 c =
     c.find_among_b.ensures ∙ ap (λ (a : ℕ). found (ending_in a yDU.keys) c.args.w.now c.args.s.c) (sym c.in-105.is)
 
 pub returns-in-107 : goal.returns-in-107
-unfolding rows rows_within row up_to_zero ending_in yDU marked from_end text
+unfolding rows up_to_zero ending_in yDU marked from_end text
 returns-in-107 c =
     c.find_among_b-in-107.ensures ∙ ap (λ (a : ℕ). found (ending_in a yDU.keys) c.args.w.now c.args.s.c) (sym c.in-107.is)
 
 pub returns-in-109 : goal.returns-in-109
-unfolding rows rows_within row up_to_zero ending_in yDU marked from_end text
+unfolding rows up_to_zero ending_in yDU marked from_end text
 returns-in-109 c =
     c.find_among_b-in-109.ensures ∙ ap (λ (a : ℕ). found (ending_in a yDU.keys) c.args.w.now c.args.s.c) (sym c.in-109.is)
 
 pub returns-in-110 : goal.returns-in-110
-unfolding rows rows_within row up_to_zero ending_in yDU marked from_end text
+unfolding rows up_to_zero ending_in yDU marked from_end text
 returns-in-110 c =
     c.find_among_b-in-110.ensures ∙ ap (λ (a : ℕ). found (ending_in a yDU.keys) c.args.w.now c.args.s.c) (sym c.in-110.is)
 
 pub returns-in-117 : goal.returns-in-117
-unfolding rows rows_within row up_to_zero ending_in yDU marked from_end text
+unfolding rows up_to_zero ending_in yDU marked from_end text
 returns-in-117 c =
     c.find_among_b-in-117.ensures ∙ ap (λ (a : ℕ). found (ending_in a yDU.keys) c.args.w.now c.args.s.c) (sym c.in-117.is)
 
 pub returns-in-305 : goal.returns-in-305
-unfolding rows rows_within row up_to_zero ending_in yDU marked from_end text
+unfolding rows up_to_zero ending_in yDU marked from_end text
 returns-in-305 c =
     c.find_among_b-in-305.ensures ∙ ap (λ (a : ℕ). found (ending_in a yDU.keys) c.args.w.now c.args.s.c) (sym c.in-305.is)
 
 pub returns-in-252 : goal.returns-in-252
-unfolding rows rows_within row up_to_zero ending_in yDU marked from_end text
+unfolding rows up_to_zero ending_in yDU marked from_end text
 returns-in-252 c =
     c.find_among_b-in-252.ensures ∙ ap (λ (a : ℕ). found (ending_in a yDU.keys) c.args.w.now c.args.s.c) (sym c.in-252.is)
 
 pub returns-in_default : goal.returns-in_default
 unfolding found found_from ending_in yDU marked from_end text
 returns-in_default c =
-    let a = c.args.s.last in
+    let a = c.args.s.ending.last in
     let r7 = c.in_default.in_default-own.rest in
     let r4 = r7.0.0.0 in
     simp (

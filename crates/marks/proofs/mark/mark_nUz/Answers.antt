@@ -1,13 +1,13 @@
 -- `marks::mark::mark_nUz` meets its contract: by the last letter, else by the key found in its table, the key alone and harmony. Assumes nothing.
-use mathlib.Core.Path.{◌≡◌, refl}
+use mathlib.Core.Path.{refl}
 use lib.Dec.{eqb}
 use borrow.Author.Tests.{ne_eqb}
 use Rattle.turkish.specs.Letters.{text, from_end}
 use Rattle.theorems.specs.Simple.Marks.{unjoined, marked, nUz}
 use Rattle.theorems.proofs.Laws.Tests.{every}
-use Rattle.keys.specs.Keys.{up_to_zero, row, rows_within, rows}
-use Rattle.keys.specs.Search.{found}
+use Rattle.keys.specs.Keys.{up_to_zero, rows}
 use Rattle.keys.proofs.Laws.Ends.{last_passes, begins}
+use Rattle.marks.specs.Reach.{mark_numbered}
 use Rattle.marks.proofs.Laws.Marks.{mark-unfit, mark-nothing, mark-in-harmony, key-alone}
 use Rattle.marks.proofs.mark.mark_nUz.Goals as goal
 
@@ -16,16 +16,11 @@ unfolding begins every last_passes nUz marked from_end text
 returns-then-s-ne122 c = mark-unfit nUz (λ a. eqb a 0x7A) refl _ c.args.s c.requires (ne_eqb _ 0x7A c.if-s-ne122.true)
 
 pub returns-in_default : goal.returns-in_default
-unfolding rows rows_within row up_to_zero nUz marked from_end text
-returns-in_default c =
-    let searched : c.find_among_b.result ≡ found nUz.keys c.args.w.now c.args.s.c =
-    c.find_among_b.ensures in
-    mark-nothing nUz nUz.keys _ _ refl (searched) c.in_default.is
+unfolding nUz marked rows up_to_zero from_end text
+returns-in_default c = mark-nothing nUz _ _ _ c.find_among_b.ensures refl c.in_default.is
 
 pub returns : goal.returns
-unfolding unjoined nUz marked rows rows_within row up_to_zero from_end text
+unfolding unjoined mark_numbered nUz marked rows up_to_zero from_end text
 returns c =
-    let searched : c.find_among_b.result ≡ found nUz.keys c.args.w.now c.args.s.c =
-    c.find_among_b.ensures in
-    let p = key-alone nUz nUz.keys _ _ refl (searched) c.in-Key.is refl refl in
+    let p = key-alone nUz _ _ _ c.find_among_b.ensures refl c.in-Some.is refl in
     mark-in-harmony nUz _ _ p refl c.in_harmony.ensures

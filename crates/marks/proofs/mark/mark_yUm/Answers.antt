@@ -1,14 +1,14 @@
 -- `marks::mark::mark_yUm` meets its contract: by the last letter, else by the key found in its table, what joins it and harmony. Assumes nothing.
-use mathlib.Core.Path.{◌≡◌, refl}
+use mathlib.Core.Path.{refl}
 use lib.Dec.{eqb}
 use borrow.Author.Tests.{ne_eqb}
 use Rattle.turkish.specs.Letters.{text, from_end}
 use Rattle.theorems.specs.Simple.Grammar.{joining}
 use Rattle.theorems.specs.Simple.Marks.{by_y, marked, yUm}
 use Rattle.theorems.proofs.Laws.Tests.{every}
-use Rattle.keys.specs.Keys.{up_to_zero, row, rows_within, rows}
-use Rattle.keys.specs.Search.{found}
+use Rattle.keys.specs.Keys.{up_to_zero, rows}
 use Rattle.keys.proofs.Laws.Ends.{last_passes, begins}
+use Rattle.marks.specs.Reach.{mark_numbered}
 use Rattle.marks.proofs.Laws.Marks.{mark-unfit, mark-nothing, mark-in-harmony, key-open, key-joined}
 use Rattle.marks.proofs.mark.mark_yUm.Goals as goal
 
@@ -17,24 +17,15 @@ unfolding begins every last_passes yUm marked from_end text
 returns-then-s-ne109 c = mark-unfit yUm (λ a. eqb a 0x6D) refl _ c.args.s c.requires (ne_eqb _ 0x6D c.if-s-ne109.true)
 
 pub returns-in_default : goal.returns-in_default
-unfolding rows rows_within row up_to_zero yUm marked from_end text
-returns-in_default c =
-    let searched : c.find_among_b.result ≡ found yUm.keys c.args.w.now c.args.s.c =
-    c.find_among_b.ensures in
-    mark-nothing yUm yUm.keys _ _ refl (searched) c.in_default.is
+unfolding yUm marked rows up_to_zero from_end text
+returns-in_default c = mark-nothing yUm _ _ _ c.find_among_b.ensures refl c.in_default.is
 
 pub mark_suffix_with_optional_consonant-p-requires : goal.mark_suffix_with_optional_consonant-p-requires
-unfolding rows rows_within row up_to_zero yUm marked from_end text
-mark_suffix_with_optional_consonant-p-requires c =
-    let searched : c.find_among_b.result ≡ found yUm.keys c.args.w.now c.args.s.c =
-    c.find_among_b.ensures in
-    key-open yUm yUm.keys _ _ refl (searched) c.in-Key.is c.requires.opens
+unfolding yUm marked rows up_to_zero from_end text
+mark_suffix_with_optional_consonant-p-requires c = key-open yUm _ _ _ c.find_among_b.ensures refl c.in-Some.is c.requires.opens
 
 pub returns : goal.returns
-unfolding joining by_y yUm marked text rows rows_within row up_to_zero from_end
+unfolding joining by_y mark_numbered yUm marked rows up_to_zero from_end text
 returns c =
-    let searched : c.find_among_b.result ≡ found yUm.keys c.args.w.now c.args.s.c =
-    c.find_among_b.ensures in
-    let p = key-joined yUm yUm.keys _ _ refl (searched) c.in-Key.is
-    c.mark_suffix_with_optional_consonant-p.ensures in
+    let p = key-joined yUm _ _ _ c.find_among_b.ensures refl c.in-Some.is c.mark_suffix_with_optional_consonant-p.ensures in
     mark-in-harmony yUm _ _ p refl c.kept_in_harmony.ensures

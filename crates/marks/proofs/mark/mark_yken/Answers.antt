@@ -7,6 +7,7 @@ use Rattle.theorems.specs.Simple.Grammar.{mark_of, asking}
 use Rattle.theorems.specs.Simple.Marks.{marked, yken}
 use Rattle.theorems.proofs.Laws.Tests.{every}
 use Rattle.keys.proofs.Laws.Ends.{last_passes, begins}
+use Rattle.marks.specs.Reach.{mark_numbered}
 use Rattle.marks.proofs.Laws.Marks.{keyed, mark-unfit, mark-kept}
 use Rattle.marks.proofs.mark.mark_yken.Goals as goal
 
@@ -15,5 +16,5 @@ unfolding begins every last_passes yken marked from_end text
 returns-then-s-ne110 c = mark-unfit yken (λ a. eqb a 0x6E) refl _ c.args.s c.requires (ne_eqb _ 0x6E c.if-s-ne110.true)
 
 pub returns : goal.returns
-unfolding mark_of asking keyed yken marked
+unfolding mark_of asking keyed mark_numbered yken marked
 returns c = mark-kept yken _ _ c.back_over_yken.ensures refl c.kept.ensures
