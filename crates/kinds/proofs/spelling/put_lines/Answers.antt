@@ -1,9 +1,8 @@
 -- `kinds::spelling::put_lines` meets its contract: each line is written behind those before it, and has room there. Assumes nothing.
 use mathlib.Core.Path.{refl}
 use native.Mathlib.Omega.{arith}
-use lib.ListN.{take, length-take}
-use lib.Seq.{take_all}
-use Rattle.turkish.specs.PieceCalls.{unused, most_pieces, text_of}
+use lib.ListN.{take}
+use Rattle.turkish.specs.PieceCalls.{unused, text_of}
 use Rattle.kinds.proofs.Laws.Written.{written-nothing}
 use Rattle.kinds.proofs.Laws.Spelling.{text_of-room, put-piece_line, inside-entry}
 use Rattle.kinds.proofs.spelling.put_lines.Goals as goal
