@@ -4,7 +4,7 @@ use Rattle.std.specs.Prelude.{ℕ, ◌*◌, cond, List, [], ◌∷◌, ◌++◌,
 use Rattle.encoding.specs.Encoding.{encode_all}
 use Rattle.turkish.specs.declared.summary.Summary.{Summary}
 use Rattle.turkish.specs.Vowels.{vowels}
-use Rattle.vowels.specs.Sounds.{vowel_numbered, most_vowel_bytes}
+use Rattle.vowels.specs.Vowel.{vowel_numbered, most_vowel_bytes}
 
 -- of vowels with their counts those that are counted
 unfoldable pub counted : List ℕ → List ℕ → List ℕ

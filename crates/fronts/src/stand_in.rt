@@ -3,12 +3,12 @@
 ghost use Rattle.std.specs.Prelude.{◌≡◌, ◌+◌, ◌≤◌, length};
 ghost use Rattle.encoding.specs.Encoding.{encode_all};
 ghost use Rattle.writing.specs.Put.{put};
-ghost use Rattle.vowels.specs.Sounds.{vowel_numbered, most_vowel_bytes};
+ghost use Rattle.vowels.specs.Vowel.{vowel_numbered, most_vowel_bytes};
 ghost use Rattle.fronts.specs.StandIn.{stand_in_of, stand_in_room};
 
 use turkish::summary::Summary;
-use vowels::vowel::{Sound, Vowel};
-use writing::put;
+use vowels::vowel::Vowel;
+use writing::letter::Letter;
 
 // Writes the vowel of a number at place `at`, nothing where it has none, and gives the place after it.
 fn put_vowel(out: &mut [u8], at: usize, number: usize) -> usize
@@ -16,12 +16,10 @@ fn put_vowel(out: &mut [u8], at: usize, number: usize) -> usize
     ensures value { result ≡ at + length (encode_all (vowel_numbered number)) }
     ensures out_after { out.new ≡ put at (encode_all (vowel_numbered number)) out.old }
 {
-    let Sound::AVowel(v) = Vowel::numbered(number) else {
+    let Some(v) = Vowel::numbered(number) else {
         return at;
     };
-    let letter = v.encode();
-    let bytes = letter.bytes;
-    put::put_bytes(out, at, &bytes, letter.n)
+    Letter::of(v.ch).put(out, at)
 }
 
 // Writes the stand-in for the fronts of a summary, and gives its length: each vowel that is counted, once, and the last one.
@@ -31,12 +29,10 @@ pub fn put_stand_in(s: Summary, out: &mut [u8]) -> usize
     ensures out_after { out.new ≡ put 0 (stand_in_of s) out.old }
 {
     let mut at = 0;
-    let mut k = 0;
-    while k < 8 {
+    for k in 0..8 {
         if s.counts[k] != 0 {
             at = put_vowel(out, at, k + 1);
         }
-        k += 1;
     }
     put_vowel(out, at, s.last)
 }

@@ -7,7 +7,7 @@ ghost use Rattle.fronts.specs.Counted.{Countable, Counted};
 use turkish::summary::Summary;
 use utf8::cursor::Cursor;
 use utf8::step;
-use vowels::vowel::{Sound, Vowel};
+use vowels::vowel::Vowel;
 
 // The counts with that of the vowel of a number one greater; 0 is no vowel's.
 fn raise(counts: [usize; 8], number: usize) -> [usize; 8]
@@ -27,13 +27,12 @@ fn add(s: Summary, ch: u32) -> Summary
     requires { Counted s }
     ensures { result ≡ added ch s }
 {
-    let Sound::AVowel(v) = Vowel::of(ch) else {
+    let Some(v) = Vowel::of(ch) else {
         return s;
     };
-    let counts = s.counts;
     Summary {
         last: v.number,
-        counts: raise(counts, s.last),
+        counts: raise(s.counts, s.last),
     }
 }
 

@@ -10,7 +10,8 @@ pub fn more_than_one_syllable_word(w: &[u8], c: usize) -> bool
     requires { c ≤ length w.now }
     ensures { result ≡ more_than_one_syllable (before w.now c) }
 {
-    let last = walk::last_vowel(w, c);
-    let other = walk::last_vowel(w, last.at);
-    other.ch != 0
+    let Some(last) = walk::last_vowel(w, c) else {
+        return false;
+    };
+    walk::last_vowel(w, last.at).is_some()
 }

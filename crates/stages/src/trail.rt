@@ -1,80 +1,112 @@
 // The marks that a branch keeps, as the suffix stage holds them on the way: up to three, in order of running; and what the first of them found
 // that tests harmony.
 ghost use Rattle.std.specs.Prelude.{◌≡◌};
-ghost use Rattle.stages.specs.Trail.{behind_trail, behind_way};
+ghost use Rattle.stages.specs.Trail.{stop_at, behind_way, one_mark, behind_branch, cut};
 
+use marks::marked::{Mark, Marked};
 use utf8::cursor::Cursor;
-use vowels::harmony::Accord;
+use vowels::harmony::Harmony;
 
-// A mark kept: its number, and the place at which it begins; both 0 where there is none.
+// A mark kept: which it is, and the place at which it begins.
 #[derive(Clone, Copy)]
 pub struct Stop {
-    pub kind: u32,
+    pub kind: Mark,
     pub at: usize,
 }
 
 impl Stop {
-    pub const NONE: Stop = Stop { kind: 0, at: 0 };
+    // A mark's, if it is one of the suffix stage.
+    #[tactic(auto, unfolding(crate::specs::Trail::stop_at))]
+    fn of(m: Marked) -> Option<Stop>
+        ensures { result ≡ stop_at m.kind m.before.cursor }
+    {
+        let kind = m.kind?;
+        Some(Stop {
+            kind,
+            at: m.before.cursor,
+        })
+    }
 }
 
 // The first of them ends at the word's end, each further one where the one before it begins.
 #[derive(Clone, Copy)]
 pub struct Trail {
-    pub first: Stop,
-    pub second: Stop,
-    pub third: Stop,
-}
-
-impl Trail {
-    pub const NONE: Trail = Trail {
-        first: Stop::NONE,
-        second: Stop::NONE,
-        third: Stop::NONE,
-    };
-
-    // The same marks behind one that was kept before them.
-    pub fn behind(self, kind: u32, at: usize) -> Trail
-        ensures { result ≡ behind_trail kind at self }
-    {
-        let a = self.first;
-        let b = self.second;
-        Trail {
-            first: Stop { kind, at },
-            second: a,
-            third: b,
-        }
-    }
+    pub first: Option<Stop>,
+    pub second: Option<Stop>,
+    pub third: Option<Stop>,
 }
 
 // What a branch keeps on its way: its marks, and what the first of them found that tests harmony.
 #[derive(Clone, Copy)]
 pub struct Way {
     pub trail: Trail,
-    pub heard: Accord,
+    pub heard: Option<Harmony>,
 }
 
 impl Way {
     pub const NONE: Way = Way {
-        trail: Trail::NONE,
-        heard: Accord::UNASKED,
+        trail: Trail {
+            first: None,
+            second: None,
+            third: None,
+        },
+        heard: None,
     };
 
-    // The same behind one mark that was kept before, and what that one found.
-    pub fn behind(self, kind: u32, at: usize, told: Accord) -> Way
-        ensures { result ≡ behind_way kind at told self }
+    // The same behind one mark that was kept before.
+    #[tactic(auto, unfolding(crate::specs::Trail::behind_way))]
+    fn behind(self, m: Marked) -> Way
+        ensures { result ≡ behind_way m self }
     {
-        let t = self.trail;
-        let h = self.heard;
         Way {
-            trail: t.behind(kind, at),
-            heard: told.or_else(h),
+            trail: Trail {
+                first: Stop::of(m),
+                second: self.trail.first,
+                third: self.trail.second,
+            },
+            heard: m.heard.or(self.heard),
         }
     }
 }
 
-// A branch's answer: the record after it and what it keeps, or that it does not fit.
+// A branch's answer where it fits: the record after it and what it keeps.
 #[derive(Clone, Copy)]
-pub enum Branch {
-    Fits(Cursor, Way),
-    Unfit,
+pub struct Branch {
+    pub end: Cursor,
+    pub way: Way,
+}
+
+impl Branch {
+    // One mark alone.
+    #[tactic(auto, unfolding(crate::specs::Trail::one_mark, crate::specs::Trail::no_way, crate::specs::Trail::no_trail))]
+    pub fn of(m: Marked) -> Branch
+        ensures { result ≡ one_mark m }
+    {
+        Branch {
+            end: m.before,
+            way: Way::NONE.behind(m),
+        }
+    }
+
+    // The same behind one mark that was kept before.
+    #[tactic(auto, unfolding(crate::specs::Trail::behind_branch))]
+    pub fn behind(self, m: Marked) -> Branch
+        ensures { result ≡ behind_branch m self }
+    {
+        Branch {
+            end: self.end,
+            way: self.way.behind(m),
+        }
+    }
+
+    // With all from its record on deleted.
+    #[tactic(auto, unfolding(crate::specs::Trail::cut))]
+    pub fn deleted(self) -> Branch
+        ensures { result ≡ cut self }
+    {
+        Branch {
+            end: self.end.deleted(),
+            way: self.way,
+        }
+    }
 }

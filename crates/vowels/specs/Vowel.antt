@@ -1,10 +1,7 @@
 -- A code point as a vowel with its number and its partners, as the code holds it. Assumes nothing.
-use Rattle.std.specs.Prelude.{ℕ, zero, suc, cond, List, [], ◌∷◌, length, take, drop, replicate, eqb, Option, Some, None}
-use Rattle.encoding.specs.Encoding.{encode}
+use Rattle.std.specs.Prelude.{ℕ, zero, suc, cond, List, [], ◌∷◌, take, drop, eqb, Option, Some, None}
 use Rattle.turkish.specs.Vowels.{vowels, vowel}
-use Rattle.turkish.specs.Calls.{written}
 use Rattle.theorems.specs.Simple.Harmony.{partners_in, partner_table, to_first}
-use Rattle.vowels.specs.declared.vowel.Encoded.{Encoded}
 use Rattle.vowels.specs.declared.vowel.Vowel.{Vowel}
 
 -- four partners: the last one again where there are fewer
@@ -37,7 +34,3 @@ numbered_vowel_of n = first_vowel_of (vowel_numbered n)
 -- the most bytes of a vowel
 unfoldable pub most_vowel_bytes : ℕ
 most_vowel_bytes = 2
-
--- a code point of no more bytes and how many it has, with zeros behind it
-unfoldable pub encoded_of : ℕ → Encoded
-encoded_of ch = record { bytes = written (encode ch) (replicate most_vowel_bytes 0); n = length (encode ch) }

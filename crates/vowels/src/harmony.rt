@@ -46,7 +46,6 @@ fn check_vowel_harmony(w: &[u8], c: usize) -> Option<Harmony>
         let Some(u) = Vowel::of(ch) else {
             continue 'goto;
         };
-        // By u and not by ch: where the case is known the compiler need not compare with all four.
         if v.has_partner(u.ch) {
             break 'goto;
         }

@@ -1,8 +1,8 @@
 // The eight vowels and their partners (turkish.rs, `G_vowel` and `G_vowel1` to `G_vowel6`): what may stand earlier in harmony.
-ghost use Rattle.std.specs.Prelude.{◌≡◌, true};
+ghost use Rattle.std.specs.Prelude.{◌≡◌};
 ghost use Rattle.turkish.specs.Letters.{has};
 ghost use Rattle.turkish.specs.Vowels.{vowel};
-ghost use Rattle.vowels.specs.Vowel.{vowel_of, numbered_vowel_of, encoded_of};
+ghost use Rattle.vowels.specs.Vowel.{vowel_of, numbered_vowel_of};
 
 // A vowel: its own code point, its number, from 1 in the order of turkish.sbl's `vowel`, and its partners; where there are fewer than four, the
 // last is named again.
@@ -11,13 +11,6 @@ pub struct Vowel {
     pub ch: u32,
     pub number: usize,
     pub partners: [u32; 4],
-}
-
-// A vowel in UTF-8: the first n of these bytes. Behind one byte stands a zero.
-#[derive(Clone, Copy)]
-pub struct Encoded {
-    pub bytes: [u8; 2],
-    pub n: usize,
 }
 
 impl Vowel {
@@ -101,24 +94,6 @@ impl Vowel {
             7 => Some(Vowel::U),
             8 => Some(Vowel::U_UMLAUT),
             _ => None,
-        }
-    }
-
-    // The vowel in UTF-8.
-    pub fn encode(self) -> Encoded
-        requires { vowel self.ch ≡ true }
-        ensures { result ≡ encoded_of self.ch }
-    {
-        let ch = self.ch;
-        if ch < 0x80 {
-            return Encoded {
-                bytes: [ch as u8, 0],
-                n: 1,
-            };
-        }
-        Encoded {
-            bytes: [(0xC0 + ch / 0x40) as u8, (0x80 + ch % 0x40) as u8],
-            n: 2,
         }
     }
 

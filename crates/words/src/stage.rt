@@ -36,14 +36,24 @@ pub fn stage_numbers(w: &[u8]) -> StageAnswer
         };
     }
     let s = stage::stem_nominal_verb_suffixes(w);
-    StageAnswer {
+    let unheard = StageAnswer {
         refusal: 0,
         length: s.kept,
         yes: s.yes,
         flag: s.flag,
-        harmonic: s.harmonic,
-        last: s.last,
-        partner: s.partner,
-        loan: s.loan,
+        harmonic: false,
+        last: 0,
+        partner: 0,
+        loan: false,
+    };
+    let Some(h) = s.way.heard else {
+        return unheard;
+    };
+    StageAnswer {
+        harmonic: true,
+        last: h.last,
+        partner: h.partner,
+        loan: h.skips,
+        ..unheard
     }
 }

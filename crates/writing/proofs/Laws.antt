@@ -1,2 +1,3 @@
 -- The laws of what is written.
 pub mod Put
+pub mod Letter

@@ -1,4 +1,5 @@
 // Bytes written at a place of a lent output.
 #![tactic(auto)]
 
+pub mod letter;
 pub mod put;

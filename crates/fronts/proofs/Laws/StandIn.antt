@@ -32,11 +32,13 @@ use Rattle.theorems.proofs.Laws.Vowels.{has-member}
 use Rattle.batches.proofs.Laws.Summary.{times_none, last-or-none}
 use Rattle.writing.specs.Put.{put}
 use Rattle.writing.proofs.Laws.Put.{put-nothing, Wrote, wrote-text, wrote-all}
-use Rattle.vowels.specs.declared.vowel.Encoded.{Encoded}
+use Rattle.writing.specs.declared.letter.Letter.{Letter}
+use Rattle.writing.specs.Letter.{letter_of, bytes_of}
+use Rattle.writing.proofs.Laws.Letter.{letter_of-encode}
+use Rattle.std.specs.Prelude.{Some, None}
 use Rattle.vowels.specs.declared.vowel.Vowel.{Vowel}
-use Rattle.vowels.specs.declared.vowel.Sound.TheVariants.{AVowel, NoVowel}
-use Rattle.vowels.specs.Sounds.{vowel_numbered, sound_numbered, most_vowel_bytes, encoded_of}
-use Rattle.vowels.proofs.Laws.Sounds.{vowel_numbered-every, vowel_numbered-length, sound_numbered-no_vowel, sound_numbered-a_vowel, encoded_of-bytes, encoded_of-fits}
+use Rattle.vowels.specs.Vowel.{vowel_numbered, numbered_vowel_of, most_vowel_bytes}
+use Rattle.vowels.proofs.Laws.Vowel.{vowel_numbered-every, vowel_numbered-length, numbered_vowel_of-none, numbered_vowel_of-some, numbered_vowel_of-vowel, vowel-short}
 use Rattle.fronts.specs.StandIn.{counted, stand_in_of, stand_in_room}
 
 -- ---- the characters of a stand-in are vowels ----
@@ -200,22 +202,20 @@ stand_in_of-alike cs = ⊎_elim (alike-last cs) (alike-none cs) (last-or-none cs
 
 module _ (n : ℕ) where
   -- a number without a vowel writes nothing
-  pub numbered-none : (at : ℕ) (out : List ℕ) → sound_numbered n ≡ NoVowel
+  pub numbered-none : (at : ℕ) (out : List ℕ) → numbered_vowel_of n ≡ None
       → (at ≡ at + length (encode_all (vowel_numbered n))) × (out ≡ put at (encode_all (vowel_numbered n)) out)
   unfolding encode_all
-  numbered-none at out e = rw (sound_numbered-no_vowel n e) (omega arith, put-nothing at out)
+  numbered-none at out e = rw (numbered_vowel_of-none n e) (omega arith, put-nothing at out)
 
-  module _ (v : Vowel) (e : sound_numbered n ≡ AVowel v) {r : Encoded} (q : r ≡ encoded_of v.ch) where
-    -- any other writes its vowel's bytes
-    pub numbered-written : take r.n r.bytes ≡ encode_all (vowel_numbered n)
+  module _ (v : Vowel) (e : numbered_vowel_of n ≡ Some v) where
+    -- any other has a vowel that is a letter
+    pub numbered-short : v.ch < 0x800
+    numbered-short = vowel-short v.ch (numbered_vowel_of-vowel n v e)
+
+    -- and writes its bytes
+    pub numbered-written : {l : Letter} → l ≡ letter_of v.ch → bytes_of l ≡ encode_all (vowel_numbered n)
     unfolding encode_all
-    numbered-written = rw (sound_numbered-a_vowel n v e, append-nil) (encoded_of-bytes v.ch q)
-
-    -- which fit where the most of a vowel do
-    pub numbered-fit : r.n ≤ most_vowel_bytes
-    numbered-fit =
-        let size = ap length numbered-written in
-        omega (arith, length-take-le r.n r.bytes (encoded_of-fits v.ch q), vowel_numbered-bytes n)
+    numbered-written q = rw (q, numbered_vowel_of-some n v e, append-nil) (letter_of-encode v.ch numbered-short)
 
 -- the bytes of the counted among the first k vowels
 unfoldable pub so_far : List ℕ → ℕ → List ℕ

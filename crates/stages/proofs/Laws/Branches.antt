@@ -6,7 +6,7 @@ use mathlib.Core.Path.{◌≡◌, refl, sym, ap, ◌∙◌}
 use mathlib.Core.Bool.{Bool, true, false}
 use mathlib.Core.List.{List, [], append-nil}
 use native.Mathlib.Omega.{arith}
-use lib.ListN.{length, drop, get_or}
+use lib.ListN.{length, drop}
 use lib.Dec.{eqb}
 use Rattle.utf8.specs.declared.cursor.Cursor.{Cursor}
 use Rattle.utf8.specs.Characters.{back}
@@ -20,24 +20,22 @@ use Rattle.theorems.specs.Simple.Pieces.{Taken, Trace, none, keeps, total, more_
 use Rattle.turkish.specs.Calls.{chars}
 use Rattle.theorems.proofs.Laws.Outcome.{Flagged, unfit, fits}
 use Rattle.theorems.proofs.Laws.Traces.{run-trace}
-use Rattle.vowels.specs.declared.harmony.Accord.{Accord}
-use Rattle.vowels.specs.Accord.{no_accord}
+use Rattle.std.specs.Prelude.{Option, Some, None}
 use Rattle.keys.specs.declared.seen.Seen.{Seen}
-use Rattle.keys.specs.Seen.{seen_at}
+use Rattle.keys.specs.Seen.{seen_at, Sees}
 use Rattle.theorems.proofs.Laws.Tests.{every}
 use Rattle.keys.specs.Ends.{is_U_of, is_a, is_kmn_of}
-use Rattle.keys.proofs.Laws.Ends.{last_passes, begins, trace-unfit}
+use Rattle.keys.proofs.Laws.Ends.{last_passes, begins, trace-unfit, last-seen}
 use Rattle.keys.proofs.Laws.Sees.{seen-c}
+use Rattle.std.specs.Prelude.{MatchOption}
 use Rattle.marks.specs.declared.marked.Marked.{Marked}
-use Rattle.marks.specs.declared.marked.Marked.TheVariants.{To}
 use Rattle.marks.specs.Reach.{reach}
-use Rattle.stages.specs.declared.trail.Way.{Way}
+use Rattle.marks.proofs.Laws.Marks.{reach-fails}
 use Rattle.stages.specs.declared.trail.Branch.{Branch}
-use Rattle.stages.specs.declared.trail.Branch.TheVariants.{Fits, Unfit}
 use Rattle.stages.specs.Groups.{person_mark, first_ends_of, fifth_ends}
-use Rattle.stages.specs.Trail.{no_trail, trail_of, heard_along, way_of, along, cut_to}
+use Rattle.stages.specs.Trail.{trail_of, heard_along, way_of, no_way, along, cut_to}
 use Rattle.stages.specs.Outcome.{whole, outcome, outcome_of}
-use Rattle.stages.proofs.Laws.Trails.{Steps, only_marks, steps-group, first_step, fits-unfit}
+use Rattle.stages.proofs.Laws.Trails.{Steps, only_marks, steps-group, first_step}
 
 -- `unset` after the second of two commands cuts no more
 pub cut-unset : (w : List ℕ) (c : Cursor) (o : Trace) (q : ℕ → Trace)
@@ -53,7 +51,7 @@ cut-unset w c (keeps ts f) q = go (q (total ts))
 -- ---- groups ----
 
 -- a group may be taken in parts
-first-assoc : (o p q : Trace) → first_trace (first_trace o p) q ≡ first_trace o (first_trace p q)
+pub first-assoc : (o p q : Trace) → first_trace (first_trace o p) q ≡ first_trace o (first_trace p q)
 unfolding first_trace
 first-assoc none p q = refl
 first-assoc (keeps ts f) p q = refl
@@ -77,10 +75,18 @@ module _ (cs : List ℕ) where
       go (keeps us g) = unfold more_trace in refl
 
 -- a person's ending that fits is a step
-pub steps-person : (w : List ℕ) (c : Cursor) {r : Marked} {d : Cursor} {k : ℕ} {h : Accord} → r ≡ reach w c (trace person_mark (behind w c))
-    → r ≡ To d k h → Steps w c (trace person (behind w c)) d k h
+pub steps-person : (w : List ℕ) (c : Cursor) {r : Option Marked} {m : Marked} → r ≡ reach w c (trace person_mark (behind w c)) → r ≡ Some m
+    → Steps w c (trace person (behind w c)) m
 unfolding only_marks
 steps-person w c is to = rw (person-first (behind w c)) at (first_step w c (steps-group w c person_mark refl is to) (keeps [] true))
+
+-- the next of a group's marks, tried where those before it fail
+pub reach-else : (w : List ℕ) (c : Cursor) (o q : Trace) {a r : Option Marked} {P : Type 0} → a ≡ reach w c o → MatchOption a P (λ m. r ≡ Some m)
+    → (P → r ≡ reach w c q) → r ≡ reach w c (first_trace o q)
+unfolding first_trace
+reach-else w c o q {a = None} is tried next = next tried ∙ sym (ap (λ (x : Trace). reach w c (first_trace x q)) (reach-fails w c o is refl))
+reach-else w c none q {a = Some m} is tried next = unfold reach in cc
+reach-else w c (keeps ts f) q {a = Some m} is tried next = tried ∙ is
 
 -- ---- what is seen from a record ----
 
@@ -90,12 +96,12 @@ from-seen : {R : Type 0} (f : List ℕ → Cursor → Trace → R) (w : List ℕ
 from-seen f w c q e is = is ∙ ap (λ (x : Cursor). f w x (q (behind w x))) (seen-c w c e)
 
 -- a mark's or a group's
-pub reach-seen : (w : List ℕ) (c : Cursor) (q : List ℕ → Trace) {s : Seen} {r : Marked} → s ≡ seen_at w c → r ≡ reach w s.c (q (behind w s.c))
+pub reach-seen : (w : List ℕ) (c : Cursor) (q : List ℕ → Trace) {s : Seen} {r : Option Marked} → s ≡ seen_at w c → r ≡ reach w s.c (q (behind w s.c))
     → r ≡ reach w c (q (behind w c))
 reach-seen = from-seen reach
 
 -- that of what keeps more than one mark
-pub along-seen : (w : List ℕ) (c : Cursor) (q : List ℕ → Trace) {s : Seen} {r : Branch} → s ≡ seen_at w c → r ≡ along w s.c (q (behind w s.c))
+pub along-seen : (w : List ℕ) (c : Cursor) (q : List ℕ → Trace) {s : Seen} {r : Option Branch} → s ≡ seen_at w c → r ≡ along w s.c (q (behind w s.c))
     → r ≡ along w c (q (behind w c))
 along-seen = from-seen along
 
@@ -125,6 +131,12 @@ pub sixth-begins : begins (λ a. eqb a (code "r")) branch6 ≡ true
 unfolding begins every last_passes branch6 DUr marked from_end text
 sixth-begins = refl
 
+-- a branch that may not begin with the last letter seen keeps nothing
+pub cut-unbegun : (p : ℕ → Bool) (b : Command) → begins p b ≡ true → (w : List ℕ) (s : Seen) → Sees w s → p s.ending.last ≡ false
+    → None ≡ cut_to w s.c (trace b (behind w s.c))
+unfolding cut_to
+cut-unbegun p b e w s sees f = sym (ap (cut_to w s.c) (trace-unfit p b (behind w s.c) e (sym (ap p (last-seen w s sees)) ∙ f)))
+
 -- ---- the stage ----
 
 -- a branch that keeps nothing is passed over
@@ -133,11 +145,10 @@ unfolding trace first_trace
 passed_over b q cs e = ap (λ (o : Trace). first_trace o (trace q cs)) e
 
 -- a branch that is cut keeps these marks, and its flag is f
-record Cut (w : List ℕ) (c : Cursor) (o : Trace) (f : Bool) (d : Cursor) (t : Way) : Type 0 where
+record Cut (w : List ℕ) (c : Cursor) (o : Trace) (f : Bool) (b : Branch) : Type 0 where
   marks : List Taken
   keeps-is : o ≡ keeps marks f
-  there : d.limit ≡ (back_by w c (total marks)).cursor
-  along-is : t ≡ way_of w c marks
+  is : b ≡ record { end = deleted (back_by w c (total marks)); way = way_of w c marks }
 
 -- an answer that is known to leave the flag at f, and that takes some, has the flag f
 flagged-took : (o : Out) {f g : Bool} {k : ℕ} → Flagged f o → o ≡ took k g → g ≡ f
@@ -145,30 +156,28 @@ flagged-took o unfit e = let z : ◌≡◌ {A = ℕ} 0 1 = cc in absurd (omega a
 flagged-took o (fits k h) e = cc
 
 -- a branch whose flag is known, taken apart
-cut_fits : (w : List ℕ) (c : Cursor) (o : Trace) {f : Bool} {b : Branch} {d : Cursor} {t : Way} → Flagged f (summed o) → b ≡ cut_to w c o → b ≡ Fits d t
-    → Cut w c o f d t
-unfolding cut_to deleted summed
-cut_fits w c none flag is to = fits-unfit to is
-cut_fits w c (keeps ts g) {d = d} flag is to =
-    let there : d ≡ deleted (back_by w c (total ts)) = cc in
-    record { marks = ts; keeps-is = ap (keeps ts) (flagged-took _ flag refl); there = ap (λ (x : Cursor). x.limit) there; along-is = cc }
+cut_fits : (w : List ℕ) (c : Cursor) (o : Trace) {f : Bool} {b : Branch} → Flagged f (summed o) → Some b ≡ cut_to w c o → Cut w c o f b
+unfolding cut_to summed
+cut_fits w c none flag is = cc
+cut_fits w c (keeps ts g) flag is = record { marks = ts; keeps-is = ap (keeps ts) (flagged-took _ flag refl); is = cc }
 
 -- a branch that answers that it does not fit keeps nothing
-cut-unfit : (w : List ℕ) (c : Cursor) (o : Trace) {b : Branch} → b ≡ cut_to w c o → b ≡ Unfit → o ≡ none
+cut-unfit : (w : List ℕ) (c : Cursor) (o : Trace) {b : Option Branch} → b ≡ cut_to w c o → b ≡ None → o ≡ none
 unfolding cut_to
 cut-unfit w c none is fails = refl
-cut-unfit w c (keeps ts f) is fails = fits-unfit is fails
+cut-unfit w c (keeps ts f) is fails = cc
 
 -- the stage's answer where a branch fits
-outcome-keeps : (w : List ℕ) {o : Trace} {f : Bool} {d : Cursor} {t : Way} (a : Cut w (whole w) o f d t) → trace branches (chars w) ≡ keeps a.marks f
-    → outcome d.limit true f t.trail t.heard ≡ outcome_of w
-unfolding outcome_of kept_length stage staged stage_marks taken_of summed whole way_of
+outcome-keeps : (w : List ℕ) {o : Trace} {f : Bool} {b : Branch} (a : Cut w (whole w) o f b) → trace branches (chars w) ≡ keeps a.marks f
+    → outcome b f ≡ outcome_of w
+unfolding outcome outcome_of kept_length stage staged stage_marks taken_of summed whole deleted
 outcome-keeps w a e =
-    rw (run-trace branches (chars w), e, a.there, a.along-is, back_by-back w (length w) (length w) (total a.marks))
+    rw (run-trace branches (chars w), e, a.is, back_by-back w (length w) (length w) (total a.marks))
 
 -- and where none does
-pub outcome-none : (w : List ℕ) → trace branches (chars w) ≡ none → outcome (length w) false true no_trail no_accord ≡ outcome_of w
-unfolding outcome_of kept_length stage staged stage_marks taken_of summed back trail_of heard_along
+pub outcome-none : (w : List ℕ) → trace branches (chars w) ≡ none
+    → record { kept = length w; yes = false; flag = true; way = no_way } ≡ outcome_of w
+unfolding outcome_of kept_length stage staged stage_marks taken_of summed back no_way way_of trail_of heard_along
 outcome-none w e = rw (run-trace branches (chars w), e)
 
 -- ---- at the word's end ----
@@ -178,34 +187,30 @@ pub open-whole : (w : List ℕ) → Open w (whole w)
 unfolding whole
 open-whole w = open-start w (length w) (length w) (omega arith) (omega arith)
 
-module _ (w : List ℕ) {s : Seen} (is : s ≡ seen_at w (whole w)) where
+module _ (w : List ℕ) {s : Seen} (is : s ≡ seen_at w (whole w)) (b : Command) {r : Option Branch} (e : r ≡ cut_to w s.c (trace b (behind w s.c))) where
   -- a branch from what is seen there is one on all the word's characters
-  at-end : (b : Command) {r : Branch} → r ≡ cut_to w s.c (trace b (behind w s.c)) → r ≡ cut_to w (whole w) (trace b (chars w))
+  at-end : r ≡ cut_to w (whole w) (trace b (chars w))
   unfolding chars whole
-  at-end b e = from-seen cut_to w (whole w) (trace b) is e ∙ ap (λ (cs : List ℕ). cut_to w (whole w) (trace b cs)) (behind-before w (length w) (length w))
+  at-end = from-seen cut_to w (whole w) (trace b) is e ∙ ap (λ (cs : List ℕ). cut_to w (whole w) (trace b cs)) (behind-before w (length w) (length w))
 
-  -- a branch that may not begin with the last letter seen there keeps nothing
-  pub branch-out : (p : ℕ → Bool) (b : Command) → begins p b ≡ true → p s.last ≡ false → trace b (chars w) ≡ none
-  unfolding chars whole seen_at
-  branch-out p b e fails =
-      let last = ap (λ (x : Seen). x.last) is ∙ ap (λ (cs : List ℕ). get_or cs 0 0) (behind-before w (length w) (length w)) in
-      trace-unfit p b (chars w) e (ap p (sym last) ∙ fails)
+  -- a branch that does not fit keeps nothing
+  pub branch-unfit : r ≡ None → trace b (chars w) ≡ none
+  branch-unfit = cut-unfit w (whole w) (trace b (chars w)) at-end
 
-  module _ (b : Command) {r : Branch} (e : r ≡ cut_to w s.c (trace b (behind w s.c))) where
-    -- a branch that does not fit keeps nothing
-    pub branch-unfit : r ≡ Unfit → trace b (chars w) ≡ none
-    branch-unfit = cut-unfit w (whole w) (trace b (chars w)) (at-end b e)
+  module _ {f : Bool} {x : Branch} (flag : Flagged f (run b (chars w))) (to : r ≡ Some x) where
+    -- the branch that fits, taken apart
+    cuts : Cut w (whole w) (trace b (chars w)) f x
+    cuts = cut_fits w (whole w) (trace b (chars w)) (rw (run-trace b (chars w)) at flag) (sym to ∙ at-end)
 
-    module _ {f : Bool} {d : Cursor} {t : Way} (flag : Flagged f (run b (chars w))) (to : r ≡ Fits d t) where
-      -- the branch that fits, taken apart
-      cuts : Cut w (whole w) (trace b (chars w)) f d t
-      cuts = cut_fits w (whole w) (trace b (chars w)) (rw (run-trace b (chars w)) at flag) (at-end b e) to
+    -- the stage's answer where it is the last one left
+    pub outcome-last : trace branches (chars w) ≡ trace b (chars w) → outcome x f ≡ outcome_of w
+    outcome-last left = outcome-keeps w cuts (left ∙ cuts.keeps-is)
 
-      -- the stage's answer where it is the last one left
-      pub outcome-last : trace branches (chars w) ≡ trace b (chars w) → outcome d.limit true f t.trail t.heard ≡ outcome_of w
-      outcome-last left = outcome-keeps w cuts (left ∙ cuts.keeps-is)
+    -- or one before others
+    pub outcome-cut : (q : Command) → trace branches (chars w) ≡ trace (b or q) (chars w) → outcome x f ≡ outcome_of w
+    unfolding trace first_trace
+    outcome-cut q left = outcome-keeps w cuts (left ∙ ap (λ (o : Trace). first_trace o (trace q (chars w))) cuts.keeps-is)
 
-      -- or one before others
-      pub outcome-cut : (q : Command) → trace branches (chars w) ≡ trace (b or q) (chars w) → outcome d.limit true f t.trail t.heard ≡ outcome_of w
-      unfolding trace first_trace
-      outcome-cut q left = outcome-keeps w cuts (left ∙ ap (λ (o : Trace). first_trace o (trace q (chars w))) cuts.keeps-is)
+  -- where the stage is this branch and others, and this one does not fit, it is the others
+  pub next_branch : (q : Command) → trace branches (chars w) ≡ trace (b or q) (chars w) → r ≡ None → trace branches (chars w) ≡ trace q (chars w)
+  next_branch q left fails = left ∙ passed_over b q (chars w) (branch-unfit fails)

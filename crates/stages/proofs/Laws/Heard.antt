@@ -10,29 +10,29 @@ use lib.Seq.{drop-drop}
 use Rattle.utf8.specs.declared.cursor.Cursor.{Cursor}
 use Rattle.utf8.specs.Behind.{behind, back_by}
 use Rattle.utf8.proofs.Laws.Behind.{behind-back_by, behind-before, back_by-add, back_by-back, back_by-zero}
-use Rattle.turkish.specs.Heard.{Heard, unheard, heard, is_heard, or_heard, loan_in}
+use Rattle.turkish.specs.Heard.{Heard, unheard, heard, or_heard, loan_in}
 use Rattle.turkish.specs.Pieces.{first_heard, stage_heard}
 use Rattle.theorems.specs.Simple.Harmony.{at, harmony_found, skips_vowel}
 use Rattle.theorems.specs.Simple.Pieces.{Taken, heard_at, stage_marks, located}
-use Rattle.turkish.specs.Calls.{chars, accepted, offset, last_offset, partner_offset}
+use Rattle.turkish.specs.Calls.{chars, accepted, offset}
 use Rattle.theorems.proofs.Laws.Offsets.{offset-back}
 use Rattle.theorems.proofs.Laws.Harmony.{harmony_found-bounds}
 use Rattle.theorems.proofs.Laws.Heard.{loan-skips}
 use Rattle.theorems.proofs.Laws.Along.{Along, none, one}
 use Rattle.theorems.proofs.Laws.FirstHeard.{Sounded, silent, sounding, stage_marks-sounded}
 use Rattle.theorems.proofs.Source.KeptStage.{kept_marks-simple}
-use Rattle.vowels.specs.declared.harmony.Accord.{Accord}
-use Rattle.vowels.specs.Accord.{asked, skips, no_accord, concord, accord_of, passed_on, or_accord}
-use Rattle.vowels.proofs.Laws.Accord.{concord-asked, concord-skips, concord-first}
-use Rattle.stages.specs.Trail.{heard_along}
-use Rattle.stages.specs.declared.stage.Outcome.{Outcome}
+use Rattle.std.specs.Prelude.{Option, Some, None}
+use Rattle.vowels.specs.declared.harmony.Harmony.{Harmony}
+use Rattle.vowels.specs.Harmony.{heard_of}
+use Rattle.stages.specs.Trail.{heard_along, way_of}
 use Rattle.stages.specs.Outcome.{whole, outcome_of}
 use Rattle.stages.proofs.Laws.Branches.{open-whole}
 
 -- what is told of a word's two vowels
-unfoldable accord_by : List ℕ → Heard → Accord
-accord_by w unheard = no_accord
-accord_by w (heard last partner) = concord (offset w last) (offset w partner) (loan_in (chars w) (heard last partner))
+unfoldable pub told : List ℕ → Heard → Option Harmony
+told w unheard = None
+told w (heard last partner) =
+    Some (record { last = offset w last; partner = offset w partner; skips = loan_in (chars w) (heard last partner) })
 
 module _ (w : List ℕ) (a : accepted w ≡ true) where
   -- what stands behind the record k characters back from the word's end
@@ -49,8 +49,8 @@ module _ (w : List ℕ) (a : accepted w ≡ true) where
 
   -- what a mark entered there found
   heard-here : (k l p : ℕ) → harmony_found (drop k (chars w)) ≡ at l p
-      → passed_on w (back_by w (whole w) k) (at l p) ≡ accord_by w (heard_at (length (chars w) - k) (at l p))
-  unfolding passed_on accord_of accord_by heard_at
+      → heard_of w (back_by w (whole w) k) (at l p) ≡ told w (heard_at (length (chars w) - k) (at l p))
+  unfolding heard_of told heard_at
   heard-here k l p e =
       let bounds = harmony_found-bounds (drop k (chars w)) e in
       let skipped = ap (λ (cs : List ℕ). skips_vowel cs l p) (behind-back k)
@@ -59,67 +59,25 @@ module _ (w : List ℕ) (a : accepted w ≡ true) where
 
   -- so of marks taken one after the other from there
   heard-along : (k : ℕ) {cs : List ℕ} {ts : List Taken} → Along Sounded cs ts → cs ≡ drop k (chars w)
-      → heard_along w (back_by w (whole w) k) ts ≡ accord_by w (first_heard (located (length (chars w) - k) ts))
-  unfolding heard_along first_heard located passed_on accord_of or_accord asked no_accord heard_at or_heard accord_by
+      → heard_along w (back_by w (whole w) k) ts ≡ told w (first_heard (located (length (chars w) - k) ts))
+  unfolding heard_along first_heard located heard_of heard_at or_heard told
   heard-along k none e = refl
   heard-along k (one t {ts} (silent u f) x) e =
       let left : length (chars w) - k - t.size ≡ length (chars w) - (k + t.size) = omega arith in
       let rest = heard-along (k + t.size) x (ap (drop t.size) e ∙ drop-drop t.size k (chars w)) in
       rw (f, back_by-add w (whole w) k t.size, left) rest
   heard-along k (one t {ts} (sounding l p u f g i) x) e =
-      rw f (concord-first _ _ _ _ ∙ heard-here k l p (ap harmony_found (sym e) ∙ g))
+      rw f (heard-here k l p (ap harmony_found (sym e) ∙ g))
 
   -- so of the stage
-  heard-stage : heard_along w (whole w) (stage_marks (chars w)) ≡ accord_by w (stage_heard (chars w))
+  heard-stage : heard_along w (whole w) (stage_marks (chars w)) ≡ told w (stage_heard (chars w))
   unfolding stage_heard
   heard-stage =
       let all : length (chars w) - 0 ≡ length (chars w) = omega arith in
       let from_end = heard-along 0 (stage_marks-sounded (chars w)) refl in
-      rw (back_by-zero w (whole w) (open-whole w), all) at from_end ∙ ap (λ ks. accord_by w (first_heard ks)) (sym (kept_marks-simple (chars w)))
+      rw (back_by-zero w (whole w) (open-whole w), all) at from_end ∙ ap (λ ks. told w (first_heard ks)) (sym (kept_marks-simple (chars w)))
 
--- ---- what the call tells of it ----
-
--- what is told of two vowels, or of none
-module _ (w : List ℕ) where
-  -- whether harmony was tested
-  told-harmonic : (h : Heard) → asked (accord_by w h) ≡ is_heard h
-  unfolding accord_by is_heard no_accord asked
-  told-harmonic unheard = refl
-  told-harmonic (heard l p) = concord-asked _ _ _
-
-  -- where the last vowel starts
-  told-last : (h : Heard) → (accord_by w h).last ≡ last_offset w h
-  unfolding accord_by last_offset no_accord concord
-  told-last unheard = refl
-  told-last (heard l p) = refl
-
-  -- where its partner does
-  told-partner : (h : Heard) → (accord_by w h).partner ≡ partner_offset w h
-  unfolding accord_by partner_offset no_accord concord
-  told-partner unheard = refl
-  told-partner (heard l p) = refl
-
-  -- and whether a vowel stands between
-  told-loan : (h : Heard) → skips (accord_by w h) ≡ loan_in (chars w) h
-  unfolding accord_by loan_in no_accord skips
-  told-loan unheard = refl
-  told-loan (heard l p) = concord-skips _ _ _
-
--- so the outcome of an accepted word has what the definition finds in it
-pub record Hearing (o : Outcome) (w : List ℕ) (h : Heard) : Type 0 where
-  pub harmonic : o.harmonic ≡ is_heard h
-  pub last : o.last ≡ last_offset w h
-  pub partner : o.partner ≡ partner_offset w h
-  pub loan : o.loan ≡ loan_in (chars w) h
-
-pub outcome-hearing : (w : List ℕ) → accepted w ≡ true → Hearing (outcome_of w) w (stage_heard (chars w))
-unfolding outcome_of
-outcome-hearing w a =
-    let h = stage_heard (chars w) in
-    let e = heard-stage w a in
-    record {
-      harmonic = ap asked e ∙ told-harmonic w h;
-      last = ap (λ (t : Accord). t.last) e ∙ told-last w h;
-      partner = ap (λ (t : Accord). t.partner) e ∙ told-partner w h;
-      loan = ap skips e ∙ told-loan w h;
-    }
+-- so the outcome of an accepted word has heard what the definition finds in it
+pub outcome-heard : (w : List ℕ) → accepted w ≡ true → (outcome_of w).way.heard ≡ told w (stage_heard (chars w))
+unfolding outcome_of way_of
+outcome-heard w a = heard-stage w a

@@ -1,28 +1,24 @@
 -- What the code's vowel says of a code point: that it is a vowel, which its number and which its partners are. The partners are the definition's
--- because each vowel has one to four of them, which is computed over the vowels. A number's vowel, and a vowel's bytes. Assumes nothing.
-use Prim.Native.Nat.{ℕ, zero, suc, ◌+◌, ◌/◌, ◌%◌, ◌≤◌, ◌<◌}
+-- because each vowel has one to four of them, which is computed over the vowels. A number's vowel. Assumes nothing.
+use Prim.Native.Nat.{ℕ, zero, suc, ◌≤◌, ◌<◌}
 use mathlib.Core.Path.{◌≡◌, refl, sym, ap, ◌∙◌}
 use mathlib.Core.Bool.{Bool, true, false, cond, not, ◌&&◌, ◌||◌, false≢true, true≢false, or-false, or_self}
 use mathlib.Core.List.{List, [], ◌∷◌}
 use native.Mathlib.Omega.{arith}
-use lib.ListN.{length, take, drop, replicate, length-append, length-take, take-append-drop, drop_of_length-le}
-use lib.Seq.{take-append_seam}
+use lib.ListN.{length, take, drop, length-take, take-append-drop, drop_of_length-le}
 use lib.Dec.{eqb, leb, ltb}
-use borrow.Author.Tests.{eqb-true, leb-true, ltb-true, lt-ltb, le-ltb, ne_eqb}
-use Rattle.encoding.specs.Encoding.{encode}
+use borrow.Author.Tests.{eqb-true, leb-true, ltb-true, ne_eqb}
 use Rattle.encoding.proofs.Laws.Booleans.{and_left, and_right}
 use Rattle.turkish.specs.Letters.{text, any, has}
 use Rattle.turkish.specs.Vowels.{vowels, vowel}
-use Rattle.turkish.specs.Calls.{written}
 use Rattle.theorems.specs.Simple.Harmony.{partners_in, partner_table, partner, to_first}
 use Rattle.theorems.proofs.Laws.Members.{every_append}
 use Rattle.theorems.proofs.Laws.Tests.{every, eqb_comm}
 use Rattle.std.specs.Prelude.{Some, None, is_some}
 use Rattle.std.specs.List.{list_any}
 use Rattle.std.proofs.lemmas.Option.{cond_some}
-use Rattle.vowels.specs.declared.vowel.Encoded.{Encoded}
 use Rattle.vowels.specs.declared.vowel.Vowel.{Vowel}
-use Rattle.vowels.specs.Vowel.{four_of, vowel_of, vowel_numbered, first_vowel_of, numbered_vowel_of, most_vowel_bytes, encoded_of}
+use Rattle.vowels.specs.Vowel.{four_of, vowel_of, vowel_numbered, first_vowel_of, numbered_vowel_of}
 
 -- ---- lists of code points ----
 
@@ -200,25 +196,3 @@ module _ (n : ℕ) where
 pub vowel-short : (ch : ℕ) → vowel ch ≡ true → ch < 0x800
 unfolding vowel vowels text any
 vowel-short ch e = ltb-true ch 0x800 (has-passes (λ c. ltb c 0x800) vowels ch refl e)
-
-module _ (ch : ℕ) where
-  -- one byte, and a zero behind it
-  pub encoded_of-one : ch < 0x80 → record { bytes = ch ∷ 0 ∷ []; n = 1 } ≡ encoded_of ch
-  unfolding encoded_of encode written most_vowel_bytes
-  encoded_of-one h = rw (lt-ltb ch 0x80 h)
-
-  -- two bytes
-  pub encoded_of-two : 0x80 ≤ ch → ch < 0x800 → record { bytes = (0xC0 + ch / 0x40) ∷ (0x80 + ch % 0x40) ∷ []; n = 2 } ≡ encoded_of ch
-  unfolding encoded_of encode written most_vowel_bytes
-  encoded_of-two h l = rw (le-ltb ch 0x80 h, lt-ltb ch 0x800 l)
-
-  module _ {r : Encoded} (e : r ≡ encoded_of ch) where
-    -- the code point's bytes stand before the zero
-    pub encoded_of-bytes : take r.n r.bytes ≡ encode ch
-    unfolding encoded_of written
-    encoded_of-bytes = rw e (take-append_seam (encode ch) (drop (length (encode ch)) (replicate most_vowel_bytes 0)))
-
-    -- and there are as many as it has
-    pub encoded_of-fits : r.n ≤ length r.bytes
-    unfolding encoded_of written
-    encoded_of-fits = rw (e, length-append) (omega arith)

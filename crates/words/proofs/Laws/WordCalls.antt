@@ -1,7 +1,7 @@
 -- What the syllable check's and the suffix stage's calls give, refused and not, by the number that the code found.
 -- Assumes nothing.
 use Prim.Native.Nat.{ℕ}
-use mathlib.Core.Path.{◌≡◌, sym, ◌∙◌}
+use mathlib.Core.Path.{◌≡◌, refl, sym, ap, ◌∙◌}
 use mathlib.Core.Bool.{Bool, true, false}
 use mathlib.Core.List.{List, []}
 use lib.ListN.{length, take}
@@ -10,12 +10,16 @@ use Rattle.utf8.specs.Characters.{before}
 use Rattle.turkish.specs.declared.answer.SyllableAnswer.{SyllableAnswer}
 use Rattle.turkish.specs.declared.answer.StageAnswer.{StageAnswer}
 use Rattle.theorems.specs.Simple.Harmony.{more_than_one_syllable}
-use Rattle.turkish.specs.Calls.{chars, refusal, accepted, syllable_call, stage_part_of, stage_call}
+use Rattle.std.specs.Prelude.{Option, Some, None}
+use Rattle.turkish.specs.Heard.{Heard, unheard, heard, is_heard, loan_in}
+use Rattle.turkish.specs.Pieces.{stage_heard}
+use Rattle.turkish.specs.Calls.{chars, refusal, accepted, offset, last_offset, partner_offset, syllable_call, stage_part_of, stage_call}
+use Rattle.vowels.specs.declared.harmony.Harmony.{Harmony}
 use Rattle.theorems.proofs.Source.Calls.{suffix_stage-yes, suffix_stage-flag, syllable_call-simple}
 use Rattle.theorems.proofs.Sizes.{stage_text-kept, stage_text-length}
 use Rattle.stages.specs.declared.stage.Outcome.{Outcome}
 use Rattle.stages.specs.Outcome.{outcome_of}
-use Rattle.stages.proofs.Laws.Heard.{outcome-hearing}
+use Rattle.stages.proofs.Laws.Heard.{told, outcome-heard}
 
 module _ (w : List ℕ) (n : ℕ) (e : n ≡ refusal w) where
   -- a number means that the word is not accepted
@@ -60,20 +64,77 @@ module _ (w : List ℕ) (n : ℕ) (e : n ≡ refusal w) where
   stage_call-refused h = rw (accepted-no h, ← e)
 
   -- any other the length kept, yes or no, the flag, and what it heard
-  pub stage_call-given : n ≡ 0 → (s : Outcome) → s ≡ outcome_of w
-      → ◌≡◌ {A = StageAnswer} (record {
-        refusal = 0;
-        length = s.kept;
-        yes = s.yes;
-        flag = s.flag;
-        harmonic = s.harmonic;
-        last = s.last;
-        partner = s.partner;
-        loan = s.loan;
-      }) (stage_call w)
-  unfolding stage_call
-  stage_call-given z s q =
-      let a = accepted-yes z in
-      let h = outcome-hearing w a in
-      rw (a, q, h.harmonic, h.last, h.partner, h.loan)
-      (unfold outcome_of in rw (stage_text-length w a, suffix_stage-yes (chars w), suffix_stage-flag (chars w)))
+  module _ (z : n ≡ 0) (s : Outcome) (q : s ≡ outcome_of w) where
+    -- by what the definition finds
+    stage_call-found : {h : Heard} → stage_heard (chars w) ≡ h → ◌≡◌ {A = StageAnswer} (record {
+      refusal = 0;
+      length = s.kept;
+      yes = s.yes;
+      flag = s.flag;
+      harmonic = is_heard h;
+      last = last_offset w h;
+      partner = partner_offset w h;
+      loan = loan_in (chars w) h;
+    }) (stage_call w)
+    unfolding stage_call
+    stage_call-found e =
+        let a = accepted-yes z in
+        rw (a, q, e) (unfold outcome_of in rw (stage_text-length w a, suffix_stage-yes (chars w), suffix_stage-flag (chars w)))
+
+    -- what it heard is what is told of that
+    heard-told : {x : Option Harmony} → s.way.heard ≡ x → x ≡ told w (stage_heard (chars w))
+    heard-told e = sym e ∙ ap (λ (o : Outcome). o.way.heard) q ∙ outcome-heard w (accepted-yes z)
+
+    -- nothing
+    pub stage_call-unheard : s.way.heard ≡ None → ◌≡◌ {A = StageAnswer} (record {
+      refusal = 0;
+      length = s.kept;
+      yes = s.yes;
+      flag = s.flag;
+      harmonic = false;
+      last = 0;
+      partner = 0;
+      loan = false;
+    }) (stage_call w)
+    stage_call-unheard e = go (stage_heard (chars w)) refl (heard-told e)
+      where
+        go : (h : Heard) → stage_heard (chars w) ≡ h → None ≡ told w h → ◌≡◌ {A = StageAnswer} (record {
+          refusal = 0;
+          length = s.kept;
+          yes = s.yes;
+          flag = s.flag;
+          harmonic = false;
+          last = 0;
+          partner = 0;
+          loan = false;
+        }) (stage_call w)
+        go unheard f t = unfold is_heard last_offset partner_offset loan_in in stage_call-found f
+        go (heard l p) f t = unfold told in cc
+
+    -- or two vowels
+    pub stage_call-heard : {x : Harmony} → s.way.heard ≡ Some x → ◌≡◌ {A = StageAnswer} (record {
+      refusal = 0;
+      length = s.kept;
+      yes = s.yes;
+      flag = s.flag;
+      harmonic = true;
+      last = x.last;
+      partner = x.partner;
+      loan = x.skips;
+    }) (stage_call w)
+    stage_call-heard {x} e = go (stage_heard (chars w)) refl (heard-told e)
+      where
+        go : (h : Heard) → stage_heard (chars w) ≡ h → Some x ≡ told w h → ◌≡◌ {A = StageAnswer} (record {
+          refusal = 0;
+          length = s.kept;
+          yes = s.yes;
+          flag = s.flag;
+          harmonic = true;
+          last = x.last;
+          partner = x.partner;
+          loan = x.skips;
+        }) (stage_call w)
+        go unheard f t = unfold told in cc
+        go (heard l p) f t =
+            let same : x ≡ record { last = offset w l; partner = offset w p; skips = loan_in (chars w) (heard l p) } = unfold told in cc in
+            rw same (unfold is_heard last_offset partner_offset in stage_call-found f)

@@ -1,5 +1,5 @@
 -- `fronts::stand_in::put_stand_in` meets its contract. The loop's invariant: of the vowels passed those that are counted are written, `at` is their
--- end, and there is room for the others. The measure is how many are left. Assumes nothing.
+-- end, and there is room for the others. Assumes nothing.
 use Prim.Native.Nat.{◌-◌, ◌≤◌}
 use mathlib.Core.Path.{◌≡◌}
 use lib.ListN.{length}
@@ -8,7 +8,4 @@ use Rattle.fronts.proofs.Laws.StandIn.{so_far, room_from}
 use Rattle.fronts.proofs.stand_in.put_stand_in.Given as goal
 
 abbrev pub invariant-loop-k : goal.invariant-loop-k
-invariant-loop-k l = (l.k ≤ 8) × (length l.out ≡ length l.initial.out) × Wrote 0 l.at (so_far l.s.counts l.k) l.initial.out l.out (room_from l.k)
-
-abbrev pub decreases-loop-k : goal.decreases-loop-k
-decreases-loop-k l = 8 - l.k
+invariant-loop-k l = (length l.out ≡ length l.initial.out) × Wrote 0 l.at (so_far l.s.counts l.k) l.initial.out l.out (room_from l.k)

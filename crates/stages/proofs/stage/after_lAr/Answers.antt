@@ -1,30 +1,15 @@
 -- `stages::stage::after_lAr` meets its contract: the first mark of the group that fits. Assumes nothing.
-use Rattle.theorems.specs.Simple.Pieces.{trace}
-use Rattle.marks.proofs.Laws.Marks.{reach-first, reach-next}
+use Rattle.std.proofs.Common.{rules}
+use Rattle.utf8.specs.Behind.{behind}
+use Rattle.theorems.specs.Simple.Marks.{yDU, ysA, ymUs}
+use Rattle.theorems.specs.Simple.Pieces.{trace_of, trace}
+use Rattle.stages.proofs.Laws.Branches.{first-assoc, reach-else}
 use Rattle.stages.proofs.stage.after_lAr.Goals as goal
-
-pub returns-in-To : goal.returns-in-To
-unfolding trace
-returns-in-To c =
-    reach-first _ _ _ _ c.mark_DUr.ensures c.in-To.is
-
-pub returns-in-To-mark_yDU : goal.returns-in-To-mark_yDU
-unfolding trace
-returns-in-To-mark_yDU c =
-    reach-next _ _ _ _ c.mark_DUr.ensures c.in_default.is
-    (reach-first _ _ _ _ c.mark_yDU.ensures c.in-To-mark_yDU.is)
-
-pub returns-in-To-mark_ysA : goal.returns-in-To-mark_ysA
-unfolding trace
-returns-in-To-mark_ysA c =
-    reach-next _ _ _ _ c.mark_DUr.ensures c.in_default.is
-    (reach-next _ _ _ _ c.mark_yDU.ensures c.in_default-mark_yDU.is
-    (reach-first _ _ _ _ c.mark_ysA.ensures c.in-To-mark_ysA.is))
 
 pub returns : goal.returns
 unfolding trace
 returns c =
-    reach-next _ _ _ _ c.mark_DUr.ensures c.in_default.is
-    (reach-next _ _ _ _ c.mark_yDU.ensures c.in_default-mark_yDU.is
-    (reach-next _ _ _ _ c.mark_ysA.ensures c.in_default-mark_ysA.is
-    c.mark_ymUs_.ensures))
+    let cs = behind c.args.w.now c.args.s.c in
+    let by2 = reach-else _ _ _ (trace_of yDU cs) c.mark_DUr.ensures c.or_else.ensures (λ k. search rules) in
+    let by3 = reach-else _ _ _ (trace_of ysA cs) by2 c.or_else-2.ensures (λ k. search rules) in
+    simp first-assoc at (reach-else _ _ _ (trace_of ymUs cs) by3 c.or_else-3.ensures (λ k. search rules))

@@ -1,41 +1,42 @@
 -- `stages::stage::fourth_branch` meets its contract: what must follow nUz goes on from where that leads. Assumes nothing.
-use mathlib.Core.Path.{refl}
+use Prim.Native.Char.{code}
+use mathlib.Core.Path.{refl, ◌∙◌}
+use lib.Dec.{eqb}
+use borrow.Author.Tests.{ne_eqb}
 use Rattle.theorems.specs.Simple.Marks.{nUz}
 use Rattle.theorems.specs.Simple.Pieces.{trace}
 use Rattle.theorems.specs.Simple.Stage.{branch4}
-use Rattle.vowels.specs.Accord.{no_accord}
 use Rattle.keys.proofs.Laws.Sees.{sees-made}
 use Rattle.marks.proofs.Laws.Marks.{reach-fails}
 use Rattle.stages.specs.Groups.{after_nUz_of}
-use Rattle.stages.specs.Trail.{without_stop, no_trail, no_way}
 use Rattle.stages.proofs.Laws.Trails.{only_marks, steps-mark, steps-group, cut-none, after_none, open_step, along-step, then-none, then-cut}
-use Rattle.stages.proofs.Laws.Branches.{reach-seen}
+use Rattle.stages.proofs.Laws.Branches.{fourth-begins, cut-unbegun, reach-seen}
 use Rattle.stages.proofs.stage.fourth_branch.Goals as goal
 
-pub returns-in_default : goal.returns-in_default
+pub returns-then-s-ne122 : goal.returns-then-s-ne122
+returns-then-s-ne122 c = cut-unbegun (λ a. eqb a (code "z")) branch4 fourth-begins _ c.args.s c.requires (ne_eqb _ (code "z") c.if-s-ne122.true)
+
+pub returns-in_err-m : goal.returns-in_err-m
 unfolding trace branch4
-returns-in_default c = cut-none _ _ _ (after_none _ _ (reach-fails _ _ _ c.mark_nUz.ensures c.in_default.is))
+returns-in_err-m c = c.from_residual.ensures ∙ cut-none _ _ _ (after_none _ _ (reach-fails _ _ _ c.mark_nUz.ensures c.in_err-m.was))
 
 pub look_back-requires : goal.look_back-requires
-look_back-requires c =
-    open_step _ _ (steps-mark _ _ nUz c.mark_nUz.ensures c.in-To.is) c.requires.opens
+look_back-requires c = open_step _ _ (steps-mark _ _ nUz c.mark_nUz.ensures c.in_ok-m.was) c.requires.opens
 
 pub after_nUz-requires : goal.after_nUz-requires
-after_nUz-requires c = sees-made _ _ c.look_back.ensures ((open_step _ _ (steps-mark _ _ nUz c.mark_nUz.ensures c.in-To.is) c.requires.opens))
+after_nUz-requires c = sees-made _ _ c.look_back.ensures (open_step _ _ (steps-mark _ _ nUz c.mark_nUz.ensures c.in_ok-m.was) c.requires.opens)
 
-pub returns-in_default-after_nUz : goal.returns-in_default-after_nUz
+pub returns-in_err-n : goal.returns-in_err-n
 unfolding trace branch4
-returns-in_default-after_nUz c =
-    let step = steps-mark _ _ nUz c.mark_nUz.ensures
-    c.in-To.is in
+returns-in_err-n c =
+    let step = steps-mark _ _ nUz c.mark_nUz.ensures c.in_ok-m.was in
     let is = reach-seen _ _ (trace after_nUz_of) c.look_back.ensures c.after_nUz.ensures in
-    cut-none _ _ _ (then-none _ _ step (trace after_nUz_of) (reach-fails _ _ _ is c.in_default-after_nUz.is))
+    c.from_residual-in_err-n.ensures ∙ cut-none _ _ _ (then-none _ _ step (trace after_nUz_of) (reach-fails _ _ _ is c.in_err-n.was))
 
 pub returns : goal.returns
-unfolding trace branch4 only_marks no_way no_trail without_stop no_accord
+unfolding trace branch4 only_marks
 returns c =
-    let step = steps-mark _ _ nUz c.mark_nUz.ensures
-    c.in-To.is in
+    let step = steps-mark _ _ nUz c.mark_nUz.ensures c.in_ok-m.was in
     let is = reach-seen _ _ (trace after_nUz_of) c.look_back.ensures c.after_nUz.ensures in
-    let next = steps-group _ _ after_nUz_of refl is c.in-To-after_nUz.is in
-    then-cut _ _ step (trace after_nUz_of) (along-step _ _ next c.behind.ensures) c.deleted.ensures c.behind-2.ensures
+    let next = steps-group _ _ after_nUz_of refl is c.in_ok-n.was in
+    then-cut _ _ step (trace after_nUz_of) (along-step _ _ next c.of.ensures) c.behind.ensures c.deleted.ensures

@@ -4,37 +4,38 @@ use Rattle.theorems.specs.Simple.Grammar.{mark, ◌then◌}
 use Rattle.theorems.specs.Simple.Marks.{cAsInA, ymUs}
 use Rattle.theorems.specs.Simple.Pieces.{trace}
 use Rattle.theorems.specs.Simple.Stage.{person, branch2}
+use Rattle.keys.specs.Ends.{is_a}
 use Rattle.keys.proofs.Laws.Sees.{sees-made}
 use Rattle.marks.proofs.Laws.Marks.{reach-fails}
 use Rattle.stages.proofs.Laws.Trails.{steps-mark, along-unfit, cut-none, after_none, open_step, then-none, then-cut}
-use Rattle.stages.proofs.Laws.Branches.{along-seen}
+use Rattle.stages.proofs.Laws.Branches.{second-begins, cut-unbegun, along-seen}
 use Rattle.stages.proofs.stage.second_branch.Goals as goal
 
-pub returns-in_default : goal.returns-in_default
+pub returns-then-not-is_A : goal.returns-then-not-is_A
+returns-then-not-is_A c = cut-unbegun is_a branch2 second-begins _ c.args.s c.requires (sym c.is_A.ensures ∙ c.if-not-is_A.true)
+
+pub returns-in_err-m : goal.returns-in_err-m
 unfolding trace branch2
-returns-in_default c = cut-none _ _ _ (after_none _ _ (reach-fails _ _ _ c.mark_cAsInA.ensures c.in_default.is))
+returns-in_err-m c = c.from_residual.ensures ∙ cut-none _ _ _ (after_none _ _ (reach-fails _ _ _ c.mark_cAsInA.ensures c.in_err-m.was))
 
 pub look_back-requires : goal.look_back-requires
-look_back-requires c =
-    open_step _ _ (steps-mark _ _ cAsInA c.mark_cAsInA.ensures c.in-To.is)
-    c.requires.opens
+look_back-requires c = open_step _ _ (steps-mark _ _ cAsInA c.mark_cAsInA.ensures c.in_ok-m.was) c.requires.opens
 
 pub person_and_ymUs-requires : goal.person_and_ymUs-requires
-person_and_ymUs-requires c = sees-made _ _ c.look_back.ensures ((open_step _ _ (steps-mark _ _ cAsInA c.mark_cAsInA.ensures c.in-To.is)
-    c.requires.opens))
+person_and_ymUs-requires c =
+    sees-made _ _ c.look_back.ensures (open_step _ _ (steps-mark _ _ cAsInA c.mark_cAsInA.ensures c.in_ok-m.was) c.requires.opens)
 
-pub returns-in_default-person_and_ymUs : goal.returns-in_default-person_and_ymUs
+pub returns-in_err-rest : goal.returns-in_err-rest
 unfolding trace branch2
-returns-in_default-person_and_ymUs c =
-    let step = steps-mark _ _ cAsInA c.mark_cAsInA.ensures
-    c.in-To.is in
+returns-in_err-rest c =
+    let step = steps-mark _ _ cAsInA c.mark_cAsInA.ensures c.in_ok-m.was in
     let is = along-seen _ _ (trace (person then mark ymUs)) c.look_back.ensures c.person_and_ymUs.ensures in
-    cut-none _ _ _ (then-none _ _ step (trace (person then mark ymUs)) (along-unfit _ _ _ is c.in_default-person_and_ymUs.is))
+    c.from_residual-in_err-rest.ensures
+    ∙ cut-none _ _ _ (then-none _ _ step (trace (person then mark ymUs)) (along-unfit _ _ _ is c.in_err-rest.was))
 
 pub returns : goal.returns
 unfolding trace branch2
 returns c =
-    let step = steps-mark _ _ cAsInA c.mark_cAsInA.ensures
-    c.in-To.is in
+    let step = steps-mark _ _ cAsInA c.mark_cAsInA.ensures c.in_ok-m.was in
     let is = along-seen _ _ (trace (person then mark ymUs)) c.look_back.ensures c.person_and_ymUs.ensures in
-    then-cut _ _ step (trace (person then mark ymUs)) (sym c.in-Fits.is ∙ is) c.deleted.ensures c.behind.ensures
+    then-cut _ _ step (trace (person then mark ymUs)) (sym c.in_ok-rest.was ∙ is) c.behind.ensures c.deleted.ensures

@@ -1,11 +1,7 @@
--- `stages::trail::Way::behind` meets its contract: marks and finding go by themselves. Assumes nothing.
-use mathlib.Core.Path.{ap₂}
-use Rattle.vowels.specs.declared.harmony.Accord.{Accord}
-use Rattle.stages.specs.declared.trail.Trail.{Trail}
-use Rattle.stages.specs.declared.trail.Way.{Way}
-use Rattle.stages.specs.Trail.{behind_way}
+-- `stages::trail::Way::behind` meets its contract: it is made as the definition has it. Assumes nothing.
+use Rattle.stages.specs.Trail.{behind_trail, behind_way}
 use Rattle.stages.proofs.trail.Way.behind.Goals as goal
 
 pub returns : goal.returns
-unfolding behind_way
-returns c = ap₂ {C = Way} (λ (t : Trail) (h : Accord). record { trail = t; heard = h }) c.behind.ensures c.or_else.ensures
+unfolding behind_trail behind_way
+returns c = rw (c.of.ensures, c.or.ensures)
