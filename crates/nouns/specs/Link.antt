@@ -1,6 +1,6 @@
 -- One turn of the chain before `ki` in the simple form, and as the code holds it: what it takes, and whether the chain is called behind it.
 -- Assumes nothing.
-use Rattle.std.specs.Prelude.{ℕ, ◌+◌, true, List, drop}
+use Rattle.std.specs.Prelude.{ℕ, ◌+◌, true, List, drop, Option, Some, None}
 use Rattle.utf8.specs.declared.cursor.Cursor.{Cursor}
 use Rattle.utf8.specs.Behind.{back_by}
 use Rattle.theorems.specs.Simple.Grammar.{Out, fail, took, more, mark_of}
@@ -8,7 +8,7 @@ use Rattle.theorems.specs.Simple.Marks.{lAr}
 use Rattle.theorems.specs.Simple.NounMarks.{possessives, sU, lArI, nUn, DA, ki}
 use Rattle.theorems.specs.Simple.Nouns.{chain, perhaps}
 use Rattle.nouns.specs.declared.link.Link.{Link}
-use Rattle.nouns.specs.declared.link.Link.TheVariants.{Unfit, Ends, Calls}
+use Rattle.nouns.specs.declared.link.Link.TheVariants.{Ends, Calls}
 
 -- it does not fit; it takes so many characters and ends the chain; it takes so many and the chain is called
 pub data Turn : Type 0 where
@@ -56,7 +56,7 @@ closed (ends k) cs = took k true
 closed (calls k) cs = more k true (perhaps chain (drop k cs))
 
 -- a turn from a record
-unfoldable pub linked : List ℕ → Cursor → Turn → Link
-linked w c unfit = Unfit
-linked w c (ends k) = Ends (back_by w c k).cursor
-linked w c (calls k) = Calls (back_by w c k).cursor
+unfoldable pub linked : List ℕ → Cursor → Turn → Option Link
+linked w c unfit = None
+linked w c (ends k) = Some (Ends (back_by w c k).cursor)
+linked w c (calls k) = Some (Calls (back_by w c k).cursor)

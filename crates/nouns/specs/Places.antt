@@ -1,9 +1,8 @@
--- A place to which an answer leads from a record: the place after what it takes, and the record's own where it fails. Assumes nothing.
-use Rattle.std.specs.Prelude.{ℕ, List}
+-- How far a step of a mark goes where harmony holds before a record. Assumes nothing.
+use Rattle.std.specs.Prelude.{ℕ, cond, List, Option, None}
 use Rattle.utf8.specs.declared.cursor.Cursor.{Cursor}
-use Rattle.utf8.specs.Behind.{back_by}
-use Rattle.theorems.specs.Simple.Grammar.{Out, fail, took}
+use Rattle.utf8.specs.Behind.{behind}
+use Rattle.theorems.specs.Simple.Harmony.{harmony}
 
-unfoldable pub place_after : List ℕ → Cursor → Out → ℕ
-place_after w c fail = c.cursor
-place_after w c (took k f) = (back_by w c k).cursor
+unfoldable pub in_harmony_of : List ℕ → Cursor → Option ℕ → Option ℕ
+in_harmony_of w c p = cond (harmony (behind w c)) p None

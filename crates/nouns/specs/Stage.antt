@@ -1,5 +1,5 @@
 -- The noun stage's answer on a word, as the code gives it, and its alternatives by their parts. Assumes nothing.
-use Rattle.std.specs.Prelude.{ℕ, ◌+◌, true, false, List, drop}
+use Rattle.std.specs.Prelude.{ℕ, ◌+◌, List, drop, Option, Some, None}
 use Rattle.utf8.specs.declared.cursor.Cursor.{Cursor}
 use Rattle.utf8.specs.Characters.{before}
 use Rattle.utf8.specs.Behind.{back_by}
@@ -35,15 +35,21 @@ nUn_or_ylA_of = either (mark_of nUn) (mark_of ylA)
 unfoldable pub near_lAr : Taking
 near_lAr = either chain (owned chain)
 
+unfoldable pub lost_lAr_of : Taking
+lost_lAr_of = both (mark_of lAr) (perhaps near_lAr)
+
 unfoldable pub near_nUn_of : Taking
-near_nUn_of = either (both (mark_of lAr) (perhaps near_lAr)) (either (owned chain) chain)
+near_nUn_of = either lost_lAr_of (either (owned chain) chain)
 
 -- line 410: DA, yU or yA; possessives or lAr before it in the word; and the chain before that
 unfoldable pub DA_or_yU_or_yA_of : Taking
 DA_or_yU_or_yA_of = either (mark_of DA) (either (mark_of yU) (mark_of yA))
 
+unfoldable pub possessives_and_lAr_of : Taking
+possessives_and_lAr_of = both (mark_of possessives) (perhaps (mark_of lAr))
+
 unfoldable pub possessives_or_lAr_of : Taking
-possessives_or_lAr_of = either (both (mark_of possessives) (perhaps (mark_of lAr))) (mark_of lAr)
+possessives_or_lAr_of = either possessives_and_lAr_of (mark_of lAr)
 
 unfoldable pub near_DA_of : Taking
 near_DA_of = both possessives_or_lAr_of (perhaps chain)
@@ -59,19 +65,12 @@ pronominal_rest cs = cut_by (after_pronominal_of cs) (parted_by (pronominal cs) 
 
 -- ---- what is left ----
 
--- all n bytes; or the first `front` of them
-unfoldable pub whole_left : ℕ → Uninflected
-whole_left n = record { front = n; from = n; yes = false }
-
-unfoldable pub cut_left : ℕ → ℕ → Uninflected
-cut_left front n = record { front = front; from = n; yes = true }
-
--- what the stage leaves of the text before a record
-unfoldable pub left_at : List ℕ → Cursor → Rest → Uninflected
-left_at w c whole = whole_left c.cursor
-left_at w c (cut k) = cut_left (back_by w c k).cursor c.cursor
-left_at w c (parted j k) = record { front = (back_by w c (j + k)).cursor; from = (back_by w c j).cursor; yes = true }
+-- another text that the stage leaves of the text before a record, if it does
+unfoldable pub left_at : List ℕ → Cursor → Rest → Option Uninflected
+left_at w c whole = None
+left_at w c (cut k) = Some (record { front = (back_by w c k).cursor; from = c.cursor })
+left_at w c (parted j k) = Some (record { front = (back_by w c (j + k)).cursor; from = (back_by w c j).cursor })
 
 -- of the first n bytes of a word
-unfoldable pub uninflected_of : List ℕ → ℕ → Uninflected
+unfoldable pub uninflected_of : List ℕ → ℕ → Option Uninflected
 uninflected_of w n = left_at w (record { cursor = n; limit = n; limit_backward = 0 }) (noun_rest (before w n))

@@ -5,4 +5,5 @@ mod chain;
 mod link;
 mod mark;
 pub mod stage;
+mod step;
 mod tables;

@@ -25,6 +25,6 @@ pub fn noun_word(w: &[u8], out: &mut [u8]) -> NounAnswer
     NounAnswer {
         refusal: 0,
         length,
-        yes: u.yes,
+        yes: u.is_some(),
     }
 }

@@ -4,7 +4,7 @@ ghost use Rattle.std.specs.Prelude.{◌≡◌, ◌+◌, ◌-◌, ◌≤◌, leng
 ghost use Rattle.turkish.specs.Calls.{written};
 ghost use Rattle.stages.specs.Outcome.{outcome_of};
 ghost use Rattle.repairs.specs.Repairs.{letter_bytes};
-ghost use Rattle.outputs.specs.Runs.{run_text, front_run, left_run, whole_run_of};
+ghost use Rattle.outputs.specs.Runs.{run_text, front_run, left_run, front_repaired, whole_run_of};
 
 use crate::repair;
 use nouns::stage as noun;
@@ -34,13 +34,28 @@ impl Run {
         }
     }
 
-    // What the noun stage leaves of the first n bytes.
-    pub fn left(u: Uninflected, n: usize) -> Run
+    // What the noun stage leaves of the first n bytes, all of them where nothing fits.
+    pub fn left(u: Option<Uninflected>, n: usize) -> Run
         ensures { result ≡ left_run u n }
     {
+        let Some(u) = u else {
+            return Run::front(n);
+        };
         Run {
             repair: Repair::unchanged(u.front, true),
             from: u.from,
+            upto: n,
+        }
+    }
+
+    // The postlude of the first `front` bytes, where the noun stage had n.
+    fn repaired(w: &[u8], front: usize, n: usize) -> Run
+        requires { front ≤ length w.now }
+        ensures { result ≡ front_repaired w.now front n }
+    {
+        Run {
+            repair: postlude::postlude(w, front),
+            from: n,
             upto: n,
         }
     }
@@ -56,15 +71,13 @@ pub fn whole_of(w: &[u8], s: Outcome) -> Run
     if !s.flag {
         return Run::front(kept);
     }
-    let u = noun::stem_noun_suffixes(w, kept);
+    let Some(u) = noun::stem_noun_suffixes(w, kept) else {
+        return Run::repaired(w, kept, kept);
+    };
     if u.from < kept {
-        return Run::left(u, kept);
+        return Run::left(Some(u), kept);
     }
-    Run {
-        repair: postlude::postlude(w, u.front),
-        from: kept,
-        upto: kept,
-    }
+    Run::repaired(w, u.front, kept)
 }
 
 // Writes the text of a run over w, and gives its length.

@@ -2,13 +2,14 @@
 -- Assumes nothing.
 use Prim.Native.Nat.{ℕ, ◌+◌}
 use mathlib.Core.Path.{◌≡◌, ◌∙◌}
-use mathlib.Core.Bool.{false}
+use mathlib.Core.Bool.{Bool, false}
 use mathlib.Core.List.{List}
 use lib.ListN.{length}
 use borrow.Author.Tests.{ne_eqb}
 use Rattle.turkish.specs.declared.answer.NounAnswer.{NounAnswer}
 use Rattle.turkish.specs.declared.answer.WholeAnswer.{WholeAnswer}
 use Rattle.turkish.specs.Calls.{written, refusal_into_of, noun_refusal, noun_call, noun_out, whole_text, whole_refusal, whole_call, whole_out}
+use Rattle.std.specs.Prelude.{Option, is_some}
 use Rattle.nouns.specs.declared.stage.Uninflected.{Uninflected}
 use Rattle.nouns.specs.Stage.{uninflected_of}
 use Rattle.refusals.proofs.Laws.Refusals.{into-accepted}
@@ -26,13 +27,13 @@ module _ (w out : List ℕ) (n : ℕ) (e : n ≡ refusal_into_of w (length w) (l
   noun_call-noun_out-refused h = (rw (← e, ne_eqb n 0 h), rw (← e, ne_eqb n 0 h))
 
   -- any other gives the length of what is left and the stage's answer, and leaves the text written
-  pub noun_call-noun_out-given : n ≡ 0 → (u : Uninflected) → u ≡ uninflected_of w (length w) → (r : Run) → r ≡ left_run u (length w)
-      → (k : ℕ) (last : List ℕ) → k ≡ length (run_text w r) → last ≡ written (run_text w r) out
-      → (◌≡◌ {A = NounAnswer} (record { refusal = 0; length = k; yes = u.yes }) (noun_call w (length out))) × (last ≡ noun_out w out)
+  pub noun_call-noun_out-given : n ≡ 0 → (u : Option Uninflected) → u ≡ uninflected_of w (length w) → (r : Run) → r ≡ left_run u (length w)
+      → {y : Bool} → y ≡ is_some u → (k : ℕ) (last : List ℕ) → k ≡ length (run_text w r) → last ≡ written (run_text w r) out
+      → (◌≡◌ {A = NounAnswer} (record { refusal = 0; length = k; yes = y }) (noun_call w (length out))) × (last ≡ noun_out w out)
   unfolding noun_call noun_out noun_refusal noun_run
-  noun_call-noun_out-given z u p r q k last l o =
+  noun_call-noun_out-given z u p r q is k last l o =
       let t = noun_run-text w (into-accepted w (length w) (length out) n e z) in
-      (rw (← e, z, ← t, ← uninflected_of-yes w, l, q, p), o ∙ rw (← e, z, ← t, q, p))
+      (rw (← e, z, ← t, ← uninflected_of-yes w, l, is, q, p), o ∙ rw (← e, z, ← t, q, p))
 
 -- ---- the whole run ----
 

@@ -37,10 +37,12 @@ use Rattle.repairs.specs.declared.postlude.Repair.{Repair}
 use Rattle.stages.specs.Outcome.{outcome_of}
 use Rattle.repairs.specs.Repairs.{ending, letter_bytes, repair_text, unchanged, repair_of}
 use Rattle.repairs.proofs.RepairText.{repair-text, repair-size}
+use Rattle.encoding.proofs.Laws.Booleans.{cond_cases}
+use Rattle.std.specs.Prelude.{Option, Some, None, is_some}
 use Rattle.nouns.specs.declared.stage.Uninflected.{Uninflected}
-use Rattle.nouns.specs.Stage.{whole_left, cut_left, left_at, uninflected_of}
+use Rattle.nouns.specs.Stage.{left_at, uninflected_of}
 use Rattle.outputs.specs.declared.run.Run.{Run}
-use Rattle.outputs.specs.Runs.{run_text, front_run, left_run, noun_run, repaired_run, whole_run_of}
+use Rattle.outputs.specs.Runs.{run_text, front_run, left_run, noun_run, front_repaired, repaired_run, whole_run_of}
 use Rattle.outputs.proofs.Laws.RepairCalls.{before-kept_length}
 
 -- ---- the text of a run ----
@@ -96,7 +98,7 @@ module _ (w : List ℕ) (t : TextOf w) (m n : ℕ) (e : n ≡ back w (length w) 
 
   -- what the noun stage leaves of the first n bytes has its text
   left-text : (r : Rest) → run_text w (left_run (left_at w (ending n) r) n) ≡ bytes (rest_text r (before w n))
-  unfolding ending left_at whole_left cut_left left_run rest_text back
+  unfolding ending left_at left_run front_run rest_text back
   left-text whole = front-text w _ _ n refl ∙ bytes-front 0
   left-text (cut k) = front-text w _ _ n refl ∙ rw (back_by-back w n n k) (bytes-front k)
   left-text (parted j k) =
@@ -116,8 +118,8 @@ module _ (w : List ℕ) (t : TextOf w) (m n : ℕ) (e : n ≡ back w (length w) 
   -- what the noun stage leaves after the postlude: letters that stay begin before the place, and the postlude leaves them
   repaired-left : {r : Rest} → noun_rest (before w n) ≡ r → Rests (before w n) r
       → run_text w (repaired_run w (left_at w (ending n) r) n) ≡ bytes (postlude (rest_text r (before w n)))
-  unfolding repaired_run ending left_at whole_left cut_left rest_text back nouns.noun_leaves
-  repaired-left e all = rw (le-ltb n n (omega arith)) (repaired-text w _ refl ∙ repair-before 0)
+  unfolding repaired_run front_repaired ending left_at rest_text back nouns.noun_leaves
+  repaired-left e all = repaired-text w _ refl ∙ repair-before 0
   repaired-left e (shorter k p q) = rw (le-ltb n n (omega arith), back_by-back w n n k) (repaired-text w _ refl ∙ repair-before k)
   repaired-left e (closer j k o p q) =
       let less : back w n j < n = back-less w n j (staying-some j (before w n) o) (omega arith) in
@@ -133,11 +135,11 @@ module _ (w : List ℕ) (t : TextOf w) (m n : ℕ) (e : n ≡ back w (length w) 
 -- ---- of a word ----
 
 -- the code's yes is the noun stage's
-pub uninflected_of-yes : (w : List ℕ) → (uninflected_of w (length w)).yes ≡ (noun_stage (chars w)).yes
-unfolding uninflected_of left_at whole_left cut_left noun_yes is_cut chars
+pub uninflected_of-yes : (w : List ℕ) → is_some (uninflected_of w (length w)) ≡ (noun_stage (chars w)).yes
+unfolding uninflected_of left_at noun_yes is_cut chars
 uninflected_of-yes w = go (noun_rest (chars w)) ∙ sym (noun_stage-yes (chars w))
   where
-    go : (r : Rest) → (left_at w (record { cursor = length w; limit = length w; limit_backward = 0 }) r).yes ≡ is_cut r
+    go : (r : Rest) → is_some (left_at w (record { cursor = length w; limit = length w; limit_backward = 0 }) r) ≡ is_cut r
     go whole = refl
     go (cut k) = refl
     go (parted j k) = refl
@@ -179,17 +181,22 @@ module _ (w : List ℕ) (s : Outcome) (q : s ≡ outcome_of w) where
   pub whole_run_of-front : s.flag ≡ false → (r : Run) → r ≡ front_run s.kept → r ≡ whole_run_of w
   whole_run_of-front f r e = e ∙ rw (whole_run_of-outcome, f)
 
-  module _ (f : s.flag ≡ true) (u : Uninflected) (p : u ≡ uninflected_of w s.kept) where
-    -- else what the noun stage leaves, where letters stay behind a cut
-    pub whole_run_of-left : u.from < s.kept → (r : Run) → r ≡ left_run u s.kept → r ≡ whole_run_of w
+  module _ (f : s.flag ≡ true) where
+    -- else the postlude of the whole, where the noun stage leaves that
+    pub whole_run_of-whole : None ≡ uninflected_of w s.kept → (r : Run) → r ≡ front_repaired w s.kept s.kept → r ≡ whole_run_of w
     unfolding repaired_run
-    whole_run_of-left l r e = e ∙ rw (whole_run_of-outcome, f, ← p, lt-ltb u.from s.kept l)
+    whole_run_of-whole p r e = e ∙ rw (whole_run_of-outcome, f, ← p)
 
-    -- or the postlude of that
-    pub whole_run_of-repaired : s.kept ≤ u.from → (r : Repair) → r ≡ repair_of w u.front
-        → ◌≡◌ {A = Run} (record { repair = r; from = s.kept; upto = s.kept }) (whole_run_of w)
-    unfolding repaired_run
-    whole_run_of-repaired l r e = rw (whole_run_of-outcome, f, ← p, le-ltb u.from s.kept l, e)
+    module _ {u : Uninflected} (p : Some u ≡ uninflected_of w s.kept) where
+      -- else what the noun stage leaves, where letters stay behind a cut
+      pub whole_run_of-left : u.from < s.kept → (r : Run) → r ≡ left_run (Some u) s.kept → r ≡ whole_run_of w
+      unfolding repaired_run
+      whole_run_of-left l r e = e ∙ rw (whole_run_of-outcome, f, ← p, lt-ltb u.from s.kept l)
+
+      -- or the postlude of that
+      pub whole_run_of-repaired : s.kept ≤ u.from → (r : Run) → r ≡ front_repaired w u.front s.kept → r ≡ whole_run_of w
+      unfolding repaired_run
+      whole_run_of-repaired l r e = e ∙ rw (whole_run_of-outcome, f, ← p, le-ltb u.from s.kept l)
 
 -- ---- the room ----
 
@@ -206,7 +213,7 @@ fits_more w r n room h (k, (f, (u, l))) = (k, (f, (u, omega arith)))
 module _ (w : List ℕ) (n : ℕ) (h : n ≤ length w) where
   -- what the noun stage leaves of the first n bytes takes no more
   left-fits : (r : Rest) → Fits w (left_run (left_at w (ending n) r) n) n
-  unfolding ending left_at whole_left cut_left left_run unchanged
+  unfolding ending left_at left_run front_run unchanged
   left-fits whole = omega arith
   left-fits (cut k) = rw (back_by-back w n n k) (omega (arith, back-le w n k))
   left-fits (parted j k) =
@@ -219,23 +226,24 @@ module _ (w : List ℕ) (n : ℕ) (h : n ≤ length w) where
 
   -- and two more after the postlude
   repaired-fits : Fits w (repaired_run w (uninflected_of w n) n) (n + 2)
-  unfolding repaired_run noun_run left_run unchanged
-  repaired-fits = go (ltb u.from n)
+  unfolding repaired_run front_repaired noun_run left_run unchanged
+  repaired-fits = go (uninflected_of w n) noun-fits
     where
-      u : Uninflected
-      u = uninflected_of w n
-
-      go : (t : Bool) → Fits w (cond t (left_run u n) (record { repair = repair_of w u.front; from = n; upto = n })) (n + 2)
-      go true = fits_more w (left_run u n) n (n + 2) (omega arith) noun-fits
-      go false = let s = repair-size w u.front noun-fits.0 in omega (arith, s.keeps, s.adds, noun-fits.1.1.1)
+      go : (u : Option Uninflected) → Fits w (left_run u n) n → Fits w (repaired_run w u n) (n + 2)
+      go None f = let s = repair-size w n h in omega (arith, s.keeps, s.adds)
+      go (Some u) f =
+          cond_cases (λ (r : Run). Fits w r (n + 2)) (ltb u.from n) (λ e. fits_more w (left_run (Some u) n) n (n + 2) (omega arith) f)
+          (λ e. let s = repair-size w u.front f.0 in omega (arith, s.keeps, s.adds, f.1.1.1))
 
 -- what stands before the cut lies within the word
-pub uninflected_of-front : (w : List ℕ) (n : ℕ) → n ≤ length w → (u : Uninflected) → u ≡ uninflected_of w n → u.front ≤ length w
+pub uninflected_of-front : (w : List ℕ) (n : ℕ) → n ≤ length w → {u : Uninflected} → Some u ≡ uninflected_of w n → u.front ≤ length w
 unfolding noun_run left_run unchanged
-uninflected_of-front w n h u p = rw p (noun-fits w n h).0
+uninflected_of-front w n h {u} p =
+    let fits : Fits w (left_run (Some u) n) n = rw p (noun-fits w n h) in
+    fits.0
 
 -- an output of n bytes has room for what the noun stage leaves of a word
-pub left_run-fits : (w : List ℕ) (room : ℕ) → length w ≤ room → (u : Uninflected) → u ≡ uninflected_of w (length w)
+pub left_run-fits : (w : List ℕ) (room : ℕ) → length w ≤ room → (u : Option Uninflected) → u ≡ uninflected_of w (length w)
     → (r : Run) → r ≡ left_run u (length w) → Fits w r room
 unfolding noun_run
 left_run-fits w room l u p r q = rw (q, p) (fits_more w (noun_run w (length w)) (length w) room l (noun-fits w (length w) (omega arith)))

@@ -2,4 +2,4 @@
 use Rattle.nouns.proofs.chain.+stem_suffix_chain_before_ki.Given as goal
 
 abbrev pub decreases-stem_suffix_chain_before_ki : goal.decreases-stem_suffix_chain_before_ki
-decreases-stem_suffix_chain_before_ki l = l.c.cursor
+decreases-stem_suffix_chain_before_ki l = l.s.c.cursor

@@ -1,70 +1,61 @@
 -- `nouns::link::one_link` meets its contract: `ki`, and before it DA or nUn with what stands behind that. Assumes nothing.
-use mathlib.Core.Path.{refl}
-use borrow.Author.Tests.{not-true, not-false}
+use mathlib.Core.Path.{refl, ◌∙◌}
 use Rattle.theorems.specs.Simple.Grammar.{mark_of}
 use Rattle.theorems.specs.Simple.NounMarks.{nUn, DA, ki}
-use Rattle.keys.proofs.Laws.Sees.{sees-made}
 use Rattle.nouns.specs.Link.{unfit, before_DA_of, before_nUn_of, before_ki, link_of, linked}
-use Rattle.nouns.proofs.Laws.Passing.{mark-seen, leads-moved, leads-open}
+use Rattle.nouns.proofs.Laws.Passing.{leads-open, step-sees}
 use Rattle.nouns.proofs.Laws.Links.{or-none, or-then}
 use Rattle.nouns.proofs.link.one_link.Goals as goal
 
-pub mark_ki-requires : goal.mark_ki-requires
-mark_ki-requires c = sees-made _ _ c.look_back.ensures c.requires
-
-pub returns-then-not-k : goal.returns-then-not-k
+pub returns-in_err-mark_ki : goal.returns-in_err-mark_ki
 unfolding link_of linked
-returns-then-not-k c =
-    or-none _ _ (mark_of ki) unfit _ (mark-seen _ _ ki c.look_back.ensures c.mark_ki.ensures c.place-k.ensures)
-    (not-true _ c.if-not-k.true) refl
+returns-in_err-mark_ki c = c.from_residual.ensures ∙ or-none _ _ (mark_of ki) unfit c.mark_ki.ensures _ c.in_err-mark_ki.was refl
 
-pub look_back-s-requires : goal.look_back-s-requires
-look_back-s-requires c =
-    let is = mark-seen _ _ ki c.look_back.ensures c.mark_ki.ensures c.place-k.ensures in
-    leads-open _ _ (leads-moved _ _ _ is (not-false _ c.if-not-k.false) c.moved_to-d.ensures) c.requires
+pub step_to-t-requires : goal.step_to-t-requires
+step_to-t-requires c = leads-open _ _ _ c.mark_ki.ensures c.requires.opens c.in_ok-mark_ki.was
 
 pub mark_DA-requires : goal.mark_DA-requires
-mark_DA-requires c = sees-made _ _ c.look_back-s.ensures ((let is = mark-seen _ _ ki c.look_back.ensures c.mark_ki.ensures c.place-k.ensures in
-    leads-open _ _ (leads-moved _ _ _ is (not-false _ c.if-not-k.false) c.moved_to-d.ensures) c.requires))
+mark_DA-requires c = step-sees _ _ _ c.mark_ki.ensures c.requires c.in_ok-mark_ki.was c.step_to-t.ensures
+
+pub step_to-requires : goal.step_to-requires
+step_to-requires c =
+    let sees = step-sees _ _ _ c.mark_ki.ensures c.requires c.in_ok-mark_ki.was c.step_to-t.ensures in
+    leads-open _ _ _ c.mark_DA.ensures sees.opens c.in-Some.is
 
 pub before_DA-requires : goal.before_DA-requires
 before_DA-requires c =
-    let is = mark-seen _ _ DA c.look_back-s.ensures c.mark_DA.ensures c.place-p.ensures in
-    leads-open _ _ (leads-moved _ _ _ is c.if-p.true c.moved_to.ensures) ((let is = mark-seen _ _ ki c.look_back.ensures c.mark_ki.ensures c.place-k.ensures in
-    leads-open _ _ (leads-moved _ _ _ is (not-false _ c.if-not-k.false) c.moved_to-d.ensures) c.requires))
+    let sees = step-sees _ _ _ c.mark_ki.ensures c.requires c.in_ok-mark_ki.was c.step_to-t.ensures in
+    step-sees _ _ _ c.mark_DA.ensures sees c.in-Some.is c.step_to.ensures
 
-pub returns-then-p : goal.returns-then-p
+pub returns-in-Some : goal.returns-in-Some
 unfolding link_of before_ki
-returns-then-p c =
-    let before = mark-seen _ _ ki c.look_back.ensures c.mark_ki.ensures c.place-k.ensures in
-    let is = mark-seen _ _ DA c.look_back-s.ensures c.mark_DA.ensures c.place-p.ensures in
-    or-then _ _ (mark_of ki) unfit (leads-moved _ _ _ before (not-false _ c.if-not-k.false) c.moved_to-d.ensures) before_ki
-    (or-then _ _ (mark_of DA) _ (leads-moved _ _ _ is c.if-p.true c.moved_to.ensures) before_DA_of c.before_DA.ensures)
+returns-in-Some c =
+    or-then _ _ (mark_of ki) unfit c.mark_ki.ensures c.in_ok-mark_ki.was before_ki c.step_to-t.ensures
+    (or-then _ _ (mark_of DA) _ c.mark_DA.ensures c.in-Some.is before_DA_of c.step_to.ensures c.before_DA.ensures)
 
 pub mark_nUn-requires : goal.mark_nUn-requires
-mark_nUn-requires c =
-    sees-made _ _ c.look_back-s.ensures ((let is = mark-seen _ _ ki c.look_back.ensures c.mark_ki.ensures c.place-k.ensures in
-    leads-open _ _ (leads-moved _ _ _ is (not-false _ c.if-not-k.false) c.moved_to-d.ensures) c.requires))
+mark_nUn-requires c = step-sees _ _ _ c.mark_ki.ensures c.requires c.in_ok-mark_ki.was c.step_to-t.ensures
+
+pub returns-in_err-p : goal.returns-in_err-p
+unfolding link_of before_ki linked
+returns-in_err-p c =
+    c.from_residual-in_err-p.ensures
+    ∙ or-then _ _ (mark_of ki) unfit c.mark_ki.ensures c.in_ok-mark_ki.was before_ki c.step_to-t.ensures
+    (or-none _ _ (mark_of DA) _ c.mark_DA.ensures _ c.in_default.is (or-none _ _ (mark_of nUn) unfit c.mark_nUn.ensures _ c.in_err-p.was refl))
+
+pub step_to-requires-2 : goal.step_to-requires-2
+step_to-requires-2 c =
+    let sees = step-sees _ _ _ c.mark_ki.ensures c.requires c.in_ok-mark_ki.was c.step_to-t.ensures in
+    leads-open _ _ _ c.mark_nUn.ensures sees.opens c.in_ok-p.was
 
 pub before_nUn-requires : goal.before_nUn-requires
 before_nUn-requires c =
-    let is = mark-seen _ _ nUn c.look_back-s.ensures c.mark_nUn.ensures c.place-q.ensures in
-    leads-open _ _ (leads-moved _ _ _ is c.if-q.true c.moved_to-then-q.ensures) ((let is = mark-seen _ _ ki c.look_back.ensures c.mark_ki.ensures c.place-k.ensures in
-    leads-open _ _ (leads-moved _ _ _ is (not-false _ c.if-not-k.false) c.moved_to-d.ensures) c.requires))
-
-pub returns-then-q : goal.returns-then-q
-unfolding link_of before_ki
-returns-then-q c =
-    let before = mark-seen _ _ ki c.look_back.ensures c.mark_ki.ensures c.place-k.ensures in
-    let is = mark-seen _ _ nUn c.look_back-s.ensures c.mark_nUn.ensures c.place-q.ensures in
-    or-then _ _ (mark_of ki) unfit (leads-moved _ _ _ before (not-false _ c.if-not-k.false) c.moved_to-d.ensures) before_ki
-    (or-none _ _ (mark_of DA) _ _ (mark-seen _ _ DA c.look_back-s.ensures c.mark_DA.ensures c.place-p.ensures) c.if-p.false
-    (or-then _ _ (mark_of nUn) unfit (leads-moved _ _ _ is c.if-q.true c.moved_to-then-q.ensures) before_nUn_of c.before_nUn.ensures))
+    let sees = step-sees _ _ _ c.mark_ki.ensures c.requires c.in_ok-mark_ki.was c.step_to-t.ensures in
+    step-sees _ _ _ c.mark_nUn.ensures sees c.in_ok-p.was c.step_to-2.ensures
 
 pub returns : goal.returns
-unfolding link_of before_ki linked
+unfolding link_of before_ki
 returns c =
-    let before = mark-seen _ _ ki c.look_back.ensures c.mark_ki.ensures c.place-k.ensures in
-    or-then _ _ (mark_of ki) unfit (leads-moved _ _ _ before (not-false _ c.if-not-k.false) c.moved_to-d.ensures) before_ki
-    (or-none _ _ (mark_of DA) _ _ (mark-seen _ _ DA c.look_back-s.ensures c.mark_DA.ensures c.place-p.ensures) c.if-p.false
-    (or-none _ _ (mark_of nUn) unfit _ (mark-seen _ _ nUn c.look_back-s.ensures c.mark_nUn.ensures c.place-q.ensures) c.if-q.false refl))
+    or-then _ _ (mark_of ki) unfit c.mark_ki.ensures c.in_ok-mark_ki.was before_ki c.step_to-t.ensures
+    (or-none _ _ (mark_of DA) _ c.mark_DA.ensures _ c.in_default.is
+    (or-then _ _ (mark_of nUn) unfit c.mark_nUn.ensures c.in_ok-p.was before_nUn_of c.step_to-2.ensures c.before_nUn.ensures))

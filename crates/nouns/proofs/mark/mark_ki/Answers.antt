@@ -1,25 +1,17 @@
 -- `nouns::mark::mark_ki` meets its contract: by the key found in its table alone. Assumes nothing.
-use mathlib.Core.Path.{◌≡◌, refl}
+use mathlib.Core.Path.{refl}
 use Rattle.turkish.specs.Letters.{text, from_end}
-use Rattle.theorems.specs.Simple.Marks.{unjoined, marked}
+use Rattle.theorems.specs.Simple.Marks.{marked, unjoined}
 use Rattle.theorems.specs.Simple.NounMarks.{ki}
-use Rattle.keys.specs.Keys.{up_to_zero, row, rows_within, rows}
-use Rattle.keys.specs.Search.{found}
-use Rattle.marks.proofs.Laws.Marks.{mark-nothing, mark-kept, key-alone}
+use Rattle.keys.specs.Keys.{up_to_zero, rows}
+use Rattle.marks.proofs.Laws.Marks.{key-alone}
+use Rattle.nouns.proofs.Laws.Marks.{mark-none, mark-free}
 use Rattle.nouns.proofs.mark.mark_ki.Goals as goal
 
 pub returns-in_default : goal.returns-in_default
-unfolding rows rows_within row up_to_zero ki marked from_end text
-returns-in_default c =
-    let searched : c.find_among_b.result ≡ found ki.keys c.args.w.now c.args.s.c =
-    c.find_among_b.ensures in
-    mark-nothing ki ki.keys _ _ refl (searched) c.in_default.is
+unfolding ki marked rows up_to_zero from_end text
+returns-in_default c = mark-none ki _ _ c.find_among_b.ensures c.in_default.is
 
 pub returns : goal.returns
-unfolding unjoined ki marked rows rows_within row up_to_zero from_end text
-returns c =
-    let searched : c.find_among_b.result ≡ found ki.keys c.args.w.now c.args.s.c =
-    c.find_among_b.ensures in
-    let k = searched in
-    let p = key-alone ki ki.keys _ _ refl k c.in-Key.is refl c.to.ensures in
-    mark-kept ki _ _ p refl c.kept.ensures
+unfolding unjoined ki marked rows up_to_zero from_end text
+returns c = mark-free ki _ _ (key-alone ki _ _ _ c.find_among_b.ensures refl c.in-Some.is refl) refl

@@ -1,25 +1,17 @@
--- `nouns::mark::mark_nU` meets its contract: by the key found in its table alone and harmony. Assumes nothing.
-use mathlib.Core.Path.{◌≡◌, refl}
+-- `nouns::mark::mark_nU` meets its contract: by the key found in its table alone, and harmony. Assumes nothing.
+use mathlib.Core.Path.{refl}
 use Rattle.turkish.specs.Letters.{text, from_end}
-use Rattle.theorems.specs.Simple.Marks.{unjoined, marked}
+use Rattle.theorems.specs.Simple.Marks.{marked, unjoined}
 use Rattle.theorems.specs.Simple.NounMarks.{nU}
-use Rattle.keys.specs.Keys.{up_to_zero, row, rows_within, rows}
-use Rattle.keys.specs.Search.{found}
-use Rattle.marks.proofs.Laws.Marks.{mark-nothing, mark-in-harmony, key-alone}
+use Rattle.keys.specs.Keys.{up_to_zero, rows}
+use Rattle.marks.proofs.Laws.Marks.{key-alone}
+use Rattle.nouns.proofs.Laws.Marks.{mark-none, mark-bound}
 use Rattle.nouns.proofs.mark.mark_nU.Goals as goal
 
 pub returns-in_default : goal.returns-in_default
-unfolding rows rows_within row up_to_zero nU marked from_end text
-returns-in_default c =
-    let searched : c.find_among_b.result ≡ found nU.keys c.args.w.now c.args.s.c =
-    c.find_among_b.ensures in
-    mark-nothing nU nU.keys _ _ refl (searched) c.in_default.is
+unfolding nU marked rows up_to_zero from_end text
+returns-in_default c = mark-none nU _ _ c.find_among_b.ensures c.in_default.is
 
 pub returns : goal.returns
-unfolding unjoined nU marked rows rows_within row up_to_zero from_end text
-returns c =
-    let searched : c.find_among_b.result ≡ found nU.keys c.args.w.now c.args.s.c =
-    c.find_among_b.ensures in
-    let k = searched in
-    let p = key-alone nU nU.keys _ _ refl k c.in-Key.is refl refl in
-    mark-in-harmony nU _ _ p refl c.in_harmony.ensures
+unfolding unjoined nU marked rows up_to_zero from_end text
+returns c = mark-bound nU _ _ (key-alone nU _ _ _ c.find_among_b.ensures refl c.in-Some.is refl) refl c.in_harmony.ensures

@@ -1,33 +1,22 @@
--- `nouns::mark::mark_nUn` meets its contract: by the key found in its table, what joins it and harmony. Assumes nothing.
-use mathlib.Core.Path.{◌≡◌, refl}
+-- `nouns::mark::mark_nUn` meets its contract: by the key found in its table and what joins it, and harmony. Assumes nothing.
+use mathlib.Core.Path.{refl}
 use Rattle.turkish.specs.Letters.{text, from_end}
 use Rattle.theorems.specs.Simple.Grammar.{joining}
 use Rattle.theorems.specs.Simple.Marks.{marked}
-use Rattle.theorems.specs.Simple.NounMarks.{by_n, nUn}
-use Rattle.keys.specs.Keys.{up_to_zero, row, rows_within, rows}
-use Rattle.keys.specs.Search.{found}
-use Rattle.marks.proofs.Laws.Marks.{mark-nothing, mark-in-harmony, key-open, key-joined}
+use Rattle.theorems.specs.Simple.NounMarks.{nUn, by_n}
+use Rattle.keys.specs.Keys.{up_to_zero, rows}
+use Rattle.marks.proofs.Laws.Marks.{key-open, key-joined}
+use Rattle.nouns.proofs.Laws.Marks.{mark-none, mark-bound}
 use Rattle.nouns.proofs.mark.mark_nUn.Goals as goal
 
 pub returns-in_default : goal.returns-in_default
-unfolding rows rows_within row up_to_zero nUn marked from_end text
-returns-in_default c =
-    let searched : c.find_among_b.result ≡ found nUn.keys c.args.w.now c.args.s.c =
-    c.find_among_b.ensures in
-    mark-nothing nUn nUn.keys _ _ refl (searched) c.in_default.is
+unfolding nUn marked rows up_to_zero from_end text
+returns-in_default c = mark-none nUn _ _ c.find_among_b.ensures c.in_default.is
 
-pub mark_suffix_with_optional_consonant-p-requires : goal.mark_suffix_with_optional_consonant-p-requires
-unfolding rows rows_within row up_to_zero nUn marked from_end text
-mark_suffix_with_optional_consonant-p-requires c =
-    let searched : c.find_among_b.result ≡ found nUn.keys c.args.w.now c.args.s.c =
-    c.find_among_b.ensures in
-    key-open nUn nUn.keys _ _ refl (searched) c.in-Key.is c.requires.opens
+pub mark_suffix_with_optional_consonant-requires : goal.mark_suffix_with_optional_consonant-requires
+unfolding nUn marked rows up_to_zero from_end text
+mark_suffix_with_optional_consonant-requires c = key-open nUn _ _ _ c.find_among_b.ensures refl c.in-Some.is c.requires.opens
 
 pub returns : goal.returns
-unfolding joining by_n nUn marked text rows rows_within row up_to_zero from_end
-returns c =
-    let searched : c.find_among_b.result ≡ found nUn.keys c.args.w.now c.args.s.c =
-    c.find_among_b.ensures in
-    let k = searched in
-    let p = key-joined nUn nUn.keys _ _ refl k c.in-Key.is c.mark_suffix_with_optional_consonant-p.ensures in
-    mark-in-harmony nUn _ _ p refl c.kept_in_harmony.ensures
+unfolding joining by_n nUn marked rows up_to_zero from_end text
+returns c = mark-bound nUn _ _ (key-joined nUn _ _ _ c.find_among_b.ensures refl c.in-Some.is c.mark_suffix_with_optional_consonant.ensures) refl c.in_harmony.ensures

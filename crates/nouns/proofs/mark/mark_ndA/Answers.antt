@@ -1,25 +1,17 @@
--- `nouns::mark::mark_ndA` meets its contract: by the key found in its table alone and harmony. Assumes nothing.
-use mathlib.Core.Path.{◌≡◌, refl}
+-- `nouns::mark::mark_ndA` meets its contract: by the key found in its table alone, and harmony. Assumes nothing.
+use mathlib.Core.Path.{refl}
 use Rattle.turkish.specs.Letters.{text, from_end}
-use Rattle.theorems.specs.Simple.Marks.{unjoined, marked}
+use Rattle.theorems.specs.Simple.Marks.{marked, unjoined}
 use Rattle.theorems.specs.Simple.NounMarks.{ndA}
-use Rattle.keys.specs.Keys.{up_to_zero, row, rows_within, rows}
-use Rattle.keys.specs.Search.{found}
-use Rattle.marks.proofs.Laws.Marks.{mark-nothing, mark-in-harmony, key-alone}
+use Rattle.keys.specs.Keys.{up_to_zero, rows}
+use Rattle.marks.proofs.Laws.Marks.{key-alone}
+use Rattle.nouns.proofs.Laws.Marks.{mark-none, mark-bound}
 use Rattle.nouns.proofs.mark.mark_ndA.Goals as goal
 
 pub returns-in_default : goal.returns-in_default
-unfolding rows rows_within row up_to_zero ndA marked from_end text
-returns-in_default c =
-    let searched : c.find_among_b.result ≡ found ndA.keys c.args.w.now c.args.s.c =
-    c.find_among_b.ensures in
-    mark-nothing ndA ndA.keys _ _ refl (searched) c.in_default.is
+unfolding ndA marked rows up_to_zero from_end text
+returns-in_default c = mark-none ndA _ _ c.find_among_b.ensures c.in_default.is
 
 pub returns : goal.returns
-unfolding unjoined ndA marked rows rows_within row up_to_zero from_end text
-returns c =
-    let searched : c.find_among_b.result ≡ found ndA.keys c.args.w.now c.args.s.c =
-    c.find_among_b.ensures in
-    let k = searched in
-    let p = key-alone ndA ndA.keys _ _ refl k c.in-Key.is refl refl in
-    mark-in-harmony ndA _ _ p refl c.in_harmony.ensures
+unfolding unjoined ndA marked rows up_to_zero from_end text
+returns c = mark-bound ndA _ _ (key-alone ndA _ _ _ c.find_among_b.ensures refl c.in-Some.is refl) refl c.in_harmony.ensures

@@ -1,33 +1,22 @@
 -- `nouns::mark::mark_possessives` meets its contract: by the key found in its table and what joins it. Assumes nothing.
-use mathlib.Core.Path.{◌≡◌, refl}
+use mathlib.Core.Path.{refl}
 use Rattle.turkish.specs.Letters.{text, from_end}
 use Rattle.theorems.specs.Simple.Grammar.{joining}
 use Rattle.theorems.specs.Simple.Marks.{marked}
-use Rattle.theorems.specs.Simple.NounMarks.{by_U, possessives}
-use Rattle.keys.specs.Keys.{up_to_zero, row, rows_within, rows}
-use Rattle.keys.specs.Search.{found}
-use Rattle.marks.proofs.Laws.Marks.{mark-nothing, mark-kept, key-open, key-joined}
+use Rattle.theorems.specs.Simple.NounMarks.{possessives, by_U}
+use Rattle.keys.specs.Keys.{up_to_zero, rows}
+use Rattle.marks.proofs.Laws.Marks.{key-open, key-joined}
+use Rattle.nouns.proofs.Laws.Marks.{mark-none, mark-free}
 use Rattle.nouns.proofs.mark.mark_possessives.Goals as goal
 
 pub returns-in_default : goal.returns-in_default
-unfolding rows rows_within row up_to_zero possessives marked from_end text
-returns-in_default c =
-    let searched : c.find_among_b.result ≡ found possessives.keys c.args.w.now c.args.s.c =
-    c.find_among_b.ensures in
-    mark-nothing possessives possessives.keys _ _ refl (searched) c.in_default.is
+unfolding possessives marked rows up_to_zero from_end text
+returns-in_default c = mark-none possessives _ _ c.find_among_b.ensures c.in_default.is
 
-pub mark_suffix_with_optional_U_vowel-p-requires : goal.mark_suffix_with_optional_U_vowel-p-requires
-unfolding rows rows_within row up_to_zero possessives marked from_end text
-mark_suffix_with_optional_U_vowel-p-requires c =
-    let searched : c.find_among_b.result ≡ found possessives.keys c.args.w.now c.args.s.c =
-    c.find_among_b.ensures in
-    key-open possessives possessives.keys _ _ refl (searched) c.in-Key.is c.requires.opens
+pub mark_suffix_with_optional_U_vowel-requires : goal.mark_suffix_with_optional_U_vowel-requires
+unfolding possessives marked rows up_to_zero from_end text
+mark_suffix_with_optional_U_vowel-requires c = key-open possessives _ _ _ c.find_among_b.ensures refl c.in-Some.is c.requires.opens
 
 pub returns : goal.returns
-unfolding joining by_U possessives marked text rows rows_within row up_to_zero from_end
-returns c =
-    let searched : c.find_among_b.result ≡ found possessives.keys c.args.w.now c.args.s.c =
-    c.find_among_b.ensures in
-    let k = searched in
-    let p = key-joined possessives possessives.keys _ _ refl k c.in-Key.is c.mark_suffix_with_optional_U_vowel-p.ensures in
-    mark-kept possessives _ _ p refl c.kept.ensures
+unfolding joining by_U possessives marked rows up_to_zero from_end text
+returns c = mark-free possessives _ _ (key-joined possessives _ _ _ c.find_among_b.ensures refl c.in-Some.is c.mark_suffix_with_optional_U_vowel.ensures) refl

@@ -1,33 +1,22 @@
--- `nouns::mark::mark_ylA` meets its contract: by the key found in its table, what joins it and harmony. Assumes nothing.
-use mathlib.Core.Path.{◌≡◌, refl}
+-- `nouns::mark::mark_ylA` meets its contract: by the key found in its table and what joins it, and harmony. Assumes nothing.
+use mathlib.Core.Path.{refl}
 use Rattle.turkish.specs.Letters.{text, from_end}
 use Rattle.theorems.specs.Simple.Grammar.{joining}
-use Rattle.theorems.specs.Simple.Marks.{by_y, marked}
+use Rattle.theorems.specs.Simple.Marks.{marked, by_y}
 use Rattle.theorems.specs.Simple.NounMarks.{ylA}
-use Rattle.keys.specs.Keys.{up_to_zero, row, rows_within, rows}
-use Rattle.keys.specs.Search.{found}
-use Rattle.marks.proofs.Laws.Marks.{mark-nothing, mark-in-harmony, key-open, key-joined}
+use Rattle.keys.specs.Keys.{up_to_zero, rows}
+use Rattle.marks.proofs.Laws.Marks.{key-open, key-joined}
+use Rattle.nouns.proofs.Laws.Marks.{mark-none, mark-bound}
 use Rattle.nouns.proofs.mark.mark_ylA.Goals as goal
 
 pub returns-in_default : goal.returns-in_default
-unfolding rows rows_within row up_to_zero ylA marked from_end text
-returns-in_default c =
-    let searched : c.find_among_b.result ≡ found ylA.keys c.args.w.now c.args.s.c =
-    c.find_among_b.ensures in
-    mark-nothing ylA ylA.keys _ _ refl (searched) c.in_default.is
+unfolding ylA marked rows up_to_zero from_end text
+returns-in_default c = mark-none ylA _ _ c.find_among_b.ensures c.in_default.is
 
-pub mark_suffix_with_optional_consonant-p-requires : goal.mark_suffix_with_optional_consonant-p-requires
-unfolding rows rows_within row up_to_zero ylA marked from_end text
-mark_suffix_with_optional_consonant-p-requires c =
-    let searched : c.find_among_b.result ≡ found ylA.keys c.args.w.now c.args.s.c =
-    c.find_among_b.ensures in
-    key-open ylA ylA.keys _ _ refl (searched) c.in-Key.is c.requires.opens
+pub mark_suffix_with_optional_consonant-requires : goal.mark_suffix_with_optional_consonant-requires
+unfolding ylA marked rows up_to_zero from_end text
+mark_suffix_with_optional_consonant-requires c = key-open ylA _ _ _ c.find_among_b.ensures refl c.in-Some.is c.requires.opens
 
 pub returns : goal.returns
-unfolding joining by_y ylA marked text rows rows_within row up_to_zero from_end
-returns c =
-    let searched : c.find_among_b.result ≡ found ylA.keys c.args.w.now c.args.s.c =
-    c.find_among_b.ensures in
-    let k = searched in
-    let p = key-joined ylA ylA.keys _ _ refl k c.in-Key.is c.mark_suffix_with_optional_consonant-p.ensures in
-    mark-in-harmony ylA _ _ p refl c.kept_in_harmony.ensures
+unfolding joining by_y ylA marked rows up_to_zero from_end text
+returns c = mark-bound ylA _ _ (key-joined ylA _ _ _ c.find_among_b.ensures refl c.in-Some.is c.mark_suffix_with_optional_consonant.ensures) refl c.in_harmony.ensures

@@ -1,30 +1,17 @@
--- `nouns::stage::after_ncA` meets its contract: what may stand behind ncA is tried from where that leads. Assumes nothing.
-use mathlib.Core.Path.{◌∙◌}
-use borrow.Author.Tests.{not-true, not-false}
+-- `nouns::stage::after_ncA` meets its contract: what may stand before ncA is tried from where that leads. Assumes nothing.
 use Rattle.theorems.specs.Simple.Grammar.{mark_of}
 use Rattle.theorems.specs.Simple.NounMarks.{ncA}
-use Rattle.theorems.specs.Simple.Nouns.{perhaps, after_ncA_of}
+use Rattle.theorems.specs.Simple.Nouns.{after_ncA_of}
 use Rattle.nouns.specs.Stage.{near_ncA_of}
-use Rattle.keys.specs.Passed.{not_passed_of}
-use Rattle.marks.proofs.Laws.Marks.{place-reach}
-use Rattle.nouns.proofs.Laws.Passing.{leads-moved, leads-open, both-none, both-perhaps}
+use Rattle.nouns.proofs.Laws.Passing.{leads-open, step-sees, both-perhaps}
 use Rattle.nouns.proofs.stage.after_ncA.Goals as goal
 
-pub returns-then-not-p : goal.returns-then-not-p
-unfolding after_ncA_of near_ncA_of not_passed_of
-returns-then-not-p c =
-    let is = place-reach ncA _ _ c.mark_ncA.ensures c.place-p.ensures in
-    both-none _ _ (mark_of ncA) (perhaps near_ncA_of) is (not-true _ c.if-not-p.true)
+pub step_to-t-requires : goal.step_to-t-requires
+step_to-t-requires c = leads-open _ _ _ c.mark_ncA.ensures c.requires.opens c.in_ok-mark_ncA.was
 
 pub near_ncA-requires : goal.near_ncA-requires
-near_ncA-requires c =
-    let is = place-reach ncA _ _ c.mark_ncA.ensures c.place-p.ensures in
-    let lead = leads-moved _ _ _ is (not-false _ c.if-not-p.false) c.moved_to.ensures in
-    leads-open _ _ lead c.requires.opens
+near_ncA-requires c = step-sees _ _ _ c.mark_ncA.ensures c.requires c.in_ok-mark_ncA.was c.step_to-t.ensures
 
 pub returns : goal.returns
 unfolding after_ncA_of near_ncA_of
-returns c =
-    let is = place-reach ncA _ _ c.mark_ncA.ensures c.place-p.ensures in
-    let lead = leads-moved _ _ _ is (not-false _ c.if-not-p.false) c.moved_to.ensures in
-    c.to.ensures ∙ both-perhaps _ _ (mark_of ncA) near_ncA_of lead c.near_ncA.ensures
+returns c = both-perhaps _ _ (mark_of ncA) near_ncA_of c.mark_ncA.ensures c.in_ok-mark_ncA.was c.step_to-t.ensures c.near_ncA.ensures c.unwrap_or.ensures

@@ -1,48 +1,31 @@
--- `nouns::stage::after_pronominal` meets its contract: what is cut from where ndA or nA leads, or the chain before them where nothing is. Assumes
--- nothing.
-use mathlib.Core.Path.{refl, ◌∙◌}
-use borrow.Author.Tests.{not-true, not-false}
-use Rattle.theorems.specs.Simple.Nouns.{chain, pronominal, after_pronominal_of, whole}
-use Rattle.keys.specs.Passed.{passed_to, not_passed_of}
-use Rattle.nouns.specs.Stage.{left_at, near_pronominal_of, pronominal_rest}
-use Rattle.nouns.proofs.Laws.Passing.{leads-moved, leads-open, both-none, both-then, chain-none, chain-moved}
-use Rattle.nouns.proofs.Laws.Lines.{left_cut, left-else, parted-none, parted-else, parted-then}
+-- `nouns::stage::after_pronominal` meets its contract: what is cut from where ndA or nA leads, or the chain before them where nothing is.
+-- Assumes nothing.
+use mathlib.Core.Path.{◌∙◌}
+use Rattle.nouns.proofs.Laws.Passing.{leads-open, step-sees}
+use Rattle.nouns.proofs.Laws.Lines.{pronominal-fails, pronominal-cut, pronominal-parted}
 use Rattle.nouns.proofs.stage.after_pronominal.Goals as goal
 
-pub returns-then-not-p : goal.returns-then-not-p
-unfolding pronominal_rest after_pronominal_of near_pronominal_of not_passed_of left_at
-returns-then-not-p c =
-    let stays = not-true _ c.if-not-p.true in
-    c.whole.ensures
-    ∙ left-else _ _ _ (both-none _ _ pronominal near_pronominal_of c.pronominal-p.ensures stays) _ refl
-    (parted-none _ _ pronominal chain whole c.pronominal-p.ensures stays refl)
+pub returns-in_err-pronominal : goal.returns-in_err-pronominal
+returns-in_err-pronominal c = c.from_residual.ensures ∙ pronominal-fails _ _ c.pronominal.ensures c.in_err-pronominal.was
 
-pub near_pronominal-q-requires : goal.near_pronominal-q-requires
-near_pronominal-q-requires c =
-    leads-open _ _ (leads-moved _ _ _ c.pronominal-p.ensures (not-false _ c.if-not-p.false) c.moved_to-c.ensures) c.requires.opens
+pub step_to-t-requires : goal.step_to-t-requires
+step_to-t-requires c = leads-open _ _ _ c.pronominal.ensures c.requires.opens c.in_ok-pronominal.was
 
-pub returns-then-q : goal.returns-then-q
-unfolding pronominal_rest after_pronominal_of near_pronominal_of
-returns-then-q c =
-    let lead = leads-moved _ _ _ c.pronominal-p.ensures (not-false _ c.if-not-p.false) c.moved_to-c.ensures in
-    c.cut.ensures ∙ left_cut _ _ _ (both-then _ _ pronominal near_pronominal_of lead c.near_pronominal-q.ensures) _ c.if-q.true
+pub near_pronominal-requires : goal.near_pronominal-requires
+near_pronominal-requires c = step-sees _ _ _ c.pronominal.ensures c.requires c.in_ok-pronominal.was c.step_to-t.ensures
 
-pub stem_suffix_chain_before_ki-front-requires : goal.stem_suffix_chain_before_ki-front-requires
-stem_suffix_chain_before_ki-front-requires c = (leads-open _ _ (leads-moved _ _ _ c.pronominal-p.ensures (not-false _ c.if-not-p.false) c.moved_to-c.ensures) c.requires.opens)
+pub returns-in-Some : goal.returns-in-Some
+returns-in-Some c =
+    pronominal-cut _ _ c.pronominal.ensures c.in_ok-pronominal.was c.step_to-t.ensures c.near_pronominal.ensures c.in-Some.is
 
-pub returns-then-front-c : goal.returns-then-front-c
-unfolding pronominal_rest after_pronominal_of near_pronominal_of not_passed_of left_at
-returns-then-front-c c =
-    let lead = leads-moved _ _ _ c.pronominal-p.ensures (not-false _ c.if-not-p.false) c.moved_to-c.ensures in
-    let none = chain-none _ _ (leads-open _ _ (leads-moved _ _ _ c.pronominal-p.ensures (not-false _ c.if-not-p.false) c.moved_to-c.ensures) c.requires.opens) c.stem_suffix_chain_before_ki-front.ensures c.if-front-c.true in
-    c.whole-then-front-c.ensures
-    ∙ left-else _ _ _ (both-then _ _ pronominal near_pronominal_of lead c.near_pronominal-q.ensures) _ c.if-q.false
-    (parted-else _ _ pronominal chain whole lead none refl refl)
+pub stem_suffix_chain_before_ki-requires : goal.stem_suffix_chain_before_ki-requires
+stem_suffix_chain_before_ki-requires c = step-sees _ _ _ c.pronominal.ensures c.requires c.in_ok-pronominal.was c.step_to-t.ensures
+
+pub returns-in_err-front : goal.returns-in_err-front
+returns-in_err-front c =
+    c.from_residual-in_err-front.ensures
+    ∙ pronominal-parted _ _ c.pronominal.ensures c.in_ok-pronominal.was c.step_to-t.ensures c.near_pronominal.ensures c.in_default.is c.in_err-front.ensures
 
 pub returns : goal.returns
-unfolding pronominal_rest after_pronominal_of near_pronominal_of passed_to
 returns c =
-    let lead = leads-moved _ _ _ c.pronominal-p.ensures (not-false _ c.if-not-p.false) c.moved_to-c.ensures in
-    let moves = chain-moved _ _ (leads-open _ _ (leads-moved _ _ _ c.pronominal-p.ensures (not-false _ c.if-not-p.false) c.moved_to-c.ensures) c.requires.opens) c.stem_suffix_chain_before_ki-front.ensures c.if-front-c.false in
-    left-else _ _ _ (both-then _ _ pronominal near_pronominal_of lead c.near_pronominal-q.ensures) _ c.if-q.false
-    (parted-then _ _ pronominal chain whole lead moves refl)
+    pronominal-parted _ _ c.pronominal.ensures c.in_ok-pronominal.was c.step_to-t.ensures c.near_pronominal.ensures c.in_default.is c.in_ok-front.ensures

@@ -20,7 +20,7 @@ pub returns : goal.returns
 returns c =
     let p = noun_call-noun_out-given _ _ _ c.refusal_into-n.ensures c.if-n-ne0.false _
     c.stem_noun_suffixes-u.ensures _
-    c.left.ensures _ _
+    c.left.ensures c.is_some.ensures _ _
     c.write_run-length.ensures.value
     c.write_run-length.ensures.out_after in
     record { value = p.0; out_after = p.1 }
