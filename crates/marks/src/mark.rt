@@ -224,27 +224,27 @@ fn back_over_yken(w: &[u8], c: Cursor) -> Passed
     requires { Open w.now c }
     ensures { result ≡ passes w.now c (mark_of yken (behind w.now c)) }
 {
-    let k = lent::back_over(w, &KEN, &Y, c);
-    if !k.literal {
+    let Some(k) = lent::back_over(w, &KEN, &Y, c) else {
         return Passed::NOT;
-    }
-    if !k.character {
+    };
+    let Some(next) = k.next else {
         return Passed::NOT;
-    }
-    let here = k.here;
-    let next = k.next;
+    };
+    let here = k.here.cursor;
     if k.joined {
-        let v = characters::char_at(w, next.cursor, here.cursor - next.cursor);
+        let v = characters::char_at(w, next.cursor, here - next.cursor);
         if !is_vowel(v) {
             return Passed::NOT;
         }
-        return Passed::to(here.cursor);
+        return Passed::to(here);
     }
-    let p = step::previous_char(w, next);
+    let Some(p) = step::previous_char(w, next) else {
+        return Passed::NOT;
+    };
     if !is_vowel(p.ch) {
         return Passed::NOT;
     }
-    Passed::to(here.cursor)
+    Passed::to(here)
 }
 
 pub fn mark_yken(w: &[u8], s: Seen) -> Marked

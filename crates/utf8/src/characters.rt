@@ -1,64 +1,43 @@
 // The character that ends, and the one that begins, at a place of a word. Total on any bytes: nothing here asks for valid UTF-8.
-ghost use Rattle.std.specs.Prelude.{◌≡◌, [], ◌∷◌, ◌+◌, ◌%◌, ◌≤◌, ◌<◌, max, length, get_or};
-ghost use Rattle.encoding.specs.Encoding.{decode, continuation};
+ghost use Rattle.std.specs.Prelude.{◌≡◌, ℕ, Bool, [], ◌∷◌, ◌+◌, ◌%◌, ◌≤◌, ◌<◌, max, length};
+ghost use Rattle.encoding.specs.Encoding.{decode};
 ghost use Rattle.utf8.specs.Behind.{read_back_of};
-ghost use Rattle.utf8.specs.Characters.{goes_on_of, last_width_of, first_width_of, char_at};
+ghost use Rattle.utf8.specs.Characters.{width, last_width_of, first_width_of, char_at};
 
 use encoding::continuation;
 
-// Whether, going back from place c, the k-th byte goes on with a character that begins before it.
-fn goes_on(w: &[u8], c: usize, k: usize) -> bool
-    requires { (0 < k) × (c ≤ length w.now) }
-    ensures { result ≡ goes_on_of w.now c k }
+// The bytes of a character: one, and one more for each of the next three that goes on with it, up to the first that does not. Those are asked
+// for in turn, so that no byte past the character is read.
+fn width<F: Fn(usize) -> bool>(goes_on: F) -> usize
+    requires { (k : ℕ) → 0 < k → k ≤ 3 → F.pre goes_on k }
+    ensures { (t : ℕ → Bool) → ((k : ℕ) (b : Bool) → F.post goes_on k b → b ≡ t k) → result ≡ width (t 1) (t 2) (t 3) }
 {
-    if c <= k {
-        return false;
+    if !goes_on(1) {
+        return 1;
     }
-    continuation::is_continuation(w[c - k])
+    if !goes_on(2) {
+        return 2;
+    }
+    if !goes_on(3) {
+        return 3;
+    }
+    4
 }
 
-// The bytes of the character that ends at place c.
+// The bytes of the character that ends at place c: going back, the k-th byte goes on with one that begins before it.
 pub fn last_width(w: &[u8], c: usize) -> usize
     requires { c ≤ length w.now }
     ensures { result ≡ last_width_of w.now c }
 {
-    if !goes_on(w, c, 1) {
-        return 1;
-    }
-    if !goes_on(w, c, 2) {
-        return 2;
-    }
-    if !goes_on(w, c, 3) {
-        return 3;
-    }
-    4
+    width(|k| k < c && continuation::is_continuation(w[c - k]))
 }
 
-// Whether the byte at place i goes on with a character; past the end none does.
-fn continues_at(w: &[u8], i: usize) -> bool
-    ensures { result ≡ continuation (get_or w.now i 0) }
-{
-    if w.len() <= i {
-        return false;
-    }
-    continuation::is_continuation(w[i])
-}
-
-// The bytes of the character that begins at place c.
+// The bytes of the character that begins at place c; past the word's end no byte goes on.
 pub(crate) fn first_width(w: &[u8], c: usize) -> usize
-    requires { c < length w.now }
+    requires { c ≤ length w.now }
     ensures { result ≡ first_width_of w.now c }
 {
-    if !continues_at(w, c + 1) {
-        return 1;
-    }
-    if !continues_at(w, c + 2) {
-        return 2;
-    }
-    if !continues_at(w, c + 3) {
-        return 3;
-    }
-    4
+    width(|k| c + k < w.len() && continuation::is_continuation(w[c + k]))
 }
 
 // A byte's lowest bits, wide enough to be put together.
