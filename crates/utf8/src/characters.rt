@@ -59,7 +59,8 @@ fn above_ascii(v: u32) -> u32
     v
 }
 
-// The characters of two, three and four bytes.
+// The characters of two, three and four bytes. Each is one line of `decode`; one function for all three would go over the bytes in a loop, which is
+// no plainer and stands in the way of a character of two bytes.
 fn decode_two(a: u8, b: u8) -> u32
     ensures { result ≡ decode (a ∷ b ∷ []) }
 {
@@ -100,7 +101,7 @@ pub fn char_at(w: &[u8], i: usize, n: usize) -> u32
     decode_four(w[i], w[i + 1], w[i + 2], w[i + 3])
 }
 
-// A character and the place where it begins.
+// A character and the place where it begins. No Option: every caller compares ch as it does any character, and 0 is no key's letter and no vowel.
 #[derive(Clone, Copy)]
 pub struct Read {
     pub ch: u32,
@@ -139,7 +140,8 @@ pub fn read_back(w: &[u8], c: usize) -> Read
     }
 }
 
-// The same, so short that it can stand in its caller: a character of one byte or two is read here, any other by a call.
+// The same, so short that it can stand in its caller: a character of one byte or two is read here, any other by a call. So its tests are those of
+// `read_back` a second time.
 pub fn read_short_back(w: &[u8], c: usize) -> Read
     requires { c ≤ length w.now }
     ensures { result ≡ read_back_of w.now c }

@@ -24,10 +24,7 @@ impl Cursor {
     pub fn moved_to(self, c: usize) -> Cursor
         ensures { result ≡ move_to self c }
     {
-        Cursor {
-            cursor: c,
-            ..self
-        }
+        Cursor { cursor: c, ..self }
     }
 
     // The record after all from the cursor on is deleted: the limit comes down to the cursor.

@@ -1,4 +1,5 @@
-// A literal before or after the cursor (snowball_env.rs, `eq_s_b`, `eq_s`), compared byte by byte and never past the limits.
+// A literal before or after the cursor (snowball_env.rs, `eq_s_b`, `eq_s`), compared byte by byte and never past the limits. Two functions, since
+// each line differs: which bytes, which end of them, and where the cursor goes.
 ghost use Rattle.std.specs.Prelude.{◌≡◌};
 ghost use Rattle.utf8.specs.Steps.{eq_s_b_of, eq_s_of};
 

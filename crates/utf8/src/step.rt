@@ -1,4 +1,5 @@
-// One character back and one on (snowball_env.rs, `previous_char`, `next_char`), by value and never past the limits.
+// One character back and one on (snowball_env.rs, `previous_char`, `next_char`), by value and never past the limits. Two functions, since each line
+// differs: which width, which limit, and where the character and the cursor stand after it.
 ghost use Rattle.std.specs.Prelude.{◌≡◌};
 ghost use Rattle.utf8.specs.Steps.{previous_char_of, next_char_of};
 

@@ -1,5 +1,5 @@
 -- `utf8::literal::eq_s_b` meets its contract: the bytes between limit_backward and the cursor decide. Assumes nothing.
-use Rattle.utf8.proofs.Laws.Steps.{stands-within, previous_char_of-out, eq_s_b_of-sliced}
+use Rattle.utf8.proofs.Laws.Steps.{stands-within, eq_s_b_of-sliced}
 use Rattle.utf8.specs.Steps.{eq_s_b_of}
 use native.Mathlib.Omega.{arith}
 use mathlib.Core.Path.{sym, ◌∙◌}
