@@ -10,9 +10,8 @@ use lib.ListN.{length, drop, get_or, length-drop, length-reverse, get_or-eq_defa
 use lib.Seq.{get_or-drop}
 use lib.Dec.{leb, ltb, eqb}
 use borrow.Author.Tests.{leb-true, ltb-true, ltb-false, eqb-true, eqb-false, eq-eqb, ne_eqb}
-use Rattle.std.specs.Prelude.{Some, None, is_some, option_map, unwrap_or}
+use Rattle.std.specs.Prelude.{Some, None, is_some, option_map}
 use Rattle.std.specs.declared.option.Option.{Option}
-use Rattle.std.specs.Option.{ForSome}
 use Rattle.std.proofs.lemmas.Option.{cond_some, none-some}
 use Rattle.utf8.specs.declared.cursor.Cursor.{Cursor}
 use Rattle.utf8.specs.declared.step.Step.{Step}
@@ -22,7 +21,7 @@ use Rattle.utf8.specs.Behind.{behind, back_by, Open}
 use Rattle.encoding.proofs.Laws.Booleans.{and_left, and_right}
 use Rattle.utf8.proofs.Laws.Characters.{before-zero, before-step}
 use Rattle.utf8.proofs.Laws.Steps.{stands-within}
-use Rattle.utf8.proofs.Laws.Behind.{behind-back_by, back_by-add, back_by-zero, open-back_by}
+use Rattle.utf8.proofs.Laws.Behind.{behind-back_by, back_by-add, open-back_by}
 use Rattle.utf8.proofs.Laws.BehindSteps.{CharBack, previous_char_of-behind, previous_char_of-moved, eq_s_b_of-behind}
 use Rattle.lent.specs.declared.Over.{Over}
 use Rattle.lent.specs.Over.{one_back, before_both, over}
