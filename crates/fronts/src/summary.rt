@@ -41,15 +41,13 @@ pub fn summary_of(front: &[u8]) -> Summary
     requires { accepted front.now ≡ true }
     ensures { result ≡ summary front.now }
 {
-    let n = front.len();
     let mut s = Summary::EMPTY;
     let mut c = Cursor {
         cursor: 0,
-        limit: n,
+        limit: front.len(),
         limit_backward: 0,
     };
-    while c.cursor < n {
-        let p = step::next_char(front, c);
+    while let Some(p) = step::next_char(front, c) {
         s = add(s, p.ch);
         c = p.next;
     }

@@ -198,27 +198,27 @@ fn back_over_yken(w: &[u8], c: Cursor) -> Option<usize>
     requires { Open w.now c }
     ensures { result ≡ passes w.now c (mark_of yken (behind w.now c)) }
 {
-    let k = lent::back_over(w, &KEN, &Y, c);
-    if !k.literal {
+    let Some(k) = lent::back_over(w, &KEN, &Y, c) else {
         return None;
-    }
-    if !k.character {
+    };
+    let Some(next) = k.next else {
         return None;
-    }
-    let here = k.here;
-    let next = k.next;
+    };
+    let here = k.here.cursor;
     if k.joined {
-        let v = characters::char_at(w, next.cursor, here.cursor - next.cursor);
+        let v = characters::char_at(w, next.cursor, here - next.cursor);
         if !is_vowel(v) {
             return None;
         }
-        return Some(here.cursor);
+        return Some(here);
     }
-    let p = step::previous_char(w, next);
+    let Some(p) = step::previous_char(w, next) else {
+        return None;
+    };
     if !is_vowel(p.ch) {
         return None;
     }
-    Some(here.cursor)
+    Some(here)
 }
 
 pub fn mark_yken(w: &[u8], s: Seen) -> Option<Marked>

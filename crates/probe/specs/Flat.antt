@@ -1,8 +1,8 @@
 -- A step's answer as plain numbers, a cursor record of three, and the list of a removed ending's pieces. Assumes nothing.
-use Rattle.std.specs.Prelude.{ℕ, ◌≡◌, List, map}
+use Rattle.std.specs.Prelude.{ℕ, ◌≡◌, Bool, true, false, List, map, Some, None}
+use Rattle.std.specs.declared.option.Option.{Option}
 use Rattle.utf8.specs.declared.cursor.Cursor.{Cursor}
 use Rattle.utf8.specs.declared.step.Step.{Step}
-use Rattle.utf8.specs.declared.literal.Literal.{Literal}
 use Rattle.turkish.specs.declared.endings.Piece.{Piece}
 use Rattle.turkish.specs.declared.endings.Removed.{Removed}
 use Rattle.turkish.specs.Pieces.{Joined, alone, with_y, after_vowel}
@@ -16,11 +16,19 @@ use Rattle.probe.specs.declared.ProbeRemoved.{ProbeRemoved}
 abbrev pub cursor_from : ℕ → ℕ → ℕ → Cursor
 cursor_from c l b = record { cursor = c; limit = l; limit_backward = b }
 
-abbrev pub flat_step_of : Step → ProbeStep
-flat_step_of s = record { moved = s.moved; ch = s.ch; cursor = s.next.cursor; limit = s.next.limit; limit_backward = s.next.limit_backward }
+-- a record after a step, whether it moved and the character passed
+abbrev pub flat_of : Bool → ℕ → Cursor → ProbeStep
+flat_of moved ch n = record { moved = moved; ch = ch; cursor = n.cursor; limit = n.limit; limit_backward = n.limit_backward }
 
-abbrev pub flat_literal_of : Literal → ProbeStep
-flat_literal_of s = record { moved = s.moved; ch = 0; cursor = s.next.cursor; limit = s.next.limit; limit_backward = s.next.limit_backward }
+-- a step of one character from the record r; where there is none, ch is 0 and the record r itself
+abbrev pub flat_step_of : Cursor → Option Step → ProbeStep
+flat_step_of r None = flat_of false 0 r
+flat_step_of r (Some s) = flat_of true s.ch s.next
+
+-- a step over a literal; ch is 0
+abbrev pub flat_literal_of : Cursor → Option Cursor → ProbeStep
+flat_literal_of r None = flat_of false 0 r
+flat_literal_of r (Some n) = flat_of true 0 n
 
 -- ---- the list of pieces ----
 

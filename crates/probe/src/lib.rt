@@ -9,7 +9,7 @@ ghost use Rattle.utf8.specs.Steps.{previous_char_of, next_char_of, eq_s_b_of, eq
 ghost use Rattle.turkish.specs.Calls.{stage_part_of};
 ghost use Rattle.turkish.specs.PieceCalls.{joined_of, kind_joined};
 ghost use Rattle.probe.specs.Part.{part_length, part_out};
-ghost use Rattle.probe.specs.Flat.{flat_step_of, flat_literal_of, cursor_from, joined_number, flat_removed_of, FlatList};
+ghost use Rattle.probe.specs.Flat.{flat_of, flat_step_of, flat_literal_of, cursor_from, joined_number, flat_removed_of, FlatList};
 
 use encoding::plain;
 use kinds::kind;
@@ -53,32 +53,34 @@ fn cursor_of(cursor: usize, limit: usize, backward: usize) -> Cursor
     }
 }
 
-// A step of one character, laid out flat.
-fn flat_step(s: step::Step) -> ProbeStep
-    ensures { result ≡ flat_step_of s }
+// A record after a step, laid out flat.
+fn laid_flat(moved: bool, ch: u32, n: Cursor) -> ProbeStep
+    ensures { result ≡ flat_of moved ch n }
 {
-    let n = s.next;
     ProbeStep {
-        moved: s.moved,
-        ch: s.ch,
+        moved,
+        ch,
         cursor: n.cursor,
         limit: n.limit,
         limit_backward: n.limit_backward,
     }
 }
 
-// A step over a literal, laid out flat.
-fn flat_literal(s: literal::Literal) -> ProbeStep
-    ensures { result ≡ flat_literal_of s }
+// A step of one character from the record r; where there is none, ch is 0 and the record r itself.
+fn flat_step(r: Cursor, s: Option<step::Step>) -> ProbeStep
+    ensures { result ≡ flat_step_of r s }
 {
-    let n = s.next;
-    ProbeStep {
-        moved: s.moved,
-        ch: 0,
-        cursor: n.cursor,
-        limit: n.limit,
-        limit_backward: n.limit_backward,
+    match s {
+        Some(s) => laid_flat(true, s.ch, s.next),
+        None => laid_flat(false, 0, r),
     }
+}
+
+// A step over a literal; ch is 0.
+fn flat_literal(r: Cursor, s: Option<Cursor>) -> ProbeStep
+    ensures { result ≡ flat_literal_of r s }
+{
+    flat_step(r, s.map(|next| step::Step { ch: 0, next }))
 }
 
 #[unsafe(no_mangle)]
@@ -88,9 +90,10 @@ pub extern "C" fn probe_previous_char(
     limit: usize,
     backward: usize,
 ) -> ProbeStep
-    ensures { result ≡ flat_step_of (previous_char_of w.now (cursor_from cursor limit backward)) }
+    ensures { result ≡ flat_step_of (cursor_from cursor limit backward) (previous_char_of w.now (cursor_from cursor limit backward)) }
 {
-    flat_step(step::previous_char(w, cursor_of(cursor, limit, backward)))
+    let r = cursor_of(cursor, limit, backward);
+    flat_step(r, step::previous_char(w, r))
 }
 
 #[unsafe(no_mangle)]
@@ -100,9 +103,10 @@ pub extern "C" fn probe_next_char(
     limit: usize,
     backward: usize,
 ) -> ProbeStep
-    ensures { result ≡ flat_step_of (next_char_of w.now (cursor_from cursor limit backward)) }
+    ensures { result ≡ flat_step_of (cursor_from cursor limit backward) (next_char_of w.now (cursor_from cursor limit backward)) }
 {
-    flat_step(step::next_char(w, cursor_of(cursor, limit, backward)))
+    let r = cursor_of(cursor, limit, backward);
+    flat_step(r, step::next_char(w, r))
 }
 
 #[unsafe(no_mangle)]
@@ -113,9 +117,10 @@ pub extern "C" fn probe_eq_s_b(
     limit: usize,
     backward: usize,
 ) -> ProbeStep
-    ensures { result ≡ flat_literal_of (eq_s_b_of w.now s.now (cursor_from cursor limit backward)) }
+    ensures { result ≡ flat_literal_of (cursor_from cursor limit backward) (eq_s_b_of w.now s.now (cursor_from cursor limit backward)) }
 {
-    flat_literal(literal::eq_s_b(w, s, cursor_of(cursor, limit, backward)))
+    let r = cursor_of(cursor, limit, backward);
+    flat_literal(r, literal::eq_s_b(w, s, r))
 }
 
 #[unsafe(no_mangle)]
@@ -126,9 +131,10 @@ pub extern "C" fn probe_eq_s(
     limit: usize,
     backward: usize,
 ) -> ProbeStep
-    ensures { result ≡ flat_literal_of (eq_s_of w.now s.now (cursor_from cursor limit backward)) }
+    ensures { result ≡ flat_literal_of (cursor_from cursor limit backward) (eq_s_of w.now s.now (cursor_from cursor limit backward)) }
 {
-    flat_literal(literal::eq_s(w, s, cursor_of(cursor, limit, backward)))
+    let r = cursor_of(cursor, limit, backward);
+    flat_literal(r, literal::eq_s(w, s, r))
 }
 
 // Copies the part of the word that the suffix stage keeps, and gives its length; 0, and nothing written, where it does not fit.

@@ -11,7 +11,6 @@ use keys::seen;
 use keys::seen::Seen;
 use marks::tables;
 use utf8::cursor::Cursor;
-use utf8::literal;
 use vowels::walk;
 use writing::letter::Letter;
 
@@ -58,13 +57,8 @@ fn is_reserved_word(w: &[u8], n: usize) -> bool
     requires { n ≤ length w.now }
     ensures { result ≡ reserved (before w.now n) }
 {
-    if n == 2 {
-        return literal::stands_at(w, 0, &AD);
-    }
-    if n == 5 {
-        return literal::stands_at(w, 0, &SOYAD);
-    }
-    false
+    let front = &w[..n];
+    front == AD.as_slice() || front == SOYAD.as_slice()
 }
 
 // The vowel that a final d or g gains after the last vowel.

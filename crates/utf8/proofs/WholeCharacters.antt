@@ -1,22 +1,25 @@
--- A step takes a whole character of a text, answers no at its edge, and never passes the record's limits; past a literal neither.
+-- A step takes a whole character of a text, there is none at its edge, and none passes the record's limits; past a literal neither.
 -- Assumes nothing.
-use Prim.Native.Nat.{ℕ, ◌+◌, ◌-◌, ◌≤◌}
+use Prim.Native.Nat.{ℕ, ◌+◌, ◌≤◌}
 use mathlib.Core.Path.{◌≡◌}
 use mathlib.Core.Bool.{Bool, true, ◌&&◌}
 use mathlib.Core.List.{List, [], ◌∷◌, ◌++◌, append_assoc, append-nil}
 use native.Mathlib.Omega.{arith}
 use lib.ListN.{length, length-append}
-use lib.Dec.{leb, ltb}
+use lib.Dec.{leb}
 use borrow.Author.Tests.{leb-true, le-leb}
+use Rattle.std.specs.Prelude.{Some, None}
+use Rattle.std.specs.declared.option.Option.{Option}
+use Rattle.std.specs.Option.{ForSome}
+use Rattle.std.proofs.lemmas.Option.{cond_some}
 use Rattle.utf8.specs.declared.cursor.Cursor.{Cursor}
 use Rattle.utf8.specs.declared.step.Step.{Step}
-use Rattle.utf8.specs.declared.literal.Literal.{Literal}
 use Rattle.encoding.specs.Scalar.{scalar, scalars}
 use Rattle.encoding.specs.Encoding.{encode, encode_all}
 use Rattle.utf8.specs.Characters.{last_width_of, first_width_of}
-use Rattle.utf8.specs.Steps.{stands, move_to, stay, previous_char_of, next_char_of, stands_at_of, eq_s_b_of, eq_s_of}
-use Rattle.encoding.proofs.Laws.Booleans.{and_left, and_right, cond-test}
-use Rattle.utf8.proofs.Laws.Steps.{stands-within, stands-ordered, previous_char_of-stays, next_char_of-stays}
+use Rattle.utf8.specs.Steps.{stands, move_to, previous_char_of, next_char_of, eq_s_b_of, eq_s_of}
+use Rattle.encoding.proofs.Laws.Booleans.{and_right}
+use Rattle.utf8.proofs.Laws.Steps.{stands-ordered, previous_char_of-stays, next_char_of-stays, eq_s_b_of-moved, eq_s_of-moved}
 use Rattle.utf8.proofs.Laws.Characters.{last_width_of-pos, first_width_of-pos}
 use Rattle.utf8.proofs.TextCharacters.{last_width_of-encoded, last_start-encoded, last_char-encoded, first_width_of-encoded, first_char-encoded}
 use Rattle.utf8.proofs.TextCharacters.{encode_all-append, scalar-head, scalars-append}
@@ -24,11 +27,11 @@ use Rattle.utf8.proofs.TextCharacters.{encode_all-append, scalar-head, scalars-a
 -- ---- the edges ----
 
 -- at limit_backward there is no step back
-pub previous_char_of-edge : (w : List ℕ) (r : Cursor) → r.cursor ≡ r.limit_backward → previous_char_of w r ≡ stay r
+pub previous_char_of-edge : (w : List ℕ) (r : Cursor) → r.cursor ≡ r.limit_backward → previous_char_of w r ≡ None
 previous_char_of-edge w r e = previous_char_of-stays w r (omega (arith, last_width_of-pos w r.cursor))
 
 -- at limit there is no step on
-pub next_char_of-edge : (w : List ℕ) (r : Cursor) → r.cursor ≡ r.limit → next_char_of w r ≡ stay r
+pub next_char_of-edge : (w : List ℕ) (r : Cursor) → r.cursor ≡ r.limit → next_char_of w r ≡ None
 next_char_of-edge w r e = next_char_of-stays w r (omega (arith, first_width_of-pos w r.cursor))
 
 -- ---- within the limits ----
@@ -40,50 +43,37 @@ pub record Between (low high : ℕ) (r s : Cursor) : Type 0 where
   pub same-limit : s.limit ≡ r.limit
   pub same-backward : s.limit_backward ≡ r.limit_backward
 
--- a step back stays between limit_backward and where it began
-pub previous_char_of-within : (w : List ℕ) (r : Cursor) → stands w r ≡ true → Between r.limit_backward r.cursor r (previous_char_of w r).next
-unfolding previous_char_of move_to stay
-previous_char_of-within w r e =
-    let h = stands-within w r e in
+-- a step back comes to between limit_backward and where it began
+pub previous_char_of-within : (w : List ℕ) (r : Cursor) → ForSome (previous_char_of w r) (λ s. Between r.limit_backward r.cursor r s.next)
+unfolding previous_char_of move_to
+previous_char_of-within w r s e =
     let fits : Bool = leb (r.limit_backward + last_width_of w r.cursor) r.cursor in
-    cond-test (λ (s : Step). Between r.limit_backward r.cursor r s.next) (stands w r && fits)
-    (λ t. omega (arith, leb-true (r.limit_backward + last_width_of w r.cursor) r.cursor (and_right (stands w r) fits t))) (omega arith)
+    let t = cond_some (stands w r && fits) _ s e in
+    rw (← t.1) (omega (arith, leb-true (r.limit_backward + last_width_of w r.cursor) r.cursor (and_right (stands w r) fits t.0)))
 
--- a step on stays between where it began and limit
-pub next_char_of-within : (w : List ℕ) (r : Cursor) → stands w r ≡ true → Between r.cursor r.limit r (next_char_of w r).next
-unfolding next_char_of move_to stay
-next_char_of-within w r e =
-    let h = stands-within w r e in
+-- a step on comes to between where it began and limit
+pub next_char_of-within : (w : List ℕ) (r : Cursor) → ForSome (next_char_of w r) (λ s. Between r.cursor r.limit r s.next)
+unfolding next_char_of move_to
+next_char_of-within w r s e =
     let fits : Bool = leb (r.cursor + first_width_of w r.cursor) r.limit in
-    cond-test (λ (s : Step). Between r.cursor r.limit r s.next) (stands w r && fits)
-    (λ t. omega (arith, leb-true (r.cursor + first_width_of w r.cursor) r.limit (and_right (stands w r) fits t))) (omega arith)
+    let t = cond_some (stands w r && fits) _ s e in
+    rw (← t.1) (omega (arith, leb-true (r.cursor + first_width_of w r.cursor) r.limit (and_right (stands w r) fits t.0)))
 
 -- past a literal back likewise
-pub eq_s_b_of-within : (w s : List ℕ) (r : Cursor) → stands w r ≡ true → Between r.limit_backward r.cursor r (eq_s_b_of w s r).next
-unfolding eq_s_b_of move_to
-eq_s_b_of-within w s r e =
-    let h = stands-within w r e in
-    let fits : Bool = leb (r.limit_backward + length s) r.cursor in
-    let equal : Bool = stands_at_of w (r.cursor - length s) s in
-    cond-test (λ (l : Literal). Between r.limit_backward r.cursor r l.next) (stands w r && fits && equal)
-    (λ t. omega (arith, leb-true (r.limit_backward + length s) r.cursor (and_right (stands w r) fits (and_left (stands w r && fits) equal t)))) (omega arith)
+pub eq_s_b_of-within : (w s : List ℕ) (r : Cursor) → ForSome (eq_s_b_of w s r) (λ n. Between r.limit_backward r.cursor r n)
+unfolding move_to
+eq_s_b_of-within w s r n e = let b = eq_s_b_of-moved w s r n e in rw b.lands (omega (arith, b.room))
 
 -- and past a literal on
-pub eq_s_of-within : (w s : List ℕ) (r : Cursor) → stands w r ≡ true → Between r.cursor r.limit r (eq_s_of w s r).next
-unfolding eq_s_of move_to
-eq_s_of-within w s r e =
-    let h = stands-within w r e in
-    let below : Bool = stands w r && ltb r.cursor r.limit in
-    let fits : Bool = leb (r.cursor + length s) r.limit in
-    let equal : Bool = stands_at_of w r.cursor s in
-    cond-test (λ (l : Literal). Between r.cursor r.limit r l.next) (below && fits && equal)
-    (λ t. omega (arith, leb-true (r.cursor + length s) r.limit (and_right below fits (and_left (below && fits) equal t)))) (omega arith)
+pub eq_s_of-within : (w s : List ℕ) (r : Cursor) → ForSome (eq_s_of w s r) (λ n. Between r.cursor r.limit r n)
+unfolding move_to
+eq_s_of-within w s r n e = let o = eq_s_of-moved w s r n e in rw o.lands (omega (arith, o.room))
 
 -- ---- whole characters ----
 
 -- the step that takes the character c and leads to place i
-abbrev took : Cursor → ℕ → ℕ → Step
-took r c i = record { moved = true; ch = c; next = move_to r i }
+abbrev took : Cursor → ℕ → ℕ → Option Step
+took r c i = Some (record { ch = c; next = move_to r i })
 
 -- a step back from the end of a character's encoding takes that character
 previous_char_of-encoded : (p q : List ℕ) (c : ℕ) (r : Cursor) → scalar c ≡ true → r.cursor ≡ length (p ++ encode c)
@@ -138,7 +128,7 @@ encode_all-snoc cs c = rw (encode_all-append, append-nil)
 pub previous_char_of-whole : (cs : List ℕ) (c : ℕ) (ds : List ℕ) (r : Cursor) → scalars (cs ++ c ∷ ds) ≡ true
     → r.cursor ≡ length (encode_all (cs ++ (c ∷ []))) → r.limit_backward ≤ length (encode_all cs)
     → r.cursor ≤ r.limit → r.limit ≤ length (encode_all (cs ++ c ∷ ds))
-    → previous_char_of (encode_all (cs ++ c ∷ ds)) r ≡ record { moved = true; ch = c; next = move_to r (length (encode_all cs)) }
+    → previous_char_of (encode_all (cs ++ c ∷ ds)) r ≡ Some (record { ch = c; next = move_to r (length (encode_all cs)) })
 previous_char_of-whole cs c ds r s e l m n =
     let t = scalars-middle cs c ds s in
     rw (encode_all-middle cs c ds)
@@ -148,7 +138,7 @@ previous_char_of-whole cs c ds r s e l m n =
 pub next_char_of-whole : (cs : List ℕ) (c : ℕ) (ds : List ℕ) (r : Cursor) → scalars (cs ++ c ∷ ds) ≡ true
     → r.cursor ≡ length (encode_all cs) → r.limit_backward ≤ r.cursor
     → length (encode_all (cs ++ (c ∷ []))) ≤ r.limit → r.limit ≤ length (encode_all (cs ++ c ∷ ds))
-    → next_char_of (encode_all (cs ++ c ∷ ds)) r ≡ record { moved = true; ch = c; next = move_to r (length (encode_all (cs ++ (c ∷ [])))) }
+    → next_char_of (encode_all (cs ++ c ∷ ds)) r ≡ Some (record { ch = c; next = move_to r (length (encode_all (cs ++ (c ∷ [])))) })
 next_char_of-whole cs c ds r s e l m n =
     let t = scalars-middle cs c ds s in
     rw (encode_all-middle cs c ds, encode_all-snoc cs c)

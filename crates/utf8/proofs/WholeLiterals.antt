@@ -10,13 +10,15 @@ use lib.ListN.{length, take, drop, length-append, take-append-drop}
 use lib.Seq.{drop-drop, length-take-le, take-append_seam, drop-append_seam}
 use lib.Dec.{eqb}
 use borrow.Author.Tests.{eqb-true, eq-eqb}
+use Rattle.std.specs.Prelude.{Some}
+use Rattle.std.specs.Option.{ForSome}
 use Rattle.utf8.specs.declared.cursor.Cursor.{Cursor}
 use Rattle.encoding.specs.Scalar.{scalars}
 use Rattle.encoding.specs.Encoding.{encode_all}
 use Rattle.encoding.specs.Text.{TextOf}
 use Rattle.encoding.specs.Validity.{is_text}
 use Rattle.utf8.specs.Characters.{before}
-use Rattle.utf8.specs.Steps.{move_to, same, stands_at_of, passed, eq_s_b_of, eq_s_of}
+use Rattle.utf8.specs.Steps.{move_to, same, stands_at_of, eq_s_b_of, eq_s_of}
 use Rattle.encoding.proofs.Laws.Booleans.{and_left, and_right}
 use Rattle.utf8.proofs.Laws.Steps.{stands-ordered, eq_s_b_of-moves, eq_s_b_of-moved, eq_s_of-moves, eq_s_of-moved}
 use Rattle.encoding.proofs.CheckExact.{is_text-encode_all-append, encodes-is_text, is_text-encodes}
@@ -59,16 +61,16 @@ stands_at_of-between p s q = rw (append_assoc, drop-append_seam, take-append_sea
 
 -- back past a literal that is a text, over any bytes: the characters before the cursor are the literal's, from its end, and then those before the
 -- place that the cursor comes to
-pub eq_s_b_of-before : (w s : List ℕ) (r : Cursor) (t : TextOf s) → (eq_s_b_of w s r).moved ≡ true → before w r.cursor ≡ reverse t.chars ++ before w (eq_s_b_of w s r).next.cursor
+pub eq_s_b_of-before : (w s : List ℕ) (r : Cursor) (t : TextOf s) → ForSome (eq_s_b_of w s r) (λ n. before w r.cursor ≡ reverse t.chars ++ before w n.cursor)
 unfolding move_to
-eq_s_b_of-before w s r t m =
-    let b = eq_s_b_of-moved w s r m in
+eq_s_b_of-before w s r t n m =
+    let b = eq_s_b_of-moved w s r n m in
     let i : ℕ = r.cursor - length s in
     let p : List ℕ = take i w in
     let l : length p ≡ i = length-take-le i w (omega (arith, b)) in
     let k : length (p ++ encode_all t.chars) ≡ r.cursor = length-append p (encode_all t.chars) ∙ rw t.encoded (omega (arith, b)) in
     let around : w ≡ p ++ encode_all t.chars ++ drop (i + length s) w = rw t.encoded (stands_at_of-around w i s b.equal) in
-    let at : (eq_s_b_of w s r).next.cursor ≡ i = ap (λ (n : Cursor). n.cursor) b.lands in
+    let at : n.cursor ≡ i = ap (λ (n : Cursor). n.cursor) b.lands in
     ap (before w) (sym k) ∙ before-after w p t.chars (drop (i + length s) w) t.valid around ∙ rw (l, at)
 
 -- the literal's characters ls end the characters cs before the cursor, which comes from r to n, before them
@@ -79,14 +81,13 @@ pub record PassedBack (cs ls : List ℕ) (r n : Cursor) : Type 0 where
 
 -- so from between two characters of a text it comes to such a place
 pub eq_s_b_of-whole : (cs ds ls : List ℕ) (r : Cursor) → scalars (cs ++ ds) ≡ true → scalars ls ≡ true → r.cursor ≡ length (encode_all cs)
-    → (eq_s_b_of (encode_all (cs ++ ds)) (encode_all ls) r).moved ≡ true → PassedBack cs ls r (eq_s_b_of (encode_all (cs ++ ds)) (encode_all ls) r).next
-eq_s_b_of-whole cs ds ls r h k e m =
+    → ForSome (eq_s_b_of (encode_all (cs ++ ds)) (encode_all ls) r) (λ n. PassedBack cs ls r n)
+eq_s_b_of-whole cs ds ls r h k e n m =
     let w : List ℕ = encode_all (cs ++ ds) in
-    let n : Cursor = (eq_s_b_of w (encode_all ls) r).next in
-    let b = eq_s_b_of-moved w (encode_all ls) r m in
+    let b = eq_s_b_of-moved w (encode_all ls) r n m in
     let valid : scalars cs ≡ true = and_left (scalars cs) (scalars ds) (rw scalars-append at h) in
     let all : before w r.cursor ≡ reverse cs = rw (e, encode_all-append) (before_text cs (encode_all ds) valid) in
-    let some : reverse cs ≡ reverse ls ++ before w n.cursor = sym all ∙ eq_s_b_of-before w (encode_all ls) r (record { chars = ls; valid = k; encoded = refl }) m in
+    let some : reverse cs ≡ reverse ls ++ before w n.cursor = sym all ∙ eq_s_b_of-before w (encode_all ls) r (record { chars = ls; valid = k; encoded = refl }) n m in
     let front : List ℕ = reverse (before w n.cursor) in
     let ends : cs ≡ front ++ ls = sym (reverse-reverse cs) ∙ ap reverse some ∙ rw (reverse-append, reverse-reverse) in
     let bytes : length (encode_all cs) ≡ length (encode_all front) + length (encode_all ls) =
@@ -97,7 +98,7 @@ eq_s_b_of-whole cs ds ls r h k e m =
 -- and it is passed where its characters stand, unless limit_backward comes first
 pub eq_s_b_of-passes : (cs ls ds : List ℕ) (r : Cursor) → r.cursor ≡ length (encode_all (cs ++ ls)) → r.limit_backward ≤ length (encode_all cs)
     → r.cursor ≤ r.limit → r.limit ≤ length (encode_all (cs ++ ls ++ ds))
-    → eq_s_b_of (encode_all (cs ++ ls ++ ds)) (encode_all ls) r ≡ passed r (length (encode_all cs))
+    → eq_s_b_of (encode_all (cs ++ ls ++ ds)) (encode_all ls) r ≡ Some (move_to r (length (encode_all cs)))
 eq_s_b_of-passes cs ls ds r e l m n =
     let w : List ℕ = encode_all (cs ++ ls ++ ds) in
     let bytes : w ≡ encode_all cs ++ encode_all ls ++ encode_all ds = rw (encode_all-append, encode_all-append) in
@@ -105,7 +106,7 @@ eq_s_b_of-passes cs ls ds r e l m n =
     let place : r.cursor - length (encode_all ls) ≡ length (encode_all cs) = omega arith in
     let equal : stands_at_of w (r.cursor - length (encode_all ls)) (encode_all ls) ≡ true =
     rw (place, bytes) (stands_at_of-between (encode_all cs) (encode_all ls) (encode_all ds)) in
-    eq_s_b_of-moves w (encode_all ls) r (stands-ordered w r (omega arith) m n) (omega arith) equal ∙ ap (passed r) place
+    eq_s_b_of-moves w (encode_all ls) r (stands-ordered w r (omega arith) m n) (omega arith) equal ∙ ap (λ (i : ℕ). Some (move_to r i)) place
 
 -- ---- on ----
 
@@ -129,10 +130,10 @@ rest-chars ds ls q t h k e =
 -- on past a literal that is a text, from between two characters of a text: the characters after the cursor begin with the literal's, and it
 -- comes to where they end
 pub eq_s_of-whole : (cs ds ls : List ℕ) (r : Cursor) → scalars (cs ++ ds) ≡ true → scalars ls ≡ true → r.cursor ≡ length (encode_all cs)
-    → (eq_s_of (encode_all (cs ++ ds)) (encode_all ls) r).moved ≡ true → PassedOn cs ds ls r (eq_s_of (encode_all (cs ++ ds)) (encode_all ls) r).next
-eq_s_of-whole cs ds ls r h k e m =
+    → ForSome (eq_s_of (encode_all (cs ++ ds)) (encode_all ls) r) (λ n. PassedOn cs ds ls r n)
+eq_s_of-whole cs ds ls r h k e n m =
     let w : List ℕ = encode_all (cs ++ ds) in
-    let o = eq_s_of-moved w (encode_all ls) r m in
+    let o = eq_s_of-moved w (encode_all ls) r n m in
     let q : List ℕ = drop (r.cursor + length (encode_all ls)) w in
     let valid : scalars ds ≡ true = and_right (scalars cs) (scalars ds) (rw scalars-append at h) in
     let after : drop r.cursor w ≡ encode_all ds = rw (e, encode_all-append, drop-append_seam) in
@@ -144,10 +145,10 @@ eq_s_of-whole cs ds ls r h k e m =
 -- and it is passed where its characters stand, unless limit comes first
 pub eq_s_of-passes : (cs ls ds : List ℕ) (r : Cursor) → r.cursor ≡ length (encode_all cs) → r.limit_backward ≤ r.cursor → r.cursor < r.limit
     → length (encode_all (cs ++ ls)) ≤ r.limit → r.limit ≤ length (encode_all (cs ++ ls ++ ds))
-    → eq_s_of (encode_all (cs ++ ls ++ ds)) (encode_all ls) r ≡ passed r (length (encode_all (cs ++ ls)))
+    → eq_s_of (encode_all (cs ++ ls ++ ds)) (encode_all ls) r ≡ Some (move_to r (length (encode_all (cs ++ ls))))
 eq_s_of-passes cs ls ds r e l b m n =
     let w : List ℕ = encode_all (cs ++ ls ++ ds) in
     let bytes : w ≡ encode_all cs ++ encode_all ls ++ encode_all ds = rw (encode_all-append, encode_all-append) in
     let place : r.cursor + length (encode_all ls) ≡ length (encode_all (cs ++ ls)) = rw (encode_all-append, length-append, e) in
     let equal : stands_at_of w r.cursor (encode_all ls) ≡ true = rw (e, bytes) (stands_at_of-between (encode_all cs) (encode_all ls) (encode_all ds)) in
-    eq_s_of-moves w (encode_all ls) r (stands-ordered w r l (omega arith) n) b (omega arith) equal ∙ ap (passed r) place
+    eq_s_of-moves w (encode_all ls) r (stands-ordered w r l (omega arith) n) b (omega arith) equal ∙ ap (λ (i : ℕ). Some (move_to r i)) place

@@ -1,64 +1,43 @@
 // The character that ends, and the one that begins, at a place of a word. Total on any bytes: nothing here asks for valid UTF-8.
-ghost use Rattle.std.specs.Prelude.{◌≡◌, [], ◌∷◌, ◌+◌, ◌%◌, ◌≤◌, ◌<◌, max, length, get_or};
-ghost use Rattle.encoding.specs.Encoding.{decode, continuation};
+ghost use Rattle.std.specs.Prelude.{◌≡◌, ℕ, Bool, [], ◌∷◌, ◌+◌, ◌%◌, ◌≤◌, ◌<◌, max, length};
+ghost use Rattle.encoding.specs.Encoding.{decode};
 ghost use Rattle.utf8.specs.Behind.{read_back_of};
-ghost use Rattle.utf8.specs.Characters.{goes_on_of, last_width_of, first_width_of, char_at};
+ghost use Rattle.utf8.specs.Characters.{width, last_width_of, first_width_of, char_at};
 
 use encoding::continuation;
 
-// Whether, going back from place c, the k-th byte goes on with a character that begins before it.
-fn goes_on(w: &[u8], c: usize, k: usize) -> bool
-    requires { (0 < k) × (c ≤ length w.now) }
-    ensures { result ≡ goes_on_of w.now c k }
+// The bytes of a character: one, and one more for each of the next three that goes on with it, up to the first that does not. Those are asked
+// for in turn, so that no byte past the character is read.
+fn width<F: Fn(usize) -> bool>(goes_on: F) -> usize
+    requires { (k : ℕ) → 0 < k → k ≤ 3 → F.pre goes_on k }
+    ensures { (t : ℕ → Bool) → ((k : ℕ) (b : Bool) → F.post goes_on k b → b ≡ t k) → result ≡ width (t 1) (t 2) (t 3) }
 {
-    if c <= k {
-        return false;
+    if !goes_on(1) {
+        return 1;
     }
-    continuation::is_continuation(w[c - k])
+    if !goes_on(2) {
+        return 2;
+    }
+    if !goes_on(3) {
+        return 3;
+    }
+    4
 }
 
-// The bytes of the character that ends at place c.
+// The bytes of the character that ends at place c: going back, the k-th byte goes on with one that begins before it.
 pub fn last_width(w: &[u8], c: usize) -> usize
     requires { c ≤ length w.now }
     ensures { result ≡ last_width_of w.now c }
 {
-    if !goes_on(w, c, 1) {
-        return 1;
-    }
-    if !goes_on(w, c, 2) {
-        return 2;
-    }
-    if !goes_on(w, c, 3) {
-        return 3;
-    }
-    4
+    width(|k| k < c && continuation::is_continuation(w[c - k]))
 }
 
-// Whether the byte at place i goes on with a character; past the end none does.
-fn continues_at(w: &[u8], i: usize) -> bool
-    ensures { result ≡ continuation (get_or w.now i 0) }
-{
-    if w.len() <= i {
-        return false;
-    }
-    continuation::is_continuation(w[i])
-}
-
-// The bytes of the character that begins at place c.
+// The bytes of the character that begins at place c; past the word's end no byte goes on.
 pub(crate) fn first_width(w: &[u8], c: usize) -> usize
-    requires { c < length w.now }
+    requires { c ≤ length w.now }
     ensures { result ≡ first_width_of w.now c }
 {
-    if !continues_at(w, c + 1) {
-        return 1;
-    }
-    if !continues_at(w, c + 2) {
-        return 2;
-    }
-    if !continues_at(w, c + 3) {
-        return 3;
-    }
-    4
+    width(|k| c + k < w.len() && continuation::is_continuation(w[c + k]))
 }
 
 // A byte's lowest bits, wide enough to be put together.
@@ -80,7 +59,8 @@ fn above_ascii(v: u32) -> u32
     v
 }
 
-// The characters of two, three and four bytes.
+// The characters of two, three and four bytes. Each is one line of `decode`; one function for all three would go over the bytes in a loop, which is
+// no plainer and stands in the way of a character of two bytes.
 fn decode_two(a: u8, b: u8) -> u32
     ensures { result ≡ decode (a ∷ b ∷ []) }
 {
@@ -121,7 +101,7 @@ pub fn char_at(w: &[u8], i: usize, n: usize) -> u32
     decode_four(w[i], w[i + 1], w[i + 2], w[i + 3])
 }
 
-// A character and the place where it begins.
+// A character and the place where it begins. No Option: every caller compares ch as it does any character, and 0 is no key's letter and no vowel.
 #[derive(Clone, Copy)]
 pub struct Read {
     pub ch: u32,
@@ -160,7 +140,8 @@ pub fn read_back(w: &[u8], c: usize) -> Read
     }
 }
 
-// The same, so short that it can stand in its caller: a character of one byte or two is read here, any other by a call.
+// The same, so short that it can stand in its caller: a character of one byte or two is read here, any other by a call. So its tests are those of
+// `read_back` a second time.
 pub fn read_short_back(w: &[u8], c: usize) -> Read
     requires { c ≤ length w.now }
     ensures { result ≡ read_back_of w.now c }

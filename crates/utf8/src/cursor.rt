@@ -12,37 +12,29 @@ pub struct Cursor {
 
 impl Cursor {
     // Whether the record lies within the word: no step reads where it does not.
+    #[tactic(auto, unfolding(crate::specs::Steps::stands))]
     pub fn stands_in(self, w: &[u8]) -> bool
         ensures { result ≡ stands w.now self }
     {
-        if self.cursor < self.limit_backward {
-            return false;
-        }
-        if self.limit < self.cursor {
-            return false;
-        }
-        self.limit <= w.len()
+        self.limit_backward <= self.cursor && self.cursor <= self.limit && self.limit <= w.len()
     }
 
     // The record with its cursor elsewhere.
+    #[tactic(auto, unfolding(crate::specs::Steps::move_to))]
     pub fn moved_to(self, c: usize) -> Cursor
         ensures { result ≡ move_to self c }
     {
-        Cursor {
-            cursor: c,
-            limit: self.limit,
-            limit_backward: self.limit_backward,
-        }
+        Cursor { cursor: c, ..self }
     }
 
     // The record after all from the cursor on is deleted: the limit comes down to the cursor.
+    #[tactic(auto, unfolding(crate::specs::Behind::deleted))]
     pub fn deleted(self) -> Cursor
         ensures { result ≡ deleted self }
     {
         Cursor {
-            cursor: self.cursor,
             limit: self.cursor,
-            limit_backward: self.limit_backward,
+            ..self
         }
     }
 }

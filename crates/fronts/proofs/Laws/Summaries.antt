@@ -12,10 +12,14 @@ use Rattle.encoding.specs.Scalar.{scalars}
 use Rattle.encoding.specs.Encoding.{encode, encode_all}
 use Rattle.encoding.specs.Text.{TextOf}
 use Rattle.encoding.proofs.Laws.Decoding.{length_encode_pos}
+use Rattle.std.specs.Prelude.{Some, None}
+use Rattle.std.specs.declared.option.Option.{Option}
+use Rattle.std.proofs.lemmas.Option.{none-some, same_Some}
 use Rattle.utf8.specs.declared.cursor.Cursor.{Cursor}
 use Rattle.utf8.specs.declared.step.Step.{Step}
 use Rattle.utf8.specs.Steps.{move_to, next_char_of}
 use Rattle.utf8.proofs.TextCharacters.{encode_all-append, before-whole}
+use Rattle.utf8.proofs.WholeCharacters.{next_char_of-edge}
 use Rattle.utf8.proofs.Theorems.{step-on-whole}
 use Rattle.turkish.specs.declared.summary.Summary.{Summary}
 use Rattle.turkish.specs.Vowels.{vowels, vowel}
@@ -65,7 +69,7 @@ length-snoc cs c = rw (length-parts, append-nil)
 -- a step on from there takes the next one
 next_place : (cs : List ℕ) (c : ℕ) (ds : List ℕ) → scalars (cs ++ c ∷ ds) ≡ true
     → next_char_of (encode_all (cs ++ c ∷ ds)) (place cs (cs ++ c ∷ ds))
-    ≡ record { moved = true; ch = c; next = place (cs ++ (c ∷ [])) (cs ++ c ∷ ds) }
+    ≡ Some (record { ch = c; next = place (cs ++ (c ∷ [])) (cs ++ c ∷ ds) })
 unfolding move_to
 next_place cs c ds h =
     let ends = rw append_snoc at (length-parts (cs ++ (c ∷ [])) ds) in
@@ -88,16 +92,23 @@ passed_none front s a e =
     let t = accepted-text front a in
     record { passed = []; left = t.chars; valid = t.valid; encoded = t.encoded; stands = rw t.encoded; is = e }
 
+-- where all are passed there is no step on
+next-none : (cs : List ℕ) → next_char_of (encode_all (cs ++ [])) (place cs (cs ++ [])) ≡ None
+next-none cs = next_char_of-edge (encode_all (cs ++ [])) (place cs (cs ++ [])) (ap (λ (l : List ℕ). length (encode_all l)) (sym (append-nil cs)))
+
 -- a turn passes one more
-pub passed-more : (front : List ℕ) (s t : Summary) (r : Cursor) (p : Step) → Passed front s r → r.cursor < length front
-    → p ≡ next_char_of front r → t ≡ added p.ch s → Passed front t p.next × (r.cursor < p.next.cursor)
-passed-more front s t r p h k e f = go h.passed h.left h.valid h.encoded h.stands h.is
+pub passed-more : (front : List ℕ) (s t : Summary) (r : Cursor) (p : Step) → Passed front s r
+    → Some p ≡ next_char_of front r → t ≡ added p.ch s → Passed front t p.next × (r.cursor < p.next.cursor)
+passed-more front s t r p h e f = go h.passed h.left h.valid h.encoded h.stands h.is
   where
     go : (cs ds : List ℕ) → scalars (cs ++ ds) ≡ true → encode_all (cs ++ ds) ≡ front → r ≡ place cs (cs ++ ds) → s ≡ summary_from (reverse cs)
         → Passed front t p.next × (r.cursor < p.next.cursor)
-    go cs [] v w u i = absurd (omega (arith, ap (λ (x : Cursor). x.cursor) u, ap length (rw append-nil at w)))
+    go cs [] v w u i =
+        let none : None ≡ next_char_of front r = rw (u, ← w) (sym (next-none cs)) in
+        absurd (none-some p (none ∙ sym e))
     go cs (c ∷ ds) v w u i =
-        let q : p ≡ record { moved = true; ch = c; next = place (cs ++ (c ∷ [])) (cs ++ c ∷ ds) } = cc (next_place cs c ds v) in
+        let step : ◌≡◌ {A = Option Step} (Some p) (Some (record { ch = c; next = place (cs ++ (c ∷ [])) (cs ++ c ∷ ds) })) = cc (next_place cs c ds v) in
+        let q : p ≡ record { ch = c; next = place (cs ++ (c ∷ [])) (cs ++ c ∷ ds) } = same_Some p _ step in
         let g : t ≡ added c (summary_from (reverse cs)) = cc in (
           record {
             passed = cs ++ (c ∷ []);
@@ -109,6 +120,13 @@ passed-more front s t r p h k e f = go h.passed h.left h.valid h.encoded h.stand
           },
           rw (u, q) (omega (arith, length-snoc cs c, length_encode_pos c)),
         )
+
+-- and begins below the front's end
+pub passed-less : (front : List ℕ) (s : Summary) (r : Cursor) (p : Step) → Passed front s r → Some p ≡ next_char_of front r → r.cursor < length front
+passed-less front s r p h e =
+    let turn = passed-more front s (added p.ch s) r p h e refl in
+    let n = turn.0 in
+    omega (arith, turn.1, ap (λ (x : Cursor). x.cursor) n.stands, length-parts n.passed n.left, ap length n.encoded)
 
 -- a summary on the way can be added to: each count is below the front's bytes
 pub passed_counted : (front : List ℕ) (s : Summary) (r : Cursor) → accepted front ≡ true → Passed front s r → r.cursor < length front → Counted s
@@ -123,9 +141,9 @@ passed_counted front s r a h k =
     })
 
 -- in the end it is the front's
-pub passed-all : (front : List ℕ) (s : Summary) (r : Cursor) → Passed front s r → length front ≤ r.cursor → s ≡ summary front
+pub passed-all : (front : List ℕ) (s : Summary) (r : Cursor) → Passed front s r → None ≡ next_char_of front r → s ≡ summary front
 unfolding summary chars
-passed-all front s r h k = go h.passed h.left h.valid h.encoded h.stands h.is
+passed-all front s r h e = go h.passed h.left h.valid h.encoded h.stands h.is
   where
     go : (cs ds : List ℕ) → scalars (cs ++ ds) ≡ true → encode_all (cs ++ ds) ≡ front → r ≡ place cs (cs ++ ds) → s ≡ summary_from (reverse cs)
         → s ≡ summary_from (chars front)
@@ -133,7 +151,8 @@ passed-all front s r h k = go h.passed h.left h.valid h.encoded h.stands h.is
         let t : TextOf front = record { chars = cs; valid = rw append-nil at v; encoded = rw append-nil at w } in
         i ∙ ap summary_from (sym (before-whole front t))
     go cs (c ∷ ds) v w u i =
-        absurd (omega (arith, ap (λ (x : Cursor). x.cursor) u, ap length w, length-parts cs (c ∷ ds), length-encode_all (c ∷ ds)))
+        let step : ◌≡◌ {A = Option Step} None (Some (record { ch = c; next = place (cs ++ (c ∷ [])) (cs ++ c ∷ ds) })) = cc (next_place cs c ds v) in
+        absurd (none-some _ step)
 
 -- the summary of an accepted front can be added to where the longer front is accepted too
 pub summary-counted : (f : List ℕ) (c : ℕ) → accepted f ≡ true → accepted (f ++ encode c) ≡ true → Counted (summary f)

@@ -8,25 +8,27 @@ use native.Mathlib.Omega.{arith}
 use native.Mathlib.Nat.{sub-zero}
 use lib.ListN.{length, drop, get_or, length-drop, length-reverse, get_or-eq_default}
 use lib.Seq.{get_or-drop}
-use lib.Dec.{ltb, eqb}
-use borrow.Author.Tests.{ltb-true, ltb-false, eqb-true, eqb-false, eq-eqb, ne_eqb}
+use lib.Dec.{leb, ltb, eqb}
+use borrow.Author.Tests.{leb-true, ltb-true, ltb-false, eqb-true, eqb-false, eq-eqb, ne_eqb}
+use Rattle.std.specs.Prelude.{Some, None, is_some, option_map}
+use Rattle.std.specs.declared.option.Option.{Option}
+use Rattle.std.proofs.lemmas.Option.{cond_some, none-some}
 use Rattle.utf8.specs.declared.cursor.Cursor.{Cursor}
 use Rattle.utf8.specs.declared.step.Step.{Step}
 use Rattle.utf8.specs.Characters.{last_width_of, last_char, char_at, before, back}
-use Rattle.utf8.specs.Steps.{move_to, previous_char_of, eq_s_b_of}
+use Rattle.utf8.specs.Steps.{move_to, previous_char_of, stands_at_of, eq_s_b_of}
 use Rattle.utf8.specs.Behind.{behind, back_by, Open}
 use Rattle.encoding.proofs.Laws.Booleans.{and_left, and_right}
 use Rattle.utf8.proofs.Laws.Characters.{before-zero, before-step}
-use Rattle.utf8.proofs.Laws.Steps.{stands-within, eq_s_b_of-moved}
-use Rattle.utf8.proofs.Laws.Behind.{behind-back_by, back_by-add, back_by-zero, open-back_by}
-use Rattle.utf8.proofs.Laws.BehindSteps.{step_behind, previous_char_of-behind, previous_char_of-moved, eq_s_b_of-behind, eq_s_b_of-stays}
+use Rattle.utf8.proofs.Laws.Steps.{stands-within}
+use Rattle.utf8.proofs.Laws.Behind.{behind-back_by, back_by-add, open-back_by}
+use Rattle.utf8.proofs.Laws.BehindSteps.{CharBack, previous_char_of-behind, previous_char_of-moved, eq_s_b_of-behind}
 use Rattle.lent.specs.declared.Over.{Over}
-use Rattle.lent.specs.Over.{over}
+use Rattle.lent.specs.Over.{one_back, before_both, over}
 use Rattle.turkish.specs.Letters.{text, from_end, any, has, starts}
 use Rattle.turkish.specs.Vowels.{vowels, vowel}
 use Rattle.theorems.specs.Simple.Grammar.{fail, took, more, after, asking, among, optional, joining, mark_of}
 use Rattle.theorems.specs.Simple.Marks.{by_y, marked, yken}
-use Rattle.std.specs.Prelude.{Some, None}
 use Rattle.keys.specs.Passed.{passes}
 use Rattle.keys.proofs.Laws.Optional.{optional-get_or}
 use Rattle.keys.proofs.Laws.Literal.{ascii, ascii-reverse_aux, last_width_of-char, literal-chars}
@@ -51,35 +53,39 @@ back-ascii w (b ∷ r) (suc c) a l e =
     ap (λ (i : ℕ). back w i (length r)) place ∙ back-ascii w r c (and_right (ltb b 0x80) (ascii r) a) (omega arith) rest ∙ same
 
 module _ (w s : List ℕ) (r : Cursor) (o : Open w r) (a : ascii s ≡ true) where
-  -- the cursor stands within the word from limit_backward on
-  within-part : r.cursor - r.limit_backward ≤ length (drop r.limit_backward w)
+  -- the word from limit_backward on
+  abbrev low : ℕ
+  low = r.limit_backward
+
+  abbrev part : List ℕ
+  part = drop low w
+
+  -- the cursor stands within it
+  within-part : r.cursor - low ≤ length part
   within-part =
       let within = stands-within w r o.within in
-      omega (arith, length-drop r.limit_backward w, within.low, within.high, within.end)
+      omega (arith, length-drop low w, within.low, within.high, within.end)
 
-  -- the step back past it moves exactly where the characters behind the record begin with it, from its end
-  pub eq_s_b_of-starts : (eq_s_b_of w s r).moved ≡ starts (reverse s) (behind w r)
-  unfolding behind
-  eq_s_b_of-starts = eq_s_b_of-behind w s r o ∙ literal-chars (drop r.limit_backward w) s (r.cursor - r.limit_backward) a within-part
-
-  -- where it moves it comes as many characters back as the literal has bytes
-  pub eq_s_b_of-back_by : (eq_s_b_of w s r).moved ≡ true → (eq_s_b_of w s r).next ≡ back_by w r (length s)
-  unfolding back_by behind ascii
-  eq_s_b_of-back_by m =
-      let low = r.limit_backward in
-      let b = eq_s_b_of-moved w s r m in
-      let far : back (drop low w) (r.cursor - low) (length s) ≡ r.cursor - low - length s =
-      rw length-reverse at (back-ascii (drop low w) (reverse s) (r.cursor - low) (ascii-reverse_aux s [] a refl) within-part (sym eq_s_b_of-starts ∙ m)) in
-      let place : r.cursor - length s ≡ low + back (drop low w) (r.cursor - low) (length s) = omega (arith, b.room) in
-      b.lands ∙ ap (move_to r) place
-
-  -- so much, or nothing
-  pub eq_s_b_of-tried : (eq_s_b_of w s r).next ≡ back_by w r (cond (eq_s_b_of w s r).moved (length s) 0)
-  eq_s_b_of-tried = go (eq_s_b_of w s r).moved refl
+  -- the step back past it is there exactly where the characters behind the record begin with it, from its end, and comes as many characters
+  -- back as the literal has bytes
+  pub eq_s_b_of-starts : eq_s_b_of w s r ≡ cond (starts (reverse s) (behind w r)) (Some (back_by w r (length s))) None
+  unfolding behind back_by ascii
+  eq_s_b_of-starts =
+      eq_s_b_of-behind w s r o ∙ rw test (go (starts (reverse s) (before part (r.cursor - low))) refl)
     where
-      go : (t : Bool) → (eq_s_b_of w s r).moved ≡ t → (eq_s_b_of w s r).next ≡ back_by w r (cond t (length s) 0)
-      go true e = eq_s_b_of-back_by e
-      go false e = eq_s_b_of-stays w s r e ∙ sym (back_by-zero w r o)
+      test : leb (length s) (r.cursor - low) && stands_at_of part (r.cursor - low - length s) s ≡ starts (reverse s) (before part (r.cursor - low))
+      test = literal-chars part s (r.cursor - low) a within-part
+
+      go : (t : Bool) → starts (reverse s) (before part (r.cursor - low)) ≡ t
+          → cond t (Some (move_to r (r.cursor - length s))) None ≡ cond t (Some (move_to r (low + back part (r.cursor - low) (length s)))) None
+      go false e = refl
+      go true e =
+          let fits = leb-true (length s) (r.cursor - low) (and_left _ _ (test ∙ e)) in
+          let within = stands-within w r o.within in
+          let far : back part (r.cursor - low) (length s) ≡ r.cursor - low - length s =
+          rw length-reverse at (back-ascii part (reverse s) (r.cursor - low) (ascii-reverse_aux s [] a refl) within-part e) in
+          let place : r.cursor - length s ≡ low + back part (r.cursor - low) (length s) = omega (arith, within.low) in
+          ap (λ (i : ℕ). Some (move_to r i)) place
 
 -- ---- the mark ----
 
@@ -109,129 +115,159 @@ mark_of-yken cs = go (starts (reverse ken) cs)
     go true = refl
     go false = refl
 
--- the steps' answers k from an open record
-module _ (w : List ℕ) (c : Cursor) (o : Open w c) (k : Over) (is : k ≡ over w ken y c) where
-  -- each by its own definition
-  literal-is : k.literal ≡ (eq_s_b_of w ken c).moved
-  unfolding over
-  literal-is = ap (λ (x : Over). x.literal) is
+-- nothing is chosen where the test fails
+cond-none : {A : Type 0} (t : Bool) (x : A) → cond t (Some x) None ≡ None → t ≡ false
+cond-none true x e = absurd (none-some x (sym e))
+cond-none false x e = refl
 
-  -- the second from where the first leaves the record
-  joined_is : k.joined ≡ (eq_s_b_of w y (eq_s_b_of w ken c).next).moved
-  unfolding over
-  joined_is = ap (λ (x : Over). x.joined) is
+-- what is made of a step that a test gives
+map-cond : (t : Bool) (s : Step) → option_map (λ (p : Step). p.next) (cond t (Some s) None) ≡ cond t (Some s.next) None
+map-cond true s = refl
+map-cond false s = refl
 
-  -- which it leaves here
-  here-is : k.here ≡ (eq_s_b_of w y (eq_s_b_of w ken c).next).next
-  unfolding over
-  here-is = ap (λ (x : Over). x.here) is
+-- the steps from an open record
+module _ (w : List ℕ) (c : Cursor) (o : Open w c) where
+  -- the characters behind it
+  abbrev cs : List ℕ
+  cs = behind w c
 
-  -- the third from here
-  character-is : k.character ≡ (previous_char_of w k.here).moved
-  unfolding over
-  character-is = rw here-is (ap (λ (x : Over). x.character) is)
+  -- how many `ken` and a y, or none, take
+  abbrev taken : Bool → ℕ
+  taken j = 3 + cond j 1 0
 
-  -- and what it leaves
-  next-is : k.next ≡ (previous_char_of w k.here).next
-  unfolding over
-  next-is = rw here-is (ap (λ (x : Over). x.next) is)
+  -- a character stands before those
+  abbrev more_left : Bool → Bool
+  more_left j = ltb 0 (length (drop (taken j) cs))
+
+  -- what the steps tell where `ken` stands, with a y or without
+  abbrev told : Bool → Over
+  told j = record { joined = j; here = back_by w c (taken j); next = cond (more_left j) (Some (back_by w c (taken j + 1))) None }
+
+  -- a step back from before them
+  step-before : (j : Bool) → previous_char_of w (back_by w c (taken j))
+      ≡ cond (more_left j) (Some (record { ch = get_or (drop (taken j) cs) 0 0; next = back_by w c (taken j + 1) })) None
+  step-before j =
+      previous_char_of-behind w (back_by w c (taken j)) (open-back_by w c (taken j) o) ∙ rw (behind-back_by w c (taken j), back_by-add w c (taken j) 1)
+
+  -- and the record that it leaves
+  back-before : (j : Bool) → one_back w (back_by w c (taken j)) ≡ cond (more_left j) (Some (back_by w c (taken j + 1))) None
+  back-before j = rw (step-before j) (map-cond (more_left j) (record { ch = get_or (drop (taken j) cs) 0 0; next = back_by w c (taken j + 1) }))
+
+  -- the y, and what is told, by the characters before `ken`
+  after-ken : (j : Bool) → eq_s_b_of w y (back_by w c 3) ≡ cond j (Some (back_by w c 4)) None
+      → record {
+        joined = is_some (eq_s_b_of w y (back_by w c 3));
+        here = before_both w y (back_by w c 3);
+        next = one_back w (before_both w y (back_by w c 3));
+      }
+      ≡ told j
+  after-ken true e = rw e (ap (λ (n : Option Cursor). record { joined = true; here = back_by w c 4; next = n }) (back-before true))
+  after-ken false e = rw e (ap (λ (n : Option Cursor). record { joined = false; here = back_by w c 3; next = n }) (back-before false))
+
+  y-behind : eq_s_b_of w y (back_by w c 3) ≡ cond (starts y (drop 3 cs)) (Some (back_by w c 4)) None
+  unfolding ascii
+  y-behind = eq_s_b_of-starts w y (back_by w c 3) (open-back_by w c 3 o) refl ∙ rw (behind-back_by w c 3, back_by-add w c 3 1)
+
+  -- so all goes by the characters
+  over-behind : over w ken y c ≡ cond (starts (reverse ken) cs) (Some (told (starts y (drop 3 cs)))) None
+  unfolding over ascii
+  over-behind = rw (eq_s_b_of-starts w ken c o refl) (go (starts (reverse ken) cs))
+    where
+      go : (t : Bool)
+          → option_map (λ (n : Cursor). record { joined = is_some (eq_s_b_of w y n); here = before_both w y n; next = one_back w (before_both w y n) })
+          (cond t (Some (back_by w c 3)) None)
+          ≡ cond t (Some (told (starts y (drop 3 cs)))) None
+      go false = refl
+      go true = ap Some (after-ken (starts y (drop 3 cs)) y-behind)
 
   -- without `ken` the mark fails
-  pub yken-keyless : k.literal ≡ false → None ≡ passes w c (mark_of yken (behind w c))
-  unfolding ascii passes
+  pub yken-keyless : None ≡ over w ken y c → None ≡ passes w c (mark_of yken cs)
+  unfolding passes
   yken-keyless e =
-      let none : starts (reverse ken) (behind w c) ≡ false = sym (literal-is ∙ eq_s_b_of-starts w ken c o refl) ∙ e in
-      rw (mark_of-yken (behind w c), none)
+      let none : starts (reverse ken) cs ≡ false = cond-none (starts (reverse ken) cs) _ (sym over-behind ∙ sym e) in
+      rw (mark_of-yken cs, none)
 
-  -- the character passed has one to four bytes, within the word
-  pub yken-bytes : k.character ≡ true
-      → (0 < k.here.cursor - k.next.cursor) × (k.here.cursor - k.next.cursor ≤ 4)
-      × (k.next.cursor + (k.here.cursor - k.next.cursor) ≤ length w)
-  yken-bytes f = let p = previous_char_of-moved w k.here (sym character-is ∙ f) in rw next-is (p.some, p.four, p.end)
+  -- where it stands, k is told
+  module _ {k : Over} (is : Some k ≡ over w ken y c) where
+    ken-stands : (starts (reverse ken) cs ≡ true) × (told (starts y (drop 3 cs)) ≡ k)
+    ken-stands = cond_some (starts (reverse ken) cs) (told (starts y (drop 3 cs))) k (sym over-behind ∙ sym is)
 
-  module _ (e : k.literal ≡ true) where
-    -- `ken` stands behind the record
-    ken-starts : starts (reverse ken) (behind w c) ≡ true
-    unfolding ascii
-    ken-starts = sym (literal-is ∙ eq_s_b_of-starts w ken c o refl) ∙ e
+    -- with a y where one stands before `ken`
+    y-starts : k.joined ≡ starts y (drop 3 cs)
+    y-starts = ap (λ (x : Over). x.joined) (sym ken-stands.1)
 
-    -- and is three characters
-    after-ken : (eq_s_b_of w ken c).next ≡ back_by w c 3
-    unfolding ascii
-    after-ken = eq_s_b_of-back_by w ken c o refl (sym literal-is ∙ e)
+    k-told : k ≡ told k.joined
+    k-told = sym ken-stands.1 ∙ ap told (sym y-starts)
 
-    -- a y stands before it where the second step moves
-    y-starts : k.joined ≡ starts y (drop 3 (behind w c))
-    unfolding ascii
-    y-starts =
-        joined_is ∙ rw after-ken (eq_s_b_of-starts w y (back_by w c 3) (open-back_by w c 3 o) refl ∙ ap (starts y) (behind-back_by w c 3))
+    -- the record before both
+    here-is : k.here ≡ back_by w c (taken k.joined)
+    here-is = ap (λ (x : Over). x.here) k-told
 
-    -- the record before the last step stands before `ken` and that y
-    here-back_by : k.here ≡ back_by w c (3 + cond k.joined 1 0)
-    unfolding ascii
-    here-back_by =
-        rw (here-is, joined_is, after-ken)
-        (eq_s_b_of-tried w y (back_by w c 3) (open-back_by w c 3 o) refl ∙ back_by-add w c 3 (cond (eq_s_b_of w y (back_by w c 3)).moved 1 0))
-
-    -- with a y
-    here-joined : k.joined ≡ true → k.here ≡ back_by w c 4
-    here-joined j = here-back_by ∙ ap (λ (t : Bool). back_by w c (3 + cond t 1 0)) j
-
-    -- and without
-    here-apart : k.joined ≡ false → k.here ≡ back_by w c 3
-    here-apart j = here-back_by ∙ ap (λ (t : Bool). back_by w c (3 + cond t 1 0)) j
-
-    -- the last step by what stands behind that record
-    last_step : previous_char_of w k.here ≡ step_behind w k.here
-    last_step = previous_char_of-behind w k.here (rw here-back_by (open-back_by w c (3 + cond k.joined 1 0) o))
+    -- and the one a character back from there
+    next-is : k.next ≡ cond (more_left k.joined) (Some (back_by w c (taken k.joined + 1))) None
+    next-is = ap (λ (x : Over). x.next) k-told
 
     -- the mark by the fifth character and that record
-    yken-key : passes w c (mark_of yken (behind w c)) ≡ cond (vowel (get_or (behind w c) 4 0)) (Some k.here.cursor) None
+    yken-key : passes w c (mark_of yken cs) ≡ cond (vowel (get_or cs 4 0)) (Some k.here.cursor) None
     unfolding more passes
     yken-key =
-        rw (mark_of-yken (behind w c), ken-starts, optional-get_or 0x79 (drop 3 (behind w c)), ← starts-y, ← y-starts, get_or-drop 3 (behind w c) 1 0, here-back_by)
-        (go (vowel (get_or (behind w c) 4 0)) (cond k.joined 1 0))
+        rw (mark_of-yken cs, ken-stands.0, optional-get_or 0x79 (drop 3 cs), ← starts-y, ← y-starts, get_or-drop 3 cs 1 0, here-is)
+        (go (vowel (get_or cs 4 0)) (cond k.joined 1 0))
       where
         go : (t : Bool) (n : ℕ) → passes w c (more 3 true (cond t (took n true) fail)) ≡ cond t (Some (back_by w c (3 + n)).cursor) None
         go true n = refl
         go false n = refl
 
-    -- where no character stands before `ken` and the y, there is no fifth, and the mark fails
-    pub yken-short : k.character ≡ false → None ≡ passes w c (mark_of yken (behind w c))
+    -- where no character stands before some of those four, there is no fifth, and the mark fails
+    yken-short : (j : Bool) → more_left j ≡ false → None ≡ passes w c (mark_of yken cs)
     unfolding vowel vowels has any text
-    yken-short f = sym (yken-key ∙ rw (none (3 + cond k.joined 1 0) (far k.joined) here-back_by))
+    yken-short j e = sym (yken-key ∙ rw none)
       where
-        far : (t : Bool) → 3 + cond t 1 0 ≤ 4
-        far true = omega arith
-        far false = omega arith
+        four : (t : Bool) → taken t ≤ 4
+        four true = omega arith
+        four false = omega arith
 
-        none : (n : ℕ) → n ≤ 4 → k.here ≡ back_by w c n → get_or (behind w c) 4 0 ≡ 0
-        none n l h =
-            let nothing : length (behind w k.here) ≤ 0 =
-            ltb-false 0 (length (behind w k.here)) (sym (character-is ∙ ap (λ (s : Step). s.moved) last_step) ∙ f) in
-            let left : length (behind w k.here) ≡ length (behind w c) - n = ap length (ap (behind w) h ∙ behind-back_by w c n) ∙ length-drop n (behind w c) in
-            get_or-eq_default (behind w c) 0 {n = 4} (omega arith)
+        none : get_or cs 4 0 ≡ 0
+        none = get_or-eq_default cs 0 {n = 4} (omega (arith, four j, length-drop (taken j) cs, ltb-false 0 (length (drop (taken j) cs)) e))
 
-    -- after a y the fifth character is the one passed
-    fifth-joined : k.joined ≡ true → k.character ≡ true → char_at w k.next.cursor (k.here.cursor - k.next.cursor) ≡ get_or (behind w c) 4 0
-    fifth-joined j f =
-        rw next-is (sym (previous_char_of-moved w k.here (sym character-is ∙ f)).char) ∙ ap (λ (s : Step). s.ch) last_step
-        ∙ ap (λ (cs : List ℕ). get_or cs 0 0) (ap (behind w) (here-joined j) ∙ behind-back_by w c 4) ∙ get_or-drop 4 (behind w c) 0 0
+    -- so where none stands before `ken` and the y
+    pub yken-first : k.next ≡ None → None ≡ passes w c (mark_of yken cs)
+    yken-first e = yken-short k.joined (cond-none (more_left k.joined) _ (sym next-is ∙ e))
 
-    -- without one it is the next
-    fifth-apart : k.joined ≡ false → (previous_char_of w k.next).ch ≡ get_or (behind w c) 4 0
-    fifth-apart j =
-        let next : k.next ≡ back_by w c 4 =
-        next-is ∙ ap (λ (s : Step). s.next) last_step ∙ ap (λ (r : Cursor). back_by w r 1) (here-apart j) ∙ back_by-add w c 3 1 in
-        ap (λ (r : Cursor). (previous_char_of w r).ch) next ∙ ap (λ (s : Step). s.ch) (previous_char_of-behind w (back_by w c 4) (open-back_by w c 4 o))
-        ∙ ap (λ (cs : List ℕ). get_or cs 0 0) (behind-back_by w c 4) ∙ get_or-drop 4 (behind w c) 0 0
+    -- where one does it is passed, and m is left
+    module _ {m : Cursor} (e : k.next ≡ Some m) where
+      one-left : (more_left k.joined ≡ true) × (back_by w c (taken k.joined + 1) ≡ m)
+      one-left = cond_some (more_left k.joined) (back_by w c (taken k.joined + 1)) m (sym next-is ∙ e)
 
-    -- the mark after a y, by whether the character passed, v, is a vowel
-    pub yken-joined : k.joined ≡ true → k.character ≡ true → {v : ℕ} → v ≡ char_at w k.next.cursor (k.here.cursor - k.next.cursor)
-        → (t : Bool) → vowel v ≡ t → cond t (Some k.here.cursor) None ≡ passes w c (mark_of yken (behind w c))
-    yken-joined j f d t h = sym (yken-key ∙ rw (← fifth-joined j f, ← d, h))
+      passed : previous_char_of w k.here ≡ Some (record { ch = get_or (drop (taken k.joined) cs) 0 0; next = m })
+      passed = rw (here-is, step-before k.joined, one-left.0, one-left.1)
 
-    -- and without one, by whether the next, v, is
-    pub yken-apart : k.joined ≡ false → {v : ℕ} → v ≡ (previous_char_of w k.next).ch
-        → (t : Bool) → vowel v ≡ t → cond t (Some k.here.cursor) None ≡ passes w c (mark_of yken (behind w c))
-    yken-apart j d t h = sym (yken-key ∙ rw (← fifth-apart j, ← d, h))
+      back_over : CharBack w k.here (record { ch = get_or (drop (taken k.joined) cs) 0 0; next = m })
+      back_over = previous_char_of-moved w k.here _ passed
+
+      -- it has one to four bytes, within the word
+      pub yken-bytes : (0 < k.here.cursor - m.cursor) × (k.here.cursor - m.cursor ≤ 4) × (m.cursor + (k.here.cursor - m.cursor) ≤ length w)
+      yken-bytes = (back_over.some, back_over.four, back_over.end)
+
+      -- after a y it is the fifth: the mark by whether it, v, is a vowel
+      pub yken-joined : k.joined ≡ true → {v : ℕ} → v ≡ char_at w m.cursor (k.here.cursor - m.cursor)
+          → (t : Bool) → vowel v ≡ t → cond t (Some k.here.cursor) None ≡ passes w c (mark_of yken cs)
+      yken-joined j d t h =
+          let fifth : get_or cs 4 0 ≡ get_or (drop (taken k.joined) cs) 0 0 = rw j (sym (get_or-drop 4 cs 0 0)) in
+          sym (yken-key ∙ rw (fifth, back_over.char, ← d, h))
+
+      -- without one the next is
+      next-step : k.joined ≡ false → previous_char_of w m ≡ cond (more_left true) (Some (record { ch = get_or (drop 4 cs) 0 0; next = back_by w c 5 })) None
+      next-step j = ap (previous_char_of w) (sym one-left.1 ∙ ap (λ (b : Bool). back_by w c (taken b + 1)) j) ∙ step-before true
+
+      -- so the mark goes by whether that, of the step p, is a vowel
+      pub yken-apart : k.joined ≡ false → {p : Step} → Some p ≡ previous_char_of w m
+          → (t : Bool) → vowel p.ch ≡ t → cond t (Some k.here.cursor) None ≡ passes w c (mark_of yken cs)
+      yken-apart j {p} d t h =
+          let step = cond_some (more_left true) (record { ch = get_or (drop 4 cs) 0 0; next = back_by w c 5 }) p (sym (next-step j) ∙ sym d) in
+          let fifth : get_or cs 4 0 ≡ p.ch = sym (get_or-drop 4 cs 0 0) ∙ ap (λ (s : Step). s.ch) step.1 in
+          sym (yken-key ∙ rw (fifth, h))
+
+      -- and fails where there is none
+      pub yken-alone : k.joined ≡ false → None ≡ previous_char_of w m → None ≡ passes w c (mark_of yken cs)
+      yken-alone j d = yken-short true (cond-none (more_left true) _ (sym (next-step j) ∙ sym d))

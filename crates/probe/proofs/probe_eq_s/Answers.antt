@@ -3,4 +3,4 @@ use Rattle.probe.proofs.probe_eq_s.Goals as goal
 
 pub returns : goal.returns
 returns c =
-    rw (c.flat_literal.ensures, c.eq_s.ensures, c.cursor_of.ensures)
+    rw (c.flat_literal.ensures, c.eq_s.ensures, c.cursor_of-r.ensures)

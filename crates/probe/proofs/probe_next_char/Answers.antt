@@ -3,4 +3,4 @@ use Rattle.probe.proofs.probe_next_char.Goals as goal
 
 pub returns : goal.returns
 returns c =
-    rw (c.flat_step.ensures, c.next_char.ensures, c.cursor_of.ensures)
+    rw (c.flat_step.ensures, c.next_char.ensures, c.cursor_of-r.ensures)

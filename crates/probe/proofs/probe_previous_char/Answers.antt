@@ -3,4 +3,4 @@ use Rattle.probe.proofs.probe_previous_char.Goals as goal
 
 pub returns : goal.returns
 returns c =
-    rw (c.flat_step.ensures, c.previous_char.ensures, c.cursor_of.ensures)
+    rw (c.flat_step.ensures, c.previous_char.ensures, c.cursor_of-r.ensures)

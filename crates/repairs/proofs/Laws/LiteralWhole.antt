@@ -1,17 +1,19 @@
 -- A word's first bytes are exactly an ASCII literal where the characters before their end are exactly it, from its end. A byte at a
 -- time, from the literal's end. Assumes nothing.
 use Prim.Native.Nat.{ℕ, zero, suc, ◌-◌, ◌≤◌, ◌<◌}
-use mathlib.Core.Path.{◌≡◌, refl, sym, ◌∙◌}
+use mathlib.Core.Path.{◌≡◌, refl, sym, ap, ◌∙◌}
 use mathlib.Core.Bool.{Bool, true, false, ◌&&◌, and-true}
 use mathlib.Core.List.{List, [], ◌∷◌, reverse_aux, reverse, reverse-reverse}
 use native.Mathlib.Omega.{arith}
-use lib.ListN.{length, get_or, length-reverse}
+use lib.ListN.{length, take, get_or, length-reverse}
+use lib.Seq.{length-take-le}
+use Rattle.std.specs.Cmp.Lexicographic.{pointwise, unequal}
 use lib.Dec.{ltb, eqb, eqb-suc-suc}
 use borrow.Author.Tests.{ltb-true, eqb-true, eqb-false, ne_eqb}
 use Rattle.utf8.specs.Characters.{last_width_of, last_char, before}
 use Rattle.utf8.specs.Steps.{same, stands_at_of}
 use Rattle.encoding.proofs.Laws.Booleans.{and_left, and_right, and-false}
-use Rattle.utf8.proofs.Laws.Steps.{stands_at_of-cons}
+use Rattle.utf8.proofs.Laws.Steps.{stands_at_of-cons, pointwise-same}
 use Rattle.utf8.proofs.Laws.Characters.{before-zero, before-step}
 use Rattle.keys.proofs.Laws.Literal.{ascii, ascii-reverse_aux, last_width_of-byte, last_char-byte, last_width_of-char}
 
@@ -58,8 +60,19 @@ same-stands_at_of-around w (b ∷ r) s (suc c) a l =
     ) (and-swap (eqb (get_or w c 0) b) (same (before w c) r) (stands_at_of w (suc c) s))
 
 -- the first n bytes are exactly an ASCII literal where the characters before place n are exactly the literal's, from its end
-pub same-stands_at_of : (w s : List ℕ) (n : ℕ) → ascii s ≡ true → n ≤ length w → same (before w n) (reverse s) ≡ (eqb n (length s) && stands_at_of w 0 s)
+same-stands_at_of : (w s : List ℕ) (n : ℕ) → ascii s ≡ true → n ≤ length w → same (before w n) (reverse s) ≡ (eqb n (length s) && stands_at_of w 0 s)
 unfolding ascii stands_at_of same
 same-stands_at_of w s n a l =
     let around = same-stands_at_of-around w (reverse s) [] n (ascii-reverse_aux s [] a refl) l in
     cc (length-reverse s, reverse-reverse s, around, and-true (same (before w n) (reverse s)))
+
+-- so it comes to a comparison of the first n bytes with the literal
+pub front-is : (w s : List ℕ) (n : ℕ) → ascii s ≡ true → n ≤ length w → pointwise eqb (take n w) s ≡ same (before w n) (reverse s)
+unfolding stands_at_of
+front-is w s n a l = go (eqb n (length s)) refl
+  where
+    go : (t : Bool) → eqb n (length s) ≡ t → pointwise eqb (take n w) s ≡ same (before w n) (reverse s)
+    go true e =
+        pointwise-same (take n w) s ∙ ap (λ (m : ℕ). same (take m w) s) (eqb-true n (length s) e) ∙ sym (same-stands_at_of w s n a l ∙ rw e)
+    go false e =
+        unequal eqb (take n w) s (λ h. eqb-false n (length s) e (sym (length-take-le n w l) ∙ h)) ∙ sym (same-stands_at_of w s n a l ∙ rw e)

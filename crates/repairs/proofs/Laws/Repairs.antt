@@ -1,17 +1,17 @@
 -- The postlude's pieces by the tests that decide them: the reserved words, the vowel gained, the consonant hardened, what is seen from
 -- the end, the repair. Assumes nothing.
-use Prim.Native.Nat.{ℕ, ◌≤◌, ◌<◌}
-use mathlib.Core.Path.{◌≡◌, refl, ◌∙◌}
-use mathlib.Core.Logic.{◌⊎◌, inl, inr}
-use mathlib.Core.Bool.{Bool, true, false, cond, ◌&&◌, ◌||◌, or-false}
+use Prim.Native.Nat.{ℕ, ◌≤◌, ◌<◌, ◌+◌, ◌/◌, ◌%◌}
+use mathlib.Core.Path.{◌≡◌, refl, ◌∙◌, sym, ap}
+use mathlib.Core.Logic.{◌⊎◌, inl, inr, ⊎_elim}
+use mathlib.Core.Bool.{Bool, true, false, cond, ◌&&◌, ◌||◌, or-false, false≢true}
 use mathlib.Core.List.{List, [], ◌∷◌}
 use native.Mathlib.Omega.{arith}
-use lib.ListN.{length, drop, get_or}
+use lib.ListN.{length, take, drop, get_or}
 use lib.Dec.{eqb}
-use borrow.Author.Tests.{eqb-true, eqb-false, eq-eqb, ne_eqb}
+use borrow.Author.Tests.{eqb-true, eqb-false, eq-eqb, ne_eqb, lt-ltb, le-ltb}
+use Rattle.std.specs.Cmp.Lexicographic.{pointwise}
 use Rattle.encoding.proofs.Laws.Booleans.{cond_both}
 use Rattle.utf8.specs.Characters.{before}
-use Rattle.utf8.specs.Steps.{stands_at_of}
 use Rattle.utf8.proofs.Laws.Characters.{back-le, before_back}
 use Rattle.utf8.proofs.Laws.Behind.{behind-before, back_by-back, open-start}
 use Rattle.turkish.specs.Letters.{text, from_end, any, has, starts}
@@ -24,7 +24,7 @@ use Rattle.keys.specs.Seen.{seen_at, Sees}
 use Rattle.std.specs.Prelude.{Some, None}
 use Rattle.repairs.specs.Repairs.{ending, unchanged, followed, gain, appended, hardened, repair_of}
 use Rattle.keys.proofs.Laws.Literal.{ascii}
-use Rattle.repairs.proofs.Laws.LiteralWhole.{same-stands_at_of}
+use Rattle.repairs.proofs.Laws.LiteralWhole.{front-is}
 
 -- ---- a choice ----
 
@@ -41,22 +41,10 @@ has-neither v a b p q = rw (ne_eqb v a p, ne_eqb v b q)
 -- ---- the reserved words ----
 
 -- the characters before a place are a reserved word where the bytes before it are
-reserved-bytes : (w : List ℕ) (n : ℕ) → n ≤ length w
-    → reserved (before w n) ≡ (eqb n 2 && stands_at_of w 0 (text "ad") || eqb n 5 && stands_at_of w 0 (text "soyad"))
+pub reserved-front : (w : List ℕ) (n : ℕ) → n ≤ length w
+    → pointwise eqb (take n w) (text "ad") || pointwise eqb (take n w) (text "soyad") ≡ reserved (before w n)
 unfolding reserved from_end text ascii
-reserved-bytes w n h = rw (same-stands_at_of w (text "ad") n refl h, same-stands_at_of w (text "soyad") n refl h)
-
--- two bytes are one where they are `ad`
-pub reserved-two : (w : List ℕ) (n : ℕ) → n ≤ length w → n ≡ 2 → reserved (before w n) ≡ stands_at_of w 0 (text "ad")
-reserved-two w n h e = reserved-bytes w n h ∙ rw e (or-false (stands_at_of w 0 (text "ad")))
-
--- five bytes are one where they are `soyad`
-pub reserved-five : (w : List ℕ) (n : ℕ) → n ≤ length w → n ≡ 5 → reserved (before w n) ≡ stands_at_of w 0 (text "soyad")
-reserved-five w n h e = reserved-bytes w n h ∙ rw e
-
--- any other number of bytes is none
-pub reserved-no : (w : List ℕ) (n : ℕ) → n ≤ length w → (n ≡ 2 → ⊥) → (n ≡ 5 → ⊥) → reserved (before w n) ≡ false
-reserved-no w n h p q = reserved-bytes w n h ∙ rw (ne_eqb n 2 p, ne_eqb n 5 q)
+reserved-front w n h = rw (front-is w (text "ad") n refl h, front-is w (text "soyad") n refl h)
 
 -- ---- the vowel gained ----
 

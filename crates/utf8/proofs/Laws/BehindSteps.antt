@@ -3,23 +3,26 @@
 use Prim.Native.Nat.{ℕ, ◌+◌, ◌-◌, ◌≤◌, ◌<◌}
 use mathlib.Core.Path.{◌≡◌, refl, sym, ap, ◌∙◌}
 use mathlib.Core.Logic.{◌⊎◌, inl, inr}
-use mathlib.Core.Bool.{Bool, true, false, cond, not, ◌&&◌, ◌||◌, false≢true}
+use mathlib.Core.Bool.{Bool, true, false, cond, not, ◌&&◌, ◌||◌}
 use mathlib.Core.List.{List, ◌∷◌}
 use native.Mathlib.Omega.{arith}
 use lib.ListN.{length, take, drop, get_or}
 use lib.Seq.{get_or-drop, drop-drop}
 use lib.Dec.{leb, ltb, eqb}
 use borrow.Author.Tests.{ltb-true, ltb-false, lt-ltb, le-leb, lt-leb, leb-true, leb-false, eqb-true, not-true}
+use Rattle.std.specs.Prelude.{Some, None}
+use Rattle.std.specs.declared.option.Option.{Option}
+use Rattle.std.specs.Option.{ForSome}
+use Rattle.std.proofs.lemmas.Option.{cond_some}
 use Rattle.utf8.specs.declared.cursor.Cursor.{Cursor}
 use Rattle.utf8.specs.declared.step.Step.{Step}
-use Rattle.utf8.specs.declared.literal.Literal.{Literal}
 use Rattle.encoding.specs.Encoding.{decode, continuation}
 use Rattle.utf8.specs.Characters.{width, goes_on_of, last_width_of, last_char, char_at, before, back}
-use Rattle.utf8.specs.Steps.{stands, move_to, stay, previous_char_of, same, stands_at_of, eq_s_b_of}
+use Rattle.utf8.specs.Steps.{stands, move_to, previous_char_of, same, stands_at_of, eq_s_b_of}
 use Rattle.utf8.specs.Behind.{behind, back_by, edged, Open}
-use Rattle.encoding.proofs.Laws.Booleans.{or-either, and-false, and_left, and_right, cond-test}
+use Rattle.encoding.proofs.Laws.Booleans.{or-either, and-false, and_left, and_right}
 use Rattle.utf8.proofs.Laws.Widths.{width_one, goes_on_of-start, goes_on_of-byte}
-use Rattle.utf8.proofs.Laws.Characters.{last_width_of-pos, last_width_of-four, last_width_of-le, before-zero, before-step, back-zero}
+use Rattle.utf8.proofs.Laws.Characters.{last_width_of-pos, last_width_of-four, last_width_of-le, before-zero, before-step}
 use Rattle.utf8.proofs.Laws.Steps.{stands-within, previous_char_of-stays, previous_char_of-moves}
 
 -- ---- the word from a place on ----
@@ -98,11 +101,11 @@ module _ (w : List ℕ) (low c : ℕ) (edge : (eqb low 0 || not (continuation (g
 
 -- ---- previous_char_of ----
 
--- the step's answer by what stands behind the record
-abbrev pub step_behind : List ℕ → Cursor → Step
-step_behind w r = record { moved = ltb 0 (length (behind w r)); ch = get_or (behind w r) 0 0; next = back_by w r 1 }
+-- the step by what stands behind the record
+abbrev pub step_behind : List ℕ → Cursor → Option Step
+step_behind w r = cond (ltb 0 (length (behind w r))) (Some (record { ch = get_or (behind w r) 0 0; next = back_by w r 1 })) None
 
--- from past limit_backward it moves past the nearest character
+-- from past limit_backward there is one past the nearest character
 previous_char_of-past : (w : List ℕ) (r : Cursor) → Open w r → r.limit_backward < r.cursor → previous_char_of w r ≡ step_behind w r
 unfolding behind back_by back edged
 previous_char_of-past w r o h =
@@ -117,17 +120,14 @@ previous_char_of-past w r o h =
     let place : c - last_width_of w c ≡ low + (c - low - last_width_of part (c - low)) = omega arith in
     previous_char_of-moves w r o.within room ∙ rw (step, some, place, last_char-drop w low c o.whole h)
 
--- and at limit_backward it stays
+-- and at limit_backward there is none
 previous_char_of-edge : (w : List ℕ) (r : Cursor) → Open w r → r.cursor ≤ r.limit_backward → previous_char_of w r ≡ step_behind w r
-unfolding behind back_by stay move_to
+unfolding behind
 previous_char_of-edge w r o h =
-    let within = stands-within w r o.within in
     let none : r.cursor - r.limit_backward ≡ 0 = omega arith in
-    let place : r.limit_backward + 0 ≡ r.cursor = omega (arith, within.low) in
-    previous_char_of-stays w r (omega (arith, last_width_of-pos w r.cursor))
-    ∙ rw (none, before-zero (drop r.limit_backward w), back-zero (drop r.limit_backward w) 1, place)
+    previous_char_of-stays w r (omega (arith, last_width_of-pos w r.cursor)) ∙ rw (none, before-zero (drop r.limit_backward w))
 
--- one character back from an open record: it moves where a character stands behind it, past that one, and stays elsewhere
+-- one character back from an open record: past the one that stands behind it, where one does
 pub previous_char_of-behind : (w : List ℕ) (r : Cursor) → Open w r → previous_char_of w r ≡ step_behind w r
 previous_char_of-behind w r o = go (ltb r.limit_backward r.cursor) refl
   where
@@ -142,54 +142,41 @@ pub record CharBack (w : List ℕ) (r : Cursor) (s : Step) : Type 0 where
   pub end : s.next.cursor + (r.cursor - s.next.cursor) ≤ length w
   pub char : s.ch ≡ char_at w s.next.cursor (r.cursor - s.next.cursor)
 
--- a step back that moves tells all four
-pub previous_char_of-moved : (w : List ℕ) (r : Cursor) → (previous_char_of w r).moved ≡ true → CharBack w r (previous_char_of w r)
-unfolding previous_char_of move_to stay last_char
-previous_char_of-moved w r =
+-- a step back tells all four
+pub previous_char_of-moved : (w : List ℕ) (r : Cursor) → ForSome (previous_char_of w r) (CharBack w r)
+unfolding previous_char_of move_to last_char
+previous_char_of-moved w r s e =
     let n : ℕ = last_width_of w r.cursor in
     let room : Bool = leb (r.limit_backward + n) r.cursor in
-    cond-test (λ (s : Step). s.moved ≡ true → CharBack w r s) (stands w r && room)
-    (λ t m.
-    let within = stands-within w r (and_left (stands w r) room t) in
-    let h : r.limit_backward + n ≤ r.cursor = leb-true (r.limit_backward + n) r.cursor (and_right (stands w r) room t) in
+    let t = cond_some (stands w r && room) _ s e in
+    let within = stands-within w r (and_left (stands w r) room t.0) in
+    let h : r.limit_backward + n ≤ r.cursor = leb-true (r.limit_backward + n) r.cursor (and_right (stands w r) room t.0) in
     let back : r.cursor - (r.cursor - n) ≡ n = omega arith in
-    record {
+    rw (← t.1)
+    (record {
       some = rw back (last_width_of-pos w r.cursor);
       four = rw back (last_width_of-four w r.cursor);
       end = omega (arith, within.high, within.end);
       char = ap (char_at w (r.cursor - n)) (sym back);
     })
-    (λ m. absurd (false≢true m))
 
 -- ---- eq_s_b_of ----
-
--- a literal that is not passed leaves the record
-pub eq_s_b_of-stays : (w s : List ℕ) (r : Cursor) → (eq_s_b_of w s r).moved ≡ false → (eq_s_b_of w s r).next ≡ r
-unfolding eq_s_b_of
-eq_s_b_of-stays w s r =
-    cond-test (λ (l : Literal). l.moved ≡ false → l.next ≡ r) (stands w r && leb (r.limit_backward + length s) r.cursor && stands_at_of w (r.cursor - length s) s)
-    (λ t m. absurd (false≢true (sym m))) (λ m. refl)
-
--- a step that moves where a test passes and stays where it fails tells the test
-moved-test : (b : Bool) (x y : Literal) → x.moved ≡ true → y.moved ≡ false → (cond b x y).moved ≡ b
-moved-test true x y e f = e
-moved-test false x y e f = f
 
 -- bytes that stand from the place low on stand so in the word from low on
 stands_at_of-drop-low : (w s : List ℕ) (low c : ℕ) → low + length s ≤ c → stands_at_of w (c - length s) s ≡ stands_at_of (drop low w) (c - low - length s) s
 unfolding stands_at_of
 stands_at_of-drop-low w s low c h = ap (λ (l : List ℕ). same (take (length s) l) s) (sym (drop-minus w low c (length s) h))
 
--- back past a literal from an open record: it moves where the literal ends there in the word from limit_backward on
+-- back past a literal from an open record: it is passed where it ends there in the word from limit_backward on
 pub eq_s_b_of-behind : (w s : List ℕ) (r : Cursor) → Open w r
-    → (eq_s_b_of w s r).moved ≡ leb (length s) (r.cursor - r.limit_backward)
-    && stands_at_of (drop r.limit_backward w) (r.cursor - r.limit_backward - length s) s
+    → eq_s_b_of w s r
+    ≡ cond (leb (length s) (r.cursor - r.limit_backward) && stands_at_of (drop r.limit_backward w) (r.cursor - r.limit_backward - length s) s)
+    (Some (move_to r (r.cursor - length s))) None
 unfolding eq_s_b_of
 eq_s_b_of-behind w s r o =
     let low = r.limit_backward in
     let c = r.cursor in
-    moved-test (stands w r && leb (low + length s) c && stands_at_of w (c - length s) s) _ _ refl refl
-    ∙ rw o.within (go (leb (low + length s) c) refl)
+    rw o.within (ap (λ (t : Bool). cond t (Some (move_to r (c - length s))) None) (go (leb (low + length s) c) refl))
   where
     go : (t : Bool) → leb (r.limit_backward + length s) r.cursor ≡ t
         → (t && stands_at_of w (r.cursor - length s) s)

@@ -5,29 +5,28 @@ use native.Mathlib.Omega.{arith}
 use Rattle.turkish.specs.Letters.{text, any, has}
 use Rattle.turkish.specs.Vowels.{vowels, vowel, last_vowel_of, before_last_vowel}
 use Rattle.batches.specs.Summary.{vowel_number, times, summary_from}
-use Rattle.fronts.proofs.Laws.Summaries.{passed_none, passed-more, passed_counted, passed-all}
+use Rattle.fronts.proofs.Laws.Summaries.{passed_none, passed-more, passed-less, passed_counted, passed-all}
 use Rattle.fronts.proofs.summary.summary_of.Goals as goal
 
-pub loop-c-init : goal.loop-c-init
+pub loop-p-init : goal.loop-p-init
 unfolding summary_from vowel_number vowel vowels text has any last_vowel_of before_last_vowel times
-loop-c-init c = passed_none c.args.front.now _ c.requires refl
+loop-p-init c = passed_none c.args.front.now _ c.requires refl
 
 pub add-s-requires : goal.add-s-requires
 add-s-requires c =
-    passed_counted c.args.front.now c.loop-c.s c.loop-c.c c.requires c.loop-c.invariant c.loop-c-test.true
+    let l = c.loop-p in
+    passed_counted c.args.front.now l.s l.c c.requires l.invariant (passed-less _ _ _ _ l.invariant c.in-Some.ensures)
 
-pub loop-c-smaller : goal.loop-c-smaller
-loop-c-smaller c =
-    let t = c.loop-c-test.true in
-    let turn = passed-more c.args.front.now c.loop-c.s c.add-s.result c.loop-c.c c.next_char-p.result
-    c.loop-c.invariant t c.next_char-p.ensures c.add-s.ensures in
-    omega (arith, turn.1, t)
+pub loop-p-smaller : goal.loop-p-smaller
+loop-p-smaller c =
+    let l = c.loop-p in
+    let turn = passed-more c.args.front.now l.s c.add-s.result l.c _ l.invariant c.in-Some.ensures c.add-s.ensures in
+    omega (arith, turn.1, passed-less _ _ _ _ l.invariant c.in-Some.ensures)
 
-pub loop-c-preserved : goal.loop-c-preserved
-loop-c-preserved c =
-    (passed-more c.args.front.now c.loop-c.s c.add-s.result c.loop-c.c c.next_char-p.result
-    c.loop-c.invariant c.loop-c-test.true c.next_char-p.ensures c.add-s.ensures).0
+pub loop-p-preserved : goal.loop-p-preserved
+loop-p-preserved c =
+    let l = c.loop-p in
+    (passed-more c.args.front.now l.s c.add-s.result l.c _ l.invariant c.in-Some.ensures c.add-s.ensures).0
 
 pub returns : goal.returns
-returns c =
-    passed-all c.args.front.now c.loop-c.s c.loop-c.c c.loop-c.invariant c.loop-c-test.false
+returns c = passed-all c.args.front.now c.loop-p.s c.loop-p.c c.loop-p.invariant c.in_default.ensures

@@ -5,8 +5,8 @@ use lib.ListN.{length}
 use Rattle.fronts.proofs.Laws.Summaries.{Passed}
 use Rattle.fronts.proofs.summary.summary_of.Given as goal
 
-abbrev pub invariant-loop-c : goal.invariant-loop-c
-invariant-loop-c l = Passed l.front l.s l.c
+abbrev pub invariant-loop-p : goal.invariant-loop-p
+invariant-loop-p l = Passed l.front l.s l.c
 
-abbrev pub decreases-loop-c : goal.decreases-loop-c
-decreases-loop-c l = length l.front - l.c.cursor
+abbrev pub decreases-loop-p : goal.decreases-loop-p
+decreases-loop-p l = length l.front - l.c.cursor

@@ -1,28 +1,31 @@
--- `utf8::literal::eq_s_b` meets its contract: the tests that led to each `return` are the laws' hypotheses. Assumes nothing.
-use Rattle.utf8.proofs.Laws.Steps.{stands-within, eq_s_b_of-out, eq_s_b_of-short, eq_s_b_of-differs, eq_s_b_of-made, within-back}
-use borrow.Author.Tests.{not-true, not-false}
+-- `utf8::literal::eq_s_b` meets its contract: the bytes between limit_backward and the cursor decide. Assumes nothing.
+use Rattle.utf8.proofs.Laws.Steps.{stands-within, eq_s_b_of-sliced}
+use Rattle.utf8.specs.Steps.{eq_s_b_of}
+use native.Mathlib.Omega.{arith}
 use mathlib.Core.Path.{sym, ◌∙◌}
 use Rattle.utf8.proofs.literal.eq_s_b.Goals as goal
 
 pub returns-then-not-stands_in : goal.returns-then-not-stands_in
-returns-then-not-stands_in c = c.not_passed.ensures ∙ sym (eq_s_b_of-out _ _ _ (sym c.stands_in.ensures ∙ not-true _ c.if-not-stands_in.true-raw))
+unfolding eq_s_b_of
+returns-then-not-stands_in c = rw (← c.stands_in.ensures, c.if-not-stands_in.true)
 
-pub overflow_sub-c : goal.overflow_sub-c
-overflow_sub-c c = (stands-within _ _ (sym c.stands_in.ensures ∙ not-false _ c.if-not-stands_in.false-raw)).low
+pub slice_bounds-before-count : goal.slice_bounds-before-count
+slice_bounds-before-count c = (stands-within _ _ (sym c.stands_in.ensures ∙ c.if-not-stands_in.false)).low
 
-pub returns-then-c-r : goal.returns-then-c-r
-returns-then-c-r c = c.not_passed-then-c-r.ensures ∙ sym (eq_s_b_of-short _ _ _ c.if-c-r.true)
+pub slice_bounds-before-start : goal.slice_bounds-before-start
+slice_bounds-before-start c =
+    let h = stands-within _ _ (sym c.stands_in.ensures ∙ c.if-not-stands_in.false) in
+    omega (arith, h.low, h.high, h.end)
 
-pub stands_at-requires : goal.stands_at-requires
-stands_at-requires c =
-    let a = c.args in
-    within-back a.w.now a.s.now a.r (sym c.stands_in.ensures ∙ not-false _ c.if-not-stands_in.false-raw) c.if-c-r.false
+pub slice_bounds-before-end : goal.slice_bounds-before-end
+slice_bounds-before-end c =
+    let h = stands-within _ _ (sym c.stands_in.ensures ∙ c.if-not-stands_in.false) in
+    omega (arith, h.low, h.high, h.end)
 
-pub returns-then-not-stands_at : goal.returns-then-not-stands_at
-returns-then-not-stands_at c = c.not_passed-then-not-stands_at.ensures ∙ sym (eq_s_b_of-differs _ _ _ (sym c.stands_at.ensures ∙ not-true _ c.if-not-stands_at.true-raw))
+pub returns-then-not-ends_with : goal.returns-then-not-ends_with
+returns-then-not-ends_with c =
+    rw (eq_s_b_of-sliced _ _ _ (sym c.stands_in.ensures ∙ c.if-not-stands_in.false), ← c.ends_with.ensures.value, c.if-not-ends_with.true)
 
 pub returns : goal.returns
 returns c =
-    let stood = sym c.stands_in.ensures ∙ not-false _ c.if-not-stands_in.false-raw in
-    let equal = sym c.stands_at.ensures ∙ not-false _ c.if-not-stands_at.false-raw in
-    eq_s_b_of-made _ _ _ _ stood c.if-c-r.false equal c.moved_to.ensures
+    rw (eq_s_b_of-sliced _ _ _ (sym c.stands_in.ensures ∙ c.if-not-stands_in.false), ← c.ends_with.ensures.value, c.if-not-ends_with.false, c.moved_to.ensures)
