@@ -74,7 +74,8 @@ fn line_length(rest: &[u8]) -> usize
     rest.len()
 }
 
-// The line that begins at a place: on by 16 bytes as long as none is a line feed, and then by the fewer that are left before one.
+// The line that begins at a place: on by 16 bytes as long as none is a line feed, and then by the fewer that are left before one. The loop keeps the
+// place, since that is where those begin, which an iterator over blocks would not tell.
 fn line_at(w: &[u8], from: usize) -> Line
     requires { from ≤ length w.now }
     ensures { result ≡ line_at w.now from }
