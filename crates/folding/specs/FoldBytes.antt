@@ -1,21 +1,21 @@
 -- The fold as the code makes it: over the bytes of a word, a step of one or two bytes after another. Assumes nothing.
 use Rattle.std.specs.Prelude.{ℕ, ◌+◌, Bool, true, cond, not, ◌&&◌, ◌||◌, List, [], ◌∷◌, ◌++◌, length, eqb, ltb, leb}
+use Rattle.folding.specs.declared.step.Given.{Given}
+use Rattle.folding.specs.declared.step.Given.TheVariants.{One, Two}
 use Rattle.folding.specs.declared.step.FoldStep.{FoldStep}
 
--- a step that takes so many bytes and gives one, or two
-unfoldable pub one : ℕ → ℕ → FoldStep
-one taken b = record { taken = taken; given = 1; first = b; last = b }
-
-unfoldable pub two : ℕ → ℕ → ℕ → FoldStep
-two taken a b = record { taken = taken; given = 2; first = a; last = b }
+-- the bytes that a step gives
+unfoldable pub given_bytes : Given → List ℕ
+given_bytes (One a) = a ∷ []
+given_bytes (Two a b) = a ∷ b ∷ []
 
 -- A to Z in small letters
 unfoldable pub small_byte : ℕ → ℕ
 small_byte b = cond (leb 0x41 b && leb b 0x5A) (b + 0x20) b
 
 -- one byte: I becomes ı
-unfoldable pub alone : ℕ → FoldStep
-alone b = cond (eqb b 0x49) (two 1 0xC4 0xB1) (one 1 (small_byte b))
+unfoldable pub alone : ℕ → Given
+alone b = cond (eqb b 0x49) (Two 0xC4 0xB1) (One (small_byte b))
 
 -- the second byte after the first byte a: that of Ç Ö Ü, of Ğ or of Ş
 unfoldable pub second : ℕ → ℕ → ℕ
@@ -24,28 +24,28 @@ second a b =
     (cond (not (eqb a 0xC3) && eqb b 0x9E) (b + 1) b)
 
 -- two bytes: İ becomes i
-unfoldable pub pair : ℕ → ℕ → FoldStep
-pair a b = cond (eqb a 0xC4 && eqb b 0xB0) (one 2 0x69) (two 2 a (second a b))
+unfoldable pub pair : ℕ → ℕ → Given
+pair a b = cond (eqb a 0xC4 && eqb b 0xB0) (One 0x69) (Two a (second a b))
 
 -- two are taken from the first byte of such letters on
 unfoldable pub paired : ℕ → Bool
 paired b = leb 0xC3 b && leb b 0xC5
 
+-- a step that takes so many bytes and gives these
+abbrev pub taking : ℕ → Given → FoldStep
+taking n g = record { taken = n; given = g }
+
 -- the step at the front of some bytes
 unfoldable pub fold_step : List ℕ → FoldStep
-fold_step [] = alone 0
-fold_step (b ∷ []) = alone b
-fold_step (b ∷ c ∷ cs) = cond (paired b) (pair b c) (alone b)
-
--- the bytes that a step gives
-unfoldable pub step_bytes : FoldStep → List ℕ
-step_bytes s = cond (eqb s.given 1) (s.first ∷ []) (s.first ∷ s.last ∷ [])
+fold_step [] = taking 1 (alone 0)
+fold_step (b ∷ []) = taking 1 (alone b)
+fold_step (b ∷ c ∷ cs) = cond (paired b) (taking 2 (pair b c)) (taking 1 (alone b))
 
 -- one step after another
 unfoldable pub fold_bytes : List ℕ → List ℕ
 fold_bytes [] = []
-fold_bytes (b ∷ []) = step_bytes (alone b)
-fold_bytes (b ∷ c ∷ cs) = cond (paired b) (step_bytes (pair b c) ++ fold_bytes cs) (step_bytes (alone b) ++ fold_bytes (c ∷ cs))
+fold_bytes (b ∷ []) = given_bytes (alone b)
+fold_bytes (b ∷ c ∷ cs) = cond (paired b) (given_bytes (pair b c) ++ fold_bytes cs) (given_bytes (alone b) ++ fold_bytes (c ∷ cs))
 
 -- ASCII without I, of which each byte is folded where it stands
 unfoldable pub plain : List ℕ → Bool

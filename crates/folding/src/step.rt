@@ -1,41 +1,32 @@
 // A step of the fold over a word: one or two of its bytes are taken, and one or two given for them. Two are taken where a letter that
 // folds may stand, of which the first byte is that of Ç Ö Ü, of Ğ İ, or of Ş; everywhere else one.
 ghost use Rattle.std.specs.Prelude.{◌≡◌, ◌<◌, length, drop};
-ghost use Rattle.folding.specs.FoldBytes.{one, two, small_byte, alone, second, paired, pair, fold_step};
+ghost use Rattle.folding.specs.FoldBytes.{given_bytes, small_byte, alone, second, paired, pair, fold_step};
 
-// How many bytes are taken and how many given, and the first and the last of those; they are one where one is given.
+// The bytes given for those taken.
+#[derive(Clone, Copy)]
+pub enum Given {
+    One(u8),
+    Two(u8, u8),
+}
+
+impl Given {
+    // How many there are.
+    pub(crate) fn len(self) -> usize
+        ensures { result ≡ length (given_bytes self) }
+    {
+        match self {
+            Given::One(_) => 1,
+            Given::Two(_, _) => 2,
+        }
+    }
+}
+
+// How many bytes are taken, and what is given for them.
 #[derive(Clone, Copy)]
 pub struct FoldStep {
     pub taken: usize,
-    pub given: usize,
-    pub first: u8,
-    pub last: u8,
-}
-
-impl FoldStep {
-    // The byte b given for so many.
-    fn one(taken: usize, b: u8) -> FoldStep
-        ensures { result ≡ one taken b }
-    {
-        FoldStep {
-            taken,
-            given: 1,
-            first: b,
-            last: b,
-        }
-    }
-
-    // The bytes a and b given for so many.
-    fn two(taken: usize, a: u8, b: u8) -> FoldStep
-        ensures { result ≡ two taken a b }
-    {
-        FoldStep {
-            taken,
-            given: 2,
-            first: a,
-            last: b,
-        }
-    }
+    pub given: Given,
 }
 
 // A to Z become a to z; every other byte stays.
@@ -49,13 +40,13 @@ pub(crate) fn small(b: u8) -> u8
 }
 
 // One byte: I becomes ı.
-pub(crate) fn fold_alone(b: u8) -> FoldStep
+pub(crate) fn fold_alone(b: u8) -> Given
     ensures { result ≡ alone b }
 {
     if b == 0x49 {
-        return FoldStep::two(1, 0xC4, 0xB1);
+        return Given::Two(0xC4, 0xB1);
     }
-    FoldStep::one(1, small(b))
+    Given::One(small(b))
 }
 
 // The second byte after the first byte a: that of Ç Ö Ü, of Ğ or of Ş.
@@ -79,13 +70,13 @@ fn is_paired(b: u8) -> bool
 }
 
 // Two bytes: İ becomes i.
-fn fold_pair(a: u8, b: u8) -> FoldStep
+fn fold_pair(a: u8, b: u8) -> Given
     ensures { result ≡ pair a b }
 {
     if (a == 0xC4) & (b == 0xB0) {
-        return FoldStep::one(2, 0x69);
+        return Given::One(0x69);
     }
-    FoldStep::two(2, a, fold_second(a, b))
+    Given::Two(a, fold_second(a, b))
 }
 
 // The step from place i of the word.
@@ -94,11 +85,14 @@ pub(crate) fn fold_at(w: &[u8], i: usize) -> FoldStep
     ensures { result ≡ fold_step (drop i w.now) }
 {
     let b = w[i];
-    if !is_paired(b) {
-        return fold_alone(b);
+    if is_paired(b) && i + 1 < w.len() {
+        return FoldStep {
+            taken: 2,
+            given: fold_pair(b, w[i + 1]),
+        };
     }
-    if w.len() <= i + 1 {
-        return fold_alone(b);
+    FoldStep {
+        taken: 1,
+        given: fold_alone(b),
     }
-    fold_pair(b, w[i + 1])
 }

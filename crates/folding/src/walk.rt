@@ -2,13 +2,13 @@
 ghost use Rattle.std.specs.Prelude.{◌≡◌, ◌+◌, ◌≤◌, ◌<◌, length};
 ghost use Rattle.turkish.specs.Calls.{limit, written};
 ghost use Rattle.writing.specs.Put.{put};
-ghost use Rattle.folding.specs.FoldBytes.{step_bytes, fold_bytes};
+ghost use Rattle.folding.specs.FoldBytes.{given_bytes, fold_bytes};
 
 use crate::step;
-use crate::step::FoldStep;
+use crate::step::Given;
 use writing::put;
 
-// How many bytes the folded word has.
+// How many bytes the folded word has. A step takes one byte or two, so the place moves on by what each one says.
 pub(crate) fn folded_length(w: &[u8]) -> usize
     requires { length w.now ≤ limit }
     ensures { result ≡ length (fold_bytes w.now) }
@@ -17,26 +17,29 @@ pub(crate) fn folded_length(w: &[u8]) -> usize
     let mut i = 0;
     while i < w.len() {
         let s = step::fold_at(w, i);
-        total += s.given;
+        total += s.given.len();
         i += s.taken;
     }
     total
 }
 
 // Writes what a step gives at place `at`, and gives the place after it.
-fn put_step(out: &mut [u8], at: usize, s: FoldStep) -> usize
-    requires { at + length (step_bytes s) ≤ length out.old }
-    ensures value { result ≡ at + length (step_bytes s) }
-    ensures out_after { out.new ≡ put at (step_bytes s) out.old }
+fn put_given(out: &mut [u8], at: usize, given: Given) -> usize
+    requires { at + length (given_bytes given) ≤ length out.old }
+    ensures value { result ≡ at + length (given_bytes given) }
+    ensures out_after { out.new ≡ put at (given_bytes given) out.old }
 {
-    let next = put::put_byte(out, at, s.first);
-    if s.given == 1 {
-        return next;
+    match given {
+        Given::One(a) => put::put_byte(out, at, a),
+        Given::Two(a, b) => {
+            let next = put::put_byte(out, at, a);
+            put::put_byte(out, next, b)
+        }
     }
-    put::put_byte(out, next, s.last)
 }
 
 // Writes the folded word, and gives its length. A byte of ASCII is a step by itself, and is not tested for beginning a pair.
+// A step takes one byte or two, so the place moves on by what each one says.
 pub(crate) fn write_steps(w: &[u8], out: &mut [u8]) -> usize
     requires { length (fold_bytes w.now) ≤ length out.old }
     ensures value { result ≡ length (fold_bytes w.now) }
@@ -47,12 +50,12 @@ pub(crate) fn write_steps(w: &[u8], out: &mut [u8]) -> usize
     while i < w.len() {
         let b = w[i];
         if b < 0x80 {
-            at = put_step(out, at, step::fold_alone(b));
+            at = put_given(out, at, step::fold_alone(b));
             i += 1;
             continue;
         }
         let s = step::fold_at(w, i);
-        at = put_step(out, at, s);
+        at = put_given(out, at, s.given);
         i += s.taken;
     }
     at

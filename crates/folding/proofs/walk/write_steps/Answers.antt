@@ -3,30 +3,31 @@
 use mathlib.Core.Path.{refl}
 use native.Mathlib.Omega.{arith}
 use borrow.Author.Rules.{rules}
-use Rattle.folding.proofs.Laws.Steps.{stepped-at, taken-alone}
+use Rattle.folding.specs.FoldBytes.{taking}
+use Rattle.folding.proofs.Laws.Steps.{stepped-at}
 use Rattle.folding.proofs.Laws.Walks.{stepped-ascii, reached-start, reached-room, reached-next, reached-end}
 use Rattle.folding.proofs.walk.write_steps.Goals as goal
 
 pub loop-i-init : goal.loop-i-init
 loop-i-init c = (omega arith, refl, reached-start c.args.w.now c.args.out.now c.requires)
 
-pub put_step-at-requires : goal.put_step-at-requires
-put_step-at-requires c =
+pub put_given-at-requires : goal.put_given-at-requires
+put_given-at-requires c =
     let l = c.loop-i in
-    let step = c.fold_alone in
-    let z = stepped-ascii c.args.w.now l.i step.result c.loop-i-test.true c.if-b-lt128.true step.ensures in
-    reached-room c.args.w.now c.args.out.now l.out l.at l.i l.invariant.2 step.result z l.invariant.1
+    let given = c.fold_alone in
+    let z = stepped-ascii c.args.w.now l.i given.result c.loop-i-test.true c.if-b-lt128.true given.ensures in
+    reached-room c.args.w.now c.args.out.now l.out l.at l.i l.invariant.2 (taking 1 given.result) z l.invariant.1
 
 pub loop-i-preserved-then-b-lt128 : goal.loop-i-preserved-then-b-lt128
 loop-i-preserved-then-b-lt128 c =
-    let step = c.fold_alone in
+    let given = c.fold_alone in
     let l = c.loop-i in
-    let z = stepped-ascii c.args.w.now l.i step.result c.loop-i-test.true c.if-b-lt128.true step.ensures in
-    let next = reached-next c.args.w.now c.args.out.now l.out l.at l.i l.invariant.2 step.result z _ _ (c.put_step-at.ensures.value, c.put_step-at.ensures.out_after) in
-    (omega arith, search rules, rw (taken-alone _ step.result step.ensures) at next)
+    let z = stepped-ascii c.args.w.now l.i given.result c.loop-i-test.true c.if-b-lt128.true given.ensures in
+    let wrote = c.put_given-at.ensures in
+    (omega arith, search rules, reached-next c.args.w.now c.args.out.now l.out l.at l.i l.invariant.2 (taking 1 given.result) z _ _ (wrote.value, wrote.out_after))
 
-pub put_step-at-requires-in-loop-i : goal.put_step-at-requires-in-loop-i
-put_step-at-requires-in-loop-i c =
+pub put_given-at-requires-in-loop-i : goal.put_given-at-requires-in-loop-i
+put_given-at-requires-in-loop-i c =
     let l = c.loop-i in
     let step = c.fold_at-s in
     let z = stepped-at c.args.w.now l.i step.result c.loop-i-test.true step.ensures in
@@ -47,7 +48,7 @@ loop-i-preserved c =
     let l = c.loop-i in
     let r = c.fold_at-s.result in
     let z = stepped-at c.args.w.now l.i r c.loop-i-test.true c.fold_at-s.ensures in
-    let next = reached-next c.args.w.now c.args.out.now l.out l.at l.i l.invariant.2 r z _ _ (c.put_step-at-in-loop-i.ensures.value, c.put_step-at-in-loop-i.ensures.out_after) in
+    let next = reached-next c.args.w.now c.args.out.now l.out l.at l.i l.invariant.2 r z _ _ (c.put_given-at-in-loop-i.ensures.value, c.put_given-at-in-loop-i.ensures.out_after) in
     (omega arith, search rules, next)
 
 pub returns : goal.returns
