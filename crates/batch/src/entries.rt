@@ -23,16 +23,6 @@ pub struct Removal {
     pub flag: bool,
 }
 
-// Yes and true are 1.
-fn bit(b: bool) -> u8
-    ensures { result ≡ bit b }
-{
-    if b {
-        return 1;
-    }
-    0
-}
-
 // The stage of a tail behind the first m bytes of `word`, where it is put.
 fn stem_behind(word: &mut [u8], m: usize, tail: &[u8]) -> Removal
     requires { m + length tail.now ≤ length word.old }
@@ -72,8 +62,8 @@ fn put_entry(
 {
     let r = stem_behind(word, m, tail);
     lengths[i] = (n + tail.len() - r.bytes) as u8;
-    answers[i] = bit(r.yes);
-    flags[i] = bit(r.flag);
+    answers[i] = u8::from(r.yes);
+    flags[i] = u8::from(r.flag);
 }
 
 // Writes an entry for each tail of a batch that is not refused.
@@ -94,8 +84,7 @@ pub(crate) fn put_entries(
     let mut word = [0u8; ROOM];
     let m = stand_in::put_stand_in(summary::summary_of(front), &mut word);
     let mut at = 0;
-    let mut i = 0;
-    while i < t.survey.count {
+    for i in 0..t.survey.count {
         let end = t.ends[i];
         put_entry(
             &mut word,
@@ -107,7 +96,6 @@ pub(crate) fn put_entries(
             answers,
             flags,
         );
-        i += 1;
         at = end + 1;
     }
 }

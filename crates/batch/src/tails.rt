@@ -1,8 +1,8 @@
 // The tails in a slice: where each ends, and what the refusals ask of them, in one walk over the slice.
-ghost use Rattle.std.specs.Prelude.{◌≡◌, ◌-◌, ◌≤◌, length, take, drop};
+ghost use Rattle.std.specs.Prelude.{◌≡◌, ◌≤◌, length};
 ghost use Rattle.turkish.specs.Letters.{lf, has};
 ghost use Rattle.batches.specs.BatchCalls.{tails_in};
-ghost use Rattle.batch.specs.Tails.{block, leads, line_at, tails_of};
+ghost use Rattle.batch.specs.Tails.{block, leads, line_of, line_at, tails_of};
 
 use encoding::continuation;
 use writing::put;
@@ -31,67 +31,70 @@ pub struct Survey {
     pub short: bool,
 }
 
-// And the places where the first 64 end, zeros where there are fewer.
+// And the places where the first 64 end, zeros where there are fewer. Memory is fixed here, and the count goes on past 64, which is what the
+// refusal asks; so the array stands beside it.
 #[derive(Clone, Copy)]
 pub struct Tails {
     pub survey: Survey,
     pub ends: [usize; TAILS],
 }
 
-// Whether a line feed stands between two places. Each byte is looked at, so that many can be in one step.
-fn has_lf(w: &[u8], from: usize, to: usize) -> bool
-    requires from_le_to { from ≤ to }
-    requires to_in_bounds { to ≤ length w.now }
-    ensures { result ≡ has (take (to - from) (drop from w.now)) lf }
+// Whether some bytes have a line feed. Each byte is looked at, so that many can be in one step.
+fn has_lf(part: &[u8]) -> bool
+    ensures { result ≡ has part.now lf }
 {
     let mut found = false;
-    let mut i = from;
-    while i < to {
-        found = found | (w[i] == put::LF);
-        i += 1;
+    for &b in part {
+        found = found | (b == put::LF);
     }
     found
 }
 
-// How many bytes between two places begin a character. A byte counts them, so that many can be counted in one step.
-fn count_leads(w: &[u8], from: usize, to: usize) -> u8
-    requires from_le_to { from ≤ to }
-    requires to_in_bounds { to ≤ length w.now }
-    requires from_bound { to - from ≤ block }
-    ensures { result ≡ leads (take (to - from) (drop from w.now)) }
+// How many of a block's bytes begin a character. A byte counts them, so that many can be counted in one step.
+fn count_leads(part: &[u8]) -> u8
+    requires { length part.now ≤ block }
+    ensures { result ≡ leads part.now }
 {
     let mut k = 0u8;
-    let mut i = from;
-    while i < to {
-        if !continuation::is_continuation(w[i]) {
-            k += 1;
-        }
-        i += 1;
+    for &b in part {
+        k += u8::from(!continuation::is_continuation(b));
     }
     k
 }
 
-// The line that begins at a place: on by 16 bytes as long as none is a line feed, then byte by byte.
+// How many bytes stand before the first line feed.
+fn line_length(rest: &[u8]) -> usize
+    ensures { result ≡ length (line_of rest.now) }
+{
+    for i in 0..rest.len() {
+        if rest[i] == put::LF {
+            return i;
+        }
+    }
+    rest.len()
+}
+
+// The line that begins at a place: on by 16 bytes as long as none is a line feed, and then by the fewer that are left before one. The loop keeps the
+// place, since that is where those begin, which an iterator over blocks would not tell.
 fn line_at(w: &[u8], from: usize) -> Line
     requires { from ≤ length w.now }
     ensures { result ≡ line_at w.now from }
 {
     let mut at = from;
     let mut chars = 0;
-    while BLOCK <= w.len() - at && !has_lf(w, at, at + BLOCK) {
-        chars += count_leads(w, at, at + BLOCK) as usize;
+    while BLOCK <= w.len() - at && !has_lf(&w[at..at + BLOCK]) {
+        chars += count_leads(&w[at..at + BLOCK]) as usize;
         at += BLOCK;
     }
-    while at < w.len() && w[at] != put::LF {
-        if !continuation::is_continuation(w[at]) {
-            chars += 1;
-        }
-        at += 1;
+    let rest = &w[at..];
+    let n = line_length(rest);
+    Line {
+        end: at + n,
+        chars: chars + count_leads(&rest[..n]) as usize,
     }
-    Line { end: at, chars }
 }
 
-// The tails of a slice, all of them looked at.
+// The tails of a slice, all of them looked at. A turn takes a line, whose length the line itself tells.
 pub(crate) fn find_tails(slice: &[u8]) -> Tails
     ensures { result ≡ tails_of (tails_in slice.now) }
 {
@@ -103,9 +106,7 @@ pub(crate) fn find_tails(slice: &[u8]) -> Tails
     while at < slice.len() {
         let line = line_at(slice, at);
         let end = line.end;
-        if longest < end - at {
-            longest = end - at;
-        }
+        longest = longest.max(end - at);
         short = short | (line.chars < LEAST);
         if count < TAILS {
             ends[count] = end;

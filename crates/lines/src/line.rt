@@ -4,7 +4,7 @@ ghost use Rattle.turkish.specs.Letters.{tab, has};
 ghost use Rattle.theorems.specs.Simple.Harmony.{more_than_one_syllable};
 ghost use Rattle.turkish.specs.Calls.{chars, accepted, pass_text, whole_text};
 ghost use Rattle.stages.specs.Outcome.{outcome_of};
-ghost use Rattle.repairs.specs.Repairs.{repair_text};
+ghost use Rattle.repairs.specs.Repairs.{letter_bytes, repair_text};
 ghost use Rattle.outputs.specs.Runs.{run_text};
 ghost use Rattle.writing.specs.Put.{put};
 ghost use Rattle.lines.specs.Line.{line_refusal_of, answers, fields, refused_line, list_line};
@@ -83,21 +83,15 @@ fn put_answers(out: &mut [u8], at: usize, syllable: bool, yes: bool, flag: bool)
 // Writes the text of a repair of w.
 fn put_repair(out: &mut [u8], at: usize, w: &[u8], r: Repair) -> usize
     requires keep_in_bounds { r.keep ≤ length w.now }
-    requires more_bound { r.more ≤ 2 }
-    requires more_in_bounds { at + (r.keep + r.more) ≤ length out.old }
+    requires more_in_bounds { at + (r.keep + length (letter_bytes r.letter)) ≤ length out.old }
     ensures value { result ≡ at + length (repair_text w.now r) }
     ensures out_after { out.new ≡ put at (repair_text w.now r) out.old }
 {
     let a = put::put_bytes(out, at, w, r.keep);
-    let more = r.more;
-    if more == 0 {
+    let Some(letter) = r.letter else {
         return a;
-    }
-    let b = put::put_byte(out, a, r.a);
-    if more == 1 {
-        return b;
-    }
-    put::put_byte(out, b, r.b)
+    };
+    letter.put(out, a)
 }
 
 // Writes the pass's text of an accepted word, whose syllable answer and stage are known.
@@ -122,10 +116,9 @@ fn put_pass(out: &mut [u8], at: usize, w: &[u8], syllable: bool, s: Outcome) -> 
 // Writes the text of a run over w.
 fn put_run(out: &mut [u8], at: usize, w: &[u8], r: Run) -> usize
     requires keep_in_bounds { r.repair.keep ≤ length w.now }
-    requires more_bound { r.repair.more ≤ 2 }
     requires from_le_upto { r.from ≤ r.upto }
     requires upto_in_bounds { r.upto ≤ length w.now }
-    requires from_in_bounds { at + (r.repair.keep + r.repair.more + (r.upto - r.from)) ≤ length out.old }
+    requires from_in_bounds { at + (r.repair.keep + length (letter_bytes r.repair.letter) + (r.upto - r.from)) ≤ length out.old }
     ensures value { result ≡ at + length (run_text w.now r) }
     ensures out_after { out.new ≡ put at (run_text w.now r) out.old }
 {

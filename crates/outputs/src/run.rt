@@ -3,6 +3,7 @@
 ghost use Rattle.std.specs.Prelude.{◌≡◌, ◌+◌, ◌-◌, ◌≤◌, length};
 ghost use Rattle.turkish.specs.Calls.{written};
 ghost use Rattle.stages.specs.Outcome.{outcome_of};
+ghost use Rattle.repairs.specs.Repairs.{letter_bytes};
 ghost use Rattle.outputs.specs.Runs.{run_text, front_run, left_run, front_repaired, whole_run_of};
 
 use crate::repair;
@@ -82,10 +83,9 @@ pub fn whole_of(w: &[u8], s: Outcome) -> Run
 // Writes the text of a run over w, and gives its length.
 pub(crate) fn write_run(w: &[u8], r: Run, out: &mut [u8]) -> usize
     requires keep_in_bounds { r.repair.keep ≤ length w.now }
-    requires more_bound { r.repair.more ≤ 2 }
     requires from_le_upto { r.from ≤ r.upto }
     requires upto_in_bounds { r.upto ≤ length w.now }
-    requires from_in_bounds { r.repair.keep + r.repair.more + (r.upto - r.from) ≤ length out.old }
+    requires from_in_bounds { r.repair.keep + length (letter_bytes r.repair.letter) + (r.upto - r.from) ≤ length out.old }
     ensures value { result ≡ length (run_text w.now r) }
     ensures out_after { out.new ≡ written (run_text w.now r) out.old }
 {

@@ -1,6 +1,6 @@
 -- The repair that the code gives is the postlude of the definition: its text, its answer and its size.
 -- Assumes nothing.
-use Prim.Native.Nat.{ℕ, zero, suc, ◌+◌, ◌-◌, ◌/◌, ◌%◌, ◌≤◌, ◌<◌}
+use Prim.Native.Nat.{ℕ, zero, suc, ◌+◌, ◌-◌, ◌≤◌, ◌<◌}
 use mathlib.Core.Path.{◌≡◌, refl, sym, ap, ◌∙◌}
 use mathlib.Core.Bool.{Bool, true, false, cond, not, ◌&&◌}
 use mathlib.Core.List.{List, [], ◌∷◌, ◌++◌, append-nil}
@@ -8,7 +8,7 @@ use native.Mathlib.Omega.{arith}
 use lib.ListN.{length, take, drop, take-append-drop, length-append, length-drop, get_or-append}
 use lib.Seq.{take-append-le, drop-append-le, take-take, length-take-le}
 use lib.Dec.{ltb, eqb}
-use borrow.Author.Tests.{ltb-true, ltb-false, lt-ltb, eqb-true, eqb-false}
+use borrow.Author.Tests.{ltb-true, ltb-false, eqb-true, eqb-false}
 use Rattle.encoding.proofs.Laws.Booleans.{cond_both}
 use Rattle.encoding.specs.Encoding.{encode}
 use Rattle.encoding.specs.Text.{TextOf}
@@ -22,7 +22,10 @@ use Rattle.turkish.specs.Calls.{bytes}
 use Rattle.theorems.proofs.Laws.Words.{bytes-cons}
 use Rattle.theorems.proofs.PostludeRules.{postlude-one}
 use Rattle.repairs.specs.declared.postlude.Repair.{Repair}
-use Rattle.repairs.specs.Repairs.{repair_text, unchanged, followed, appended, hardened, repair_of}
+use Rattle.std.specs.Prelude.{Option, Some, None}
+use Rattle.writing.specs.declared.letter.Letter.{Letter}
+use Rattle.writing.proofs.Laws.Letter.{letter_of-encode, bytes_of-two}
+use Rattle.repairs.specs.Repairs.{letter_bytes, repair_text, unchanged, followed, appended, hardened, repair_of}
 use Rattle.repairs.proofs.Laws.Repairs.{hard-short, appended-short}
 
 -- ---- the bytes before a place ----
@@ -79,19 +82,8 @@ unchanged-text w n answer = append-nil (take n w)
 
 -- where a character follows, its bytes stand after those
 followed-text : (w : List ℕ) (keep v : ℕ) → v < 0x800 → repair_text w (followed keep v) ≡ take keep w ++ encode v
-unfolding repair_text followed encode
-followed-text w keep v h = rw (lt-ltb v 0x800 h) (go (ltb v 0x80))
-  where
-    one : Repair
-    one = record { keep = keep; more = 1; a = v; b = 0; yes = true }
-
-    two : Repair
-    two = record { keep = keep; more = 2; a = 0xC0 + v / 0x40; b = 0x80 + v % 0x40; yes = true }
-
-    go : (t : Bool) → repair_text w (cond t one two)
-        ≡ take keep w ++ cond t (v ∷ []) ((0xC0 + v / 0x40) ∷ (0x80 + v % 0x40) ∷ [])
-    go true = refl
-    go false = refl
+unfolding repair_text followed
+followed-text w keep v h = ap (λ (s : List ℕ). take keep w ++ s) (letter_of-encode v h)
 
 -- ---- the postlude of characters ----
 
@@ -211,28 +203,32 @@ repair-answer w n = go (reserved (before w n))
 
     go : (u : Bool) → (cond u (unchanged n false) r).yes ≡ not u
     go true = refl
-    go false = change-elim w n (λ x. x.yes ≡ true) refl (λ k v h. cond_both (λ (x : Repair). x.yes ≡ true) (ltb v 0x80) _ _ refl refl)
+    go false = change-elim w n (λ x. x.yes ≡ true) refl (λ k v h. refl)
+
+-- a letter that follows has at most two bytes
+letter_bytes-two : (l : Option Letter) → length (letter_bytes l) ≤ 2
+letter_bytes-two None = omega arith
+letter_bytes-two (Some l) = bytes_of-two l
 
 -- a repair's text has the bytes kept, at most n, and at most two more
 pub record Sized (w : List ℕ) (n : ℕ) (r : Repair) : Type 0 where
   pub keeps : r.keep ≤ n
-  pub adds : r.more ≤ 2
-  pub sum : length (repair_text w r) ≡ r.keep + r.more
+  pub adds : length (letter_bytes r.letter) ≤ 2
+  pub sum : length (repair_text w r) ≡ r.keep + length (letter_bytes r.letter)
   pub fits : length (repair_text w r) ≤ n + 2
 
--- where at most n bytes are kept and at most two added, it is so
-sized-kept : (w : List ℕ) (n : ℕ) (r : Repair) → n ≤ length w → (r.keep ≤ n) × (r.more ≤ 2) → Sized w n r
+-- where at most n bytes are kept, it is so
+sized-kept : (w : List ℕ) (n : ℕ) (r : Repair) → n ≤ length w → r.keep ≤ n → Sized w n r
 unfolding repair_text
 sized-kept w n r l h =
-    let e : length (repair_text w r) ≡ r.keep + r.more =
-    rw (length-append, length-take-le r.keep w (omega arith), length-take-le r.more (r.a ∷ r.b ∷ []) (omega arith)) in
-    record { keeps = h.0; adds = h.1; sum = e; fits = omega arith }
+    let two = letter_bytes-two r.letter in
+    let e : length (repair_text w r) ≡ r.keep + length (letter_bytes r.letter) = rw (length-append, length-take-le r.keep w (omega arith)) in
+    record { keeps = h; adds = two; sum = e; fits = omega arith }
 
 -- it is so of the repair
 pub repair-size : (w : List ℕ) (n : ℕ) → n ≤ length w → Sized w n (repair_of w n)
 unfolding repair_of unchanged followed
 repair-size w n l =
-    let P : Repair → Type 0 = λ r. (r.keep ≤ n) × (r.more ≤ 2) in
+    let P : Repair → Type 0 = λ r. r.keep ≤ n in
     sized-kept w n (repair_of w n) l
-    (cond_both P (reserved (before w n)) (unchanged n false) _ (omega arith)
-    (change-elim w n P (omega arith) (λ k v h. cond_both P (ltb v 0x80) _ _ (h, omega arith) (h, omega arith))))
+    (cond_both P (reserved (before w n)) (unchanged n false) _ (omega arith) (change-elim w n P (omega arith) (λ k v h. h)))

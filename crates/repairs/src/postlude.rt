@@ -4,24 +4,22 @@ ghost use Rattle.std.specs.Prelude.{◌≡◌, ◌≤◌, ◌<◌, length};
 ghost use Rattle.utf8.specs.Characters.{before};
 ghost use Rattle.theorems.specs.Simple.Postlude.{reserved, gained};
 ghost use Rattle.keys.specs.Seen.{seen_at};
-ghost use Rattle.repairs.specs.Repairs.{ending, unchanged, followed, appended, hardened, repair_of};
+ghost use Rattle.repairs.specs.Repairs.{ending, unchanged, followed, gain, appended, hardened, repair_of};
 
-use keys::among::{Among, find_among_b};
+use keys::among::find_among_b;
 use keys::seen;
 use keys::seen::Seen;
 use marks::tables;
 use utf8::cursor::Cursor;
 use utf8::literal;
-use vowels::vowel::{Sound, Vowel};
 use vowels::walk;
+use writing::letter::Letter;
 
-// A text as the first `keep` bytes of a word and `more` bytes after them, none, `a`, or `a` and `b`; and the postlude's answer.
+// A text as the first `keep` bytes of a word and the letter behind them, if one follows; and the postlude's answer.
 #[derive(Clone, Copy)]
 pub struct Repair {
     pub keep: usize,
-    pub more: usize,
-    pub a: u8,
-    pub b: u8,
+    pub letter: Option<Letter>,
     pub yes: bool,
 }
 
@@ -32,9 +30,7 @@ impl Repair {
     {
         Repair {
             keep: n,
-            more: 0,
-            a: 0,
-            b: 0,
+            letter: None,
             yes,
         }
     }
@@ -44,20 +40,9 @@ impl Repair {
         requires { v < 0x800 }
         ensures { result ≡ followed keep v }
     {
-        if v < 0x80 {
-            return Repair {
-                keep,
-                more: 1,
-                a: v as u8,
-                b: 0,
-                yes: true,
-            };
-        }
         Repair {
             keep,
-            more: 2,
-            a: (0xC0 + v / 0x40) as u8,
-            b: (0x80 + v % 0x40) as u8,
+            letter: Some(Letter::of(v)),
             yes: true,
         }
     }
@@ -82,34 +67,30 @@ fn is_reserved_word(w: &[u8], n: usize) -> bool
     false
 }
 
-// The vowel that a final d or g gains after the last vowel, 0 where there is none.
-fn gained_after(last: u32) -> u32
-    ensures { result ≡ gained last }
+// The vowel that a final d or g gains after the last vowel.
+fn gained_after(last: u32) -> Option<u32>
+    ensures { result ≡ gain (gained last) }
 {
-    let Sound::AVowel(v) = Vowel::of(last) else {
-        return 0;
-    };
-    let ch = v.ch;
-    match ch {
-        0x61 | 0x131 => 0x131,
-        0x65 | 0x69 => 0x69,
-        0x6F | 0x75 => 0x75,
-        0xF6 | 0xFC => 0xFC,
-        _ => 0,
+    match last {
+        0x61 | 0x131 => Some(0x131),
+        0x65 | 0x69 => Some(0x69),
+        0x6F | 0x75 => Some(0x75),
+        0xF6 | 0xFC => Some(0xFC),
+        _ => None,
     }
 }
 
-// The vowel that the first n bytes gain, 0 where they gain none; s is seen from place n.
-fn append_U_to_stems_ending_with_d_or_g(w: &[u8], s: Seen, n: usize) -> u32
+// The vowel that the first n bytes gain; s is seen from place n.
+fn append_U_to_stems_ending_with_d_or_g(w: &[u8], s: Seen, n: usize) -> Option<u32>
     requires n_in_bounds { n ≤ length w.now }
     requires s_value { s ≡ seen_at w.now (ending n) }
-    ensures { result ≡ appended (before w.now n) }
+    ensures { result ≡ gain (appended (before w.now n)) }
 {
-    if (s.last == 0x64) | (s.last == 0x67) {
-        let last = walk::last_vowel(w, s.one);
+    if (s.ending.last == 0x64) | (s.ending.last == 0x67) {
+        let last = walk::last_vowel(w, s.ending.one)?;
         return gained_after(last.ch);
     }
-    0
+    None
 }
 
 // The first n bytes with a final consonant hardened: A_23's b, c, d, ğ become p, ç, t, k.
@@ -118,14 +99,14 @@ fn post_process_last_consonants(w: &[u8], s: Seen, n: usize) -> Repair
     requires s_value { s ≡ seen_at w.now (ending n) }
     ensures { result ≡ hardened w.now n (before w.now n) }
 {
-    let Among::Key(i, c) = find_among_b(w, s, &tables::A_23, 1) else {
+    let Some(key) = find_among_b(w, s, &tables::A_23) else {
         return Repair::unchanged(n, true);
     };
-    match i {
-        0 => Repair::followed(c.cursor, 0x70),
-        1 => Repair::followed(c.cursor, 0xE7),
-        2 => Repair::followed(c.cursor, 0x74),
-        _ => Repair::followed(c.cursor, 0x6B),
+    match key.place {
+        0 => Repair::followed(key.before.cursor, 0x70),
+        1 => Repair::followed(key.before.cursor, 0xE7),
+        2 => Repair::followed(key.before.cursor, 0x74),
+        _ => Repair::followed(key.before.cursor, 0x6B),
     }
 }
 
@@ -145,8 +126,7 @@ pub fn postlude(w: &[u8], n: usize) -> Repair
             limit_backward: 0,
         },
     );
-    let v = append_U_to_stems_ending_with_d_or_g(w, s, n);
-    if v != 0 {
+    if let Some(v) = append_U_to_stems_ending_with_d_or_g(w, s, n) {
         return Repair::followed(n, v);
     }
     post_process_last_consonants(w, s, n)

@@ -1,7 +1,7 @@
 -- What the stage removes of a tail behind a stand-in: the word that it runs on, and that it removes as much behind the front. Assumes nothing.
 use Prim.Native.Nat.{ℕ, ◌+◌, ◌-◌, ◌≤◌}
-use mathlib.Core.Path.{◌≡◌, sym, ap, ◌∙◌}
-use mathlib.Core.Bool.{true}
+use mathlib.Core.Path.{◌≡◌, refl, sym, ap, ◌∙◌}
+use mathlib.Core.Bool.{Bool, true, false}
 use mathlib.Core.List.{List, ◌++◌, append_assoc}
 use native.Mathlib.Omega.{arith}
 use lib.ListN.{length, take, drop, length-append}
@@ -12,6 +12,8 @@ use Rattle.encoding.proofs.CheckExact.{is_text-iff}
 use Rattle.utf8.proofs.Laws.Characters.{back-le}
 use Rattle.turkish.specs.Calls.{chars, accepted, stage_call}
 use Rattle.theorems.specs.Fronts.{end_length, long, Alike}
+use mir.Val.{bool_byte as from_bool}
+use Rattle.batches.specs.BatchCalls.{bit}
 use Rattle.batches.specs.Summary.{summary}
 use Rattle.theorems.specs.Simple.Stage.{Staged, stage, kept_length}
 use Rattle.theorems.proofs.Laws.Accepted.{accepted-text}
@@ -125,3 +127,10 @@ module _ (f t : List ℕ) (front : accepted f ≡ true) (tail : accepted t ≡ t
   pub flag-kept : (removal_of (stand_in_of (summary f) ++ t)).flag ≡ (stage_call (f ++ t)).flag
   unfolding removal_of outcome_of stage_call behind g
   flag-kept = rw joined (ap (λ (s : Staged). s.flag) same-stage ∙ sym (suffix_stage-flag (chars (f ++ t))))
+
+-- ---- yes and true as numbers ----
+
+pub from_bool-bit : (t : Bool) → from_bool t ≡ bit t
+unfolding bit
+from_bool-bit true = refl
+from_bool-bit false = refl

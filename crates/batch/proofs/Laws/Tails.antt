@@ -1,8 +1,12 @@
 -- The tails of a slice: the part between two places taken byte by byte, the line that begins at a place, the lines taken off one by one,
 -- and what is found out of them so far. Assumes nothing.
-use Prim.Native.Nat.{ℕ, suc, ◌+◌, ◌-◌, ◌≤◌, ◌<◌, max}
+use Prim.Native.Nat.{ℕ, zero, suc, ◌+◌, ◌-◌, ◌≤◌, ◌<◌, max}
 use mathlib.Core.Path.{◌≡◌, refl, sym, ap, ◌∙◌}
-use mathlib.Core.Bool.{Bool, true, false, cond, not, ◌||◌, or_assoc, or-false}
+use mathlib.Core.Bool.{Bool, true, false, cond, not, ◌||◌, or_assoc, or-false, false≢true}
+use mir.Val.{bool_byte as from_bool}
+use Rattle.std.specs.Ordering.{ord_max, nat_cmp, is_lt}
+use Rattle.std.specs.declared.cmp.Ordering.{Ordering}
+use Rattle.std.specs.declared.cmp.Ordering.TheVariants.{Equal, Greater}
 use mathlib.Core.List.{List, [], ◌∷◌, ◌++◌, append-nil, append_assoc}
 use native.Mathlib.Nat.{suc-add, add-zero, zero-max, max-zero}
 use native.Mathlib.Numerals.{add-one}
@@ -10,9 +14,9 @@ use native.Mathlib.Omega.{arith}
 use lib.ListN.{length, take, drop, get_or, set, replicate, length-append, length-drop, length-replicate, take-append-drop, drop_of_length-le}
 use lib.Seq.{drop-cons, drop-drop, append_snoc, length-take-le, take-nil, take_all, take-append-le, take-append_seam, set-append_seam}
 use lib.Dec.{eqb, ltb}
-use borrow.Author.Tests.{ne_eqb, not-true, not-false}
+use borrow.Author.Tests.{ne_eqb, lt-ltb, le-ltb}
 use Rattle.encoding.specs.Encoding.{continuation}
-use Rattle.encoding.proofs.Laws.Booleans.{cond_cases, lt-or-le}
+use Rattle.encoding.proofs.Laws.Booleans.{cond_both, cond_cases, lt-or-le}
 use Rattle.turkish.specs.Letters.{lf, any, has}
 use Rattle.turkish.specs.Lines.{unclosed, lines_from}
 use Rattle.turkish.specs.Calls.{written}
@@ -23,6 +27,15 @@ use Rattle.batch.specs.declared.tails.Line.{Line}
 use Rattle.batch.specs.declared.tails.Survey.{Survey}
 use Rattle.batch.specs.declared.tails.Tails.{Tails}
 use Rattle.batch.specs.Tails.{line_of, leads, line_at, longest, few, survey_of, ends_from, first_places, tails_of}
+
+-- ---- the greater of two numbers ----
+
+-- the greater by std's order is the greater
+pub nat_max : (a b : ℕ) → ord_max nat_cmp a b ≡ max a b
+nat_max a b =
+    lt-or-le b a
+    (λ h. rw (lt-ltb b a h) (omega arith))
+    (λ h. rw (le-ltb b a h) (cond_both (λ (o : Ordering). cond (is_lt o) a b ≡ max a b) (eqb b a) Equal Greater (omega arith) (omega arith)))
 
 -- ---- what is stored behind what is written ----
 
@@ -38,32 +51,24 @@ set-written s out v h =
 abbrev pub part : List ℕ → ℕ → ℕ → List ℕ
 part w from to = take (to - from) (drop from w)
 
--- its first byte and the rest
-part_at : (w : List ℕ) (i to : ℕ) → i < to → to ≤ length w → part w i to ≡ get_or w i 0 ∷ part w (i + 1) to
-part_at w i to h l =
-    let n : to - i ≡ suc (to - (i + 1)) = omega arith in
-    rw (n, drop-cons w i 0 (omega arith), add-one i)
+-- ---- a line feed ----
 
--- none is left at its end
-part_end : (w : List ℕ) (i to : ℕ) → to ≤ i → part w i to ≡ []
-part_end w i to h = let n : to - i ≡ 0 = omega arith in rw n
-
--- a line feed in it, one byte more looked at
-pub has-at : (w : List ℕ) (i to : ℕ) (found : Bool) → i < to → to ≤ length w
-    → (found || eqb (get_or w i 0) lf || has (part w (i + 1) to) lf) ≡ (found || has (part w i to) lf)
+-- a line feed in some bytes, one byte more looked at
+pub has-next : (w : List ℕ) (i : ℕ) (found : Bool) → i < length w
+    → (found || eqb (get_or w i 0) lf || has (drop (i + 1) w) lf) ≡ (found || has (drop i w) lf)
 unfolding has any
-has-at w i to found h l =
-    rw (part_at w i to h l, eqb_comm (get_or w i 0) lf) (or_assoc found (eqb lf (get_or w i 0)) (any (eqb lf) (part w (i + 1) to)))
+has-next w i found h =
+    rw (drop-cons w i 0 h, add-one i, eqb_comm (get_or w i 0) lf) (or_assoc found (eqb lf (get_or w i 0)) (any (eqb lf) (drop (suc i) w)))
 
--- all of it looked at
-pub has_end : (w : List ℕ) (i to : ℕ) (found : Bool) → to ≤ i → found ≡ (found || has (part w i to) lf)
+-- all of them looked at
+pub has_last : (w : List ℕ) (i : ℕ) (found : Bool) → length w ≤ i → found ≡ (found || has (drop i w) lf)
 unfolding has any
-has_end w i to found h = rw (part_end w i to h) (sym (or-false found))
+has_last w i found h = rw (drop_of_length-le w h) (sym (or-false found))
 
 -- ---- the bytes that begin a character ----
 
 -- at most all
-leads-le : (w : List ℕ) → leads w ≤ length w
+pub leads-le : (w : List ℕ) → leads w ≤ length w
 unfolding leads
 leads-le [] = omega arith
 leads-le (b ∷ bs) =
@@ -73,15 +78,14 @@ leads-le (b ∷ bs) =
 unfoldable pub lead : ℕ → ℕ
 lead b = cond (continuation b) 0 1
 
--- where it is found to begin a character the count is one more
-pub lead-one : (b k : ℕ) {n : ℕ} {r : Bool} → r ≡ continuation b → not r ≡ true → n ≡ k + 1 → n ≡ k + lead b
+-- so the code has it, as a number
+pub lead-bit : (b : ℕ) {n : ℕ} {r : Bool} → r ≡ continuation b → n ≡ from_bool (not r) → n ≡ lead b
 unfolding lead
-lead-one b k {r = r} e t q = rw (← e, not-true r t) q
-
--- and where it is not, it is as it was
-pub lead-none : (b k : ℕ) {n : ℕ} {r : Bool} → r ≡ continuation b → not r ≡ false → n ≡ k → n ≡ k + lead b
-unfolding lead
-lead-none b k {r = r} e t q = rw (← e, not-false r t, add-zero k) q
+lead-bit b e q = q ∙ rw e (go (continuation b))
+  where
+    go : (t : Bool) → from_bool (not t) ≡ cond t 0 1
+    go true = refl
+    go false = refl
 
 -- one byte and the rest
 leads-cons : (b : ℕ) (w : List ℕ) → leads (b ∷ w) ≡ lead b + leads w
@@ -98,18 +102,14 @@ unfolding leads
 leads-append [] w = omega arith
 leads-append (b ∷ v) w = omega (arith, leads-cons b (v ++ w), leads-cons b v, leads-append v w)
 
--- those of a part, one byte more looked at
-pub leads-at : (w : List ℕ) (i to : ℕ) → i < to → to ≤ length w → leads (part w i to) ≡ lead (get_or w i 0) + leads (part w (i + 1) to)
-leads-at w i to h l = rw (part_at w i to h l) (leads-cons (get_or w i 0) (part w (i + 1) to))
+-- those of some bytes, one byte more looked at
+pub leads-next : (w : List ℕ) (i : ℕ) → i < length w → leads (drop i w) ≡ lead (get_or w i 0) + leads (drop (i + 1) w)
+leads-next w i h = rw (drop-cons w i 0 h, add-one i) (leads-cons (get_or w i 0) (drop (suc i) w))
 
--- all of it looked at
-pub leads-end : (w : List ℕ) (i to : ℕ) → to ≤ i → leads (part w i to) ≡ 0
+-- all of them looked at
+pub leads-last : (w : List ℕ) (i : ℕ) → length w ≤ i → leads (drop i w) ≡ 0
 unfolding leads
-leads-end w i to h = rw (part_end w i to h)
-
--- no more than the part has bytes
-pub leads-within : (w : List ℕ) (i to : ℕ) → i ≤ to → to ≤ length w → leads (part w i to) ≤ to - i
-leads-within w i to h l = omega (arith, leads-le (part w i to), length-take-le (to - i) (drop i w) (omega (arith, length-drop i w)))
+leads-last w i h = rw (drop_of_length-le w h)
 
 -- ---- one line ----
 
@@ -147,7 +147,7 @@ line-part w at to h e =
     ap line_of (sym (take-append-drop (to - at) (drop at w))) ∙ rw d (line_of-clear (part w at to) (drop to w) e)
 
 -- one byte that is none
-line-byte : (w : List ℕ) (at : ℕ) → at < length w → eqb (get_or w at 0) lf ≡ false
+pub line-byte : (w : List ℕ) (at : ℕ) → at < length w → eqb (get_or w at 0) lf ≡ false
     → line_of (drop at w) ≡ get_or w at 0 ∷ line_of (drop (at + 1) w)
 unfolding line_of
 line-byte w at h n = rw (drop-cons w at 0 h, n, add-one at)
@@ -187,23 +187,57 @@ remains-part {w} {from} {at} {chars} to more r h l e q =
     let k = ap leads d ∙ leads-append (part w at to) (line_of (drop to w)) in
     record { begun = omega (arith, r.begun); within = l; ends = omega (arith, r.ends); counted = omega (arith, r.counted) }
 
--- on past one byte that is none
-pub remains-byte : {w : List ℕ} {from at chars : ℕ} (more : ℕ) → Remains w from at chars → at < length w
-    → eqb (get_or w at 0) lf ≡ false → more ≡ chars + lead (get_or w at 0) → Remains w from (at + 1) more
-remains-byte {w} {from} {at} {chars} more r h n e =
-    let d = line-byte w at h n in
-    let m = ap length d in
-    let k = ap leads d ∙ leads-cons (get_or w at 0) (line_of (drop (at + 1) w)) in
-    record { begun = omega (arith, r.begun); within = omega arith; ends = omega (arith, r.ends); counted = omega (arith, r.counted) }
+-- it ends before a line feed
+line-short : (k : ℕ) (w : List ℕ) → has (take k w) lf ≡ true → length (line_of w) < k
+unfolding has any line_of
+line-short zero w h = absurd (false≢true h)
+line-short (suc k) [] h = absurd (false≢true h)
+line-short (suc k) (b ∷ w) h = go (eqb b lf) refl (line-short k w)
+  where
+    go : (t : Bool) → eqb b lf ≡ t → (has (take k w) lf ≡ true → length (line_of w) < k) → length (cond t [] (b ∷ line_of w)) < suc k
+    go true e f = omega arith
+    go false e f = let l = f (unfold has in rw (eqb_comm lf b, e) at h) in omega arith
 
--- where nothing remains the line is found
-pub remains-none : {w : List ℕ} {from at chars : ℕ} → Remains w from at chars → line_of (drop at w) ≡ []
-    → record { end = at; chars = chars } ≡ line_at w from
-unfolding line_at leads
-remains-none {w} {from} {at} {chars} r e =
-    let a : at ≡ from + length (line_of (drop from w)) = omega (arith, r.ends, ap length e) in
-    let k : chars ≡ leads (line_of (drop from w)) = omega (arith, r.counted, ap leads e) in
-    rw (← a, ← k)
+-- the bytes left are all from there on
+left-is : (w : List ℕ) (at : ℕ) → take (length w - at) (drop at w) ≡ drop at w
+left-is w at = take_all (length w - at) (drop at w) (omega (arith, length-drop at w))
+
+-- n of them stand before a line feed
+module _ {w : List ℕ} {from at chars : ℕ} (r : Remains w from at chars) (n : ℕ) (e : n ≡ length (line_of (take (length w - at) (drop at w)))) where
+  length-left : n ≡ length (line_of (drop at w))
+  length-left = rw (left-is w at) at e
+
+  -- they lie within the slice
+  pub left-within : at + n ≤ length w
+  left-within = omega (arith, length-left, line_of-le (drop at w), length-drop at w, r.within)
+
+  pub left-taken : n ≡ length (take n (take (length w - at) (drop at w)))
+  left-taken = rw (left-is w at) (sym (length-take-le n (drop at w) (omega (arith, length-left, line_of-le (drop at w)))))
+
+  -- they are fewer than all that are left, and fewer than those among which a line feed stands
+  pub left-few : n ≤ length w - at
+  left-few = omega (arith, length-left, line_of-le (drop at w), length-drop at w)
+
+  pub left-closed : (k : ℕ) → has (take k (drop at w)) lf ≡ true → n < k
+  left-closed k h = omega (arith, length-left, line-short k (drop at w) h)
+
+  -- k of them begin a character
+  module _ (k : ℕ) (f : k ≡ leads (take n (take (length w - at) (drop at w)))) where
+    count-left : chars + k ≡ leads (line_of (drop from w))
+    count-left =
+        let g : k ≡ leads (line_of (drop at w)) = f ∙ rw (left-is w at, length-left) (ap leads (sym (line_of-front (drop at w)))) in
+        omega (arith, r.counted)
+
+    -- no more are counted than the slice has bytes
+    pub left-fits : chars + k ≤ length w
+    left-fits = omega (arith, count-left, leads-le (line_of (drop from w)), line_of-le (drop from w), length-drop from w)
+
+    -- and the line is found
+    pub left-line : record { end = at + n; chars = chars + k } ≡ line_at w from
+    unfolding line_at
+    left-line =
+        let a : at + n ≡ from + length (line_of (drop from w)) = omega (arith, r.ends, length-left) in
+        rw (← a, ← count-left)
 
 -- ---- the lines ----
 

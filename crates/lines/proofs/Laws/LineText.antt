@@ -17,6 +17,9 @@ use Rattle.theorems.proofs.Source.Calls.{suffix_stage-yes, suffix_stage-flag}
 use Rattle.stages.specs.declared.stage.Outcome.{Outcome}
 use Rattle.repairs.specs.declared.postlude.Repair.{Repair}
 use Rattle.stages.specs.Outcome.{outcome_of}
+use Rattle.std.specs.Prelude.{Some, None}
+use Rattle.writing.specs.declared.letter.Letter.{Letter}
+use Rattle.writing.specs.Letter.{bytes_of}
 use Rattle.repairs.specs.Repairs.{repair_text, repair_of}
 use Rattle.stages.proofs.Laws.Kept.{kept-le}
 use Rattle.outputs.specs.declared.run.Run.{Run}
@@ -31,19 +34,14 @@ use Rattle.lines.proofs.Laws.LineRefusals.{line_refusal_of-accepted, list_line-f
 
 module _ (w : List ℕ) (r : Repair) where
   -- where nothing follows, it is the bytes kept
-  pub repair-none : r.more ≡ 0 → take r.keep w ≡ repair_text w r
+  pub repair-none : r.letter ≡ None → take r.keep w ≡ repair_text w r
   unfolding repair_text
   repair-none e = rw (e, append-nil)
 
-  -- where one byte follows
-  pub repair-one : r.more ≡ 1 → take r.keep w ++ (r.a ∷ []) ≡ repair_text w r
+  -- where a letter follows, its bytes stand behind them
+  pub repair-some : (l : Letter) → r.letter ≡ Some l → take r.keep w ++ bytes_of l ≡ repair_text w r
   unfolding repair_text
-  repair-one e = rw e
-
-  -- where two do
-  pub repair-two : r.more ≡ 2 → (take r.keep w ++ (r.a ∷ [])) ++ (r.b ∷ []) ≡ repair_text w r
-  unfolding repair_text
-  repair-two e = rw (e, append_assoc)
+  repair-some l e = rw e
 
 -- ---- the texts of the pass and of the whole run ----
 

@@ -26,7 +26,7 @@ use Rattle.theorems.proofs.Sizes.{kept-bytes}
 use Rattle.stages.specs.declared.stage.Outcome.{Outcome}
 use Rattle.repairs.specs.declared.postlude.Repair.{Repair}
 use Rattle.stages.specs.Outcome.{outcome_of}
-use Rattle.repairs.specs.Repairs.{repair_text, repair_of}
+use Rattle.repairs.specs.Repairs.{letter_bytes, repair_text, repair_of}
 use Rattle.repairs.proofs.RepairText.{repair-text, repair-answer, repair-size}
 use Rattle.refusals.proofs.Laws.Refusals.{into-accepted, into-room}
 
@@ -80,8 +80,8 @@ module _ (w : List ℕ) (room n : ℕ) (e : n ≡ refusal_into_of w (length w + 
 
 -- a repair of a front part of the word fits an output of two bytes more than the word
 pub repair-fits : (w : List ℕ) (k room : ℕ) (r : Repair) → r ≡ repair_of w k → k ≤ length w → length w + 2 ≤ room
-    → (r.keep ≤ length w) × (r.more ≤ 2) × (r.keep + r.more ≤ room)
-repair-fits w k room r q h l = rw q (let s = repair-size w k h in (omega arith, omega arith, omega (arith, s.sum, s.fits)))
+    → (r.keep ≤ length w) × (r.keep + length (letter_bytes r.letter) ≤ room)
+repair-fits w k room r q h l = rw q (let s = repair-size w k h in (omega arith, omega (arith, s.sum, s.fits)))
 
 -- ---- the calls ----
 

@@ -35,7 +35,7 @@ use Rattle.theorems.proofs.Source.Calls.{noun_stage-yes, noun_text-simple, whole
 use Rattle.stages.specs.declared.stage.Outcome.{Outcome}
 use Rattle.repairs.specs.declared.postlude.Repair.{Repair}
 use Rattle.stages.specs.Outcome.{outcome_of}
-use Rattle.repairs.specs.Repairs.{ending, repair_text, unchanged, repair_of}
+use Rattle.repairs.specs.Repairs.{ending, letter_bytes, repair_text, unchanged, repair_of}
 use Rattle.repairs.proofs.RepairText.{repair-text, repair-size}
 use Rattle.encoding.proofs.Laws.Booleans.{cond_cases}
 use Rattle.std.specs.Prelude.{Option, Some, None, is_some}
@@ -204,11 +204,11 @@ module _ (w : List ℕ) (s : Outcome) (q : s ≡ outcome_of w) where
 abbrev pub Fits : List ℕ → Run → ℕ → Type 0
 Fits w r room =
     (r.repair.keep ≤ length w)
-    × ((r.repair.more ≤ 2) × ((r.from ≤ r.upto) × ((r.upto ≤ length w) × (r.repair.keep + r.repair.more + (r.upto - r.from) ≤ room))))
+    × ((r.from ≤ r.upto) × ((r.upto ≤ length w) × (r.repair.keep + length (letter_bytes r.repair.letter) + (r.upto - r.from) ≤ room)))
 
 -- more room is no harm
 fits_more : (w : List ℕ) (r : Run) (n room : ℕ) → n ≤ room → Fits w r n → Fits w r room
-fits_more w r n room h (k, (m, (f, (u, l)))) = (k, (m, (f, (u, omega arith))))
+fits_more w r n room h (k, (f, (u, l))) = (k, (f, (u, omega arith)))
 
 module _ (w : List ℕ) (n : ℕ) (h : n ≤ length w) where
   -- what the noun stage leaves of the first n bytes takes no more
@@ -233,7 +233,7 @@ module _ (w : List ℕ) (n : ℕ) (h : n ≤ length w) where
       go None f = let s = repair-size w n h in omega (arith, s.keeps, s.adds)
       go (Some u) f =
           cond_cases (λ (r : Run). Fits w r (n + 2)) (ltb u.from n) (λ e. fits_more w (left_run (Some u) n) n (n + 2) (omega arith) f)
-          (λ e. let s = repair-size w u.front f.0 in omega (arith, s.keeps, s.adds, f.1.1.1.1))
+          (λ e. let s = repair-size w u.front f.0 in omega (arith, s.keeps, s.adds, f.1.1.1))
 
 -- what stands before the cut lies within the word
 pub uninflected_of-front : (w : List ℕ) (n : ℕ) → n ≤ length w → {u : Uninflected} → Some u ≡ uninflected_of w n → u.front ≤ length w

@@ -1,27 +1,28 @@
 -- The postlude's pieces by the tests that decide them: the reserved words, the vowel gained, the consonant hardened, what is seen from
 -- the end, the repair. Assumes nothing.
-use Prim.Native.Nat.{ℕ, ◌+◌, ◌/◌, ◌%◌, ◌≤◌, ◌<◌}
-use mathlib.Core.Path.{◌≡◌, refl, ◌∙◌, sym, ap}
-use mathlib.Core.Logic.{◌⊎◌, inl, inr, ⊎_elim}
-use mathlib.Core.Bool.{Bool, true, false, cond, ◌&&◌, ◌||◌, or-false, false≢true}
+use Prim.Native.Nat.{ℕ, ◌≤◌, ◌<◌}
+use mathlib.Core.Path.{◌≡◌, refl, ◌∙◌}
+use mathlib.Core.Logic.{◌⊎◌, inl, inr}
+use mathlib.Core.Bool.{Bool, true, false, cond, ◌&&◌, ◌||◌, or-false}
 use mathlib.Core.List.{List, [], ◌∷◌}
 use native.Mathlib.Omega.{arith}
 use lib.ListN.{length, drop, get_or}
 use lib.Dec.{eqb}
-use borrow.Author.Tests.{lt-ltb, le-ltb, eq-eqb, ne_eqb}
+use borrow.Author.Tests.{eqb-true, eqb-false, eq-eqb, ne_eqb}
 use Rattle.encoding.proofs.Laws.Booleans.{cond_both}
 use Rattle.utf8.specs.Characters.{before}
 use Rattle.utf8.specs.Steps.{stands_at_of}
 use Rattle.utf8.proofs.Laws.Characters.{back-le, before_back}
 use Rattle.utf8.proofs.Laws.Behind.{behind-before, back_by-back, open-start}
 use Rattle.turkish.specs.Letters.{text, from_end, any, has, starts}
-use Rattle.turkish.specs.Vowels.{last_vowel_of, vowels, vowel}
+use Rattle.turkish.specs.Vowels.{last_vowel_of}
 use Rattle.theorems.specs.Simple.Postlude.{reserved, gained, hardenings, hard_in, hard}
 use Rattle.theorems.proofs.PostludeRules.{gained-elim}
 use Rattle.keys.specs.declared.seen.Seen.{Seen}
 use Rattle.repairs.specs.declared.postlude.Repair.{Repair}
 use Rattle.keys.specs.Seen.{seen_at, Sees}
-use Rattle.repairs.specs.Repairs.{ending, unchanged, followed, appended, hardened, repair_of}
+use Rattle.std.specs.Prelude.{Some, None}
+use Rattle.repairs.specs.Repairs.{ending, unchanged, followed, gain, appended, hardened, repair_of}
 use Rattle.keys.proofs.Laws.Literal.{ascii}
 use Rattle.repairs.proofs.Laws.LiteralWhole.{same-stands_at_of}
 
@@ -76,13 +77,27 @@ gained-none v p q r s =
 gained-short : (v : ℕ) → gained v < 0x800
 gained-short v = gained-elim (λ n. n < 0x800) v (omega arith) (omega arith) (omega arith) (omega arith) (omega arith)
 
--- nothing is gained after what is no vowel
-pub gained-vowelless : (v : ℕ) → vowel v ≡ false → 0 ≡ gained v
-unfolding vowel vowels has any text
-gained-vowelless v f =
-    let not-one : (a : ℕ) → vowel a ≡ true → v ≡ a → ⊥ = λ a t e. false≢true (sym f ∙ ap vowel e ∙ t) in
-    gained-none v (⊎_elim (not-one 0x61 refl) (not-one 0x131 refl)) (⊎_elim (not-one 0x65 refl) (not-one 0x69 refl))
-    (⊎_elim (not-one 0x6F refl) (not-one 0x75 refl)) (⊎_elim (not-one 0xF6 refl) (not-one 0xFC refl))
+-- the code gives none where the vowel gained is 0
+pub gain-zero : (v : ℕ) → v ≡ 0 → None ≡ gain v
+unfolding gain
+gain-zero v e = rw (eq-eqb v 0 e)
+
+pub gain-none : (v : ℕ) → gain v ≡ None → v ≡ 0
+unfolding gain
+gain-none v e = go (eqb v 0) refl e
+  where
+    go : (t : Bool) → eqb v 0 ≡ t → cond t None (Some v) ≡ None → v ≡ 0
+    go true q k = eqb-true v 0 q
+    go false q k = cc
+
+-- and else that vowel
+pub gain-some : (v u : ℕ) → gain v ≡ Some u → (u ≡ v) × (v ≡ 0 → ⊥)
+unfolding gain
+gain-some v u e = go (eqb v 0) refl e
+  where
+    go : (t : Bool) → eqb v 0 ≡ t → cond t None (Some v) ≡ Some u → (u ≡ v) × (v ≡ 0 → ⊥)
+    go true q k = let z : ⊥ = cc in absurd z
+    go false q k = (cc, eqb-false v 0 q)
 
 -- ---- the consonant hardened ----
 
@@ -121,40 +136,29 @@ module _ (w : List ℕ) (n : ℕ) (s : Seen) (e : s ≡ seen_at w (ending n)) wh
   sees-ending l = rw e (record { opens = open-start w n n (omega arith) l; is = refl })
 
   -- its last character is the first of those before n
-  last-before : s.last ≡ get_or (before w n) 0 0
+  last-before : s.ending.last ≡ get_or (before w n) 0 0
   unfolding seen_at ending
   last-before = rw (e, behind-before w n n)
 
   -- which begins no later than n
-  pub one-le : s.one ≤ n
+  pub one-le : s.ending.one ≤ n
   unfolding seen_at ending
   one-le = rw (e, back_by-back w n n 1) (back-le w n 1)
 
   -- and before which stand the others
-  one-before : before w s.one ≡ drop 1 (before w n)
+  one-before : before w s.ending.one ≡ drop 1 (before w n)
   unfolding seen_at ending
   one-before = rw (e, back_by-back w n n 1) (before_back w n 1)
 
   -- where that character is d or g, the bytes gain a vowel by the last one before it
-  pub appended-after : (v r : ℕ) → eqb s.last 0x64 || eqb s.last 0x67 ≡ true → v ≡ last_vowel_of (before w s.one) → r ≡ gained v → r ≡ appended (before w n)
-  appended-after v r t f g = rw (appended-get_or (before w n), ← last-before, t, ← one-before, ← f) g
+  pub appended-after : (v : ℕ) → eqb s.ending.last 0x64 || eqb s.ending.last 0x67 ≡ true → v ≡ last_vowel_of (before w s.ending.one) → gained v ≡ appended (before w n)
+  appended-after v t f = rw (appended-get_or (before w n), ← last-before, t, ← one-before, ← f)
 
   -- elsewhere they gain none
-  pub appended-not : eqb s.last 0x64 || eqb s.last 0x67 ≡ false → 0 ≡ appended (before w n)
+  pub appended-not : eqb s.ending.last 0x64 || eqb s.ending.last 0x67 ≡ false → 0 ≡ appended (before w n)
   appended-not t = rw (appended-get_or (before w n), ← last-before, t)
 
 -- ---- the repair ----
-
--- one byte follows
-pub followed-one : (keep v : ℕ) → v < 0x80 → record { keep = keep; more = 1; a = v; b = 0; yes = true } ≡ followed keep v
-unfolding followed
-followed-one keep v h = rw (lt-ltb v 0x80 h)
-
--- two bytes follow
-pub followed-two : (keep v : ℕ) → 0x80 ≤ v
-    → record { keep = keep; more = 2; a = 0xC0 + v / 0x40; b = 0x80 + v % 0x40; yes = true } ≡ followed keep v
-unfolding followed
-followed-two keep v h = rw (le-ltb v 0x80 h)
 
 -- a reserved word stays
 pub repair_of-reserved : (w : List ℕ) (n : ℕ) (r : Repair) → reserved (before w n) ≡ true → r ≡ unchanged n false → r ≡ repair_of w n
@@ -163,12 +167,12 @@ repair_of-reserved w n r e f = rw e f
 
 -- any other gains its vowel
 pub repair_of-gains : (w : List ℕ) (n v : ℕ) (r : Repair) → reserved (before w n) ≡ false
-    → v ≡ appended (before w n) → (v ≡ 0 → ⊥) → r ≡ followed n v → r ≡ repair_of w n
+    → v ≡ appended (before w n) → (appended (before w n) ≡ 0 → ⊥) → r ≡ followed n v → r ≡ repair_of w n
 unfolding repair_of
-repair_of-gains w n v r e f d g = rw (e, ← f, ne_eqb v 0 d) g
+repair_of-gains w n v r e f d g = rw (e, ne_eqb (appended (before w n)) 0 d, ← f) g
 
 -- or its last character hardens
-pub repair_of-hardens : (w : List ℕ) (n v : ℕ) (r : Repair) → reserved (before w n) ≡ false
-    → v ≡ appended (before w n) → v ≡ 0 → r ≡ hardened w n (before w n) → r ≡ repair_of w n
+pub repair_of-hardens : (w : List ℕ) (n : ℕ) (r : Repair) → reserved (before w n) ≡ false
+    → appended (before w n) ≡ 0 → r ≡ hardened w n (before w n) → r ≡ repair_of w n
 unfolding repair_of
-repair_of-hardens w n v r e f z g = rw (e, ← f, eq-eqb v 0 z) g
+repair_of-hardens w n r e z g = rw (e, eq-eqb (appended (before w n)) 0 z) g

@@ -55,5 +55,9 @@ module _ (w : List ℕ) (c : Cursor) where
           → Some (record { last = low + h.last; partner = low + h.partner; skips = h.skips }) ≡ heard_of w c f
       go nowhere q = unfold harmony_from in cc
       go (at l p) q =
-          let e : h ≡ record { last = back (drop low w) (c.cursor - low) l; partner = back (drop low w) (c.cursor - low) p; skips = skips_vowel (before (drop low w) (c.cursor - low)) l p } = unfold harmony_from in cc in
+          let e : h ≡ record {
+            last = back (drop low w) (c.cursor - low) l;
+            partner = back (drop low w) (c.cursor - low) p;
+            skips = skips_vowel (before (drop low w) (c.cursor - low)) l p;
+          } = unfold harmony_from in cc in
           rw e (unfold heard_of back_by move_to behind in refl)

@@ -47,6 +47,22 @@ last_vowel_answer-any w c = some-test (any vowel (before w c)) _
     some-test true x = refl
     some-test false x = refl
 
+-- of two tests of which none passes each fails
+neither : (a b : Bool) → a || b ≡ false → (a ≡ false) × (b ≡ false)
+neither true b e = absurd (true≢false e)
+neither false b e = (refl, e)
+
+-- where it finds none the last vowel is 0
+any-last_vowel_of : (cs : List ℕ) → any vowel cs ≡ false → last_vowel_of cs ≡ 0
+unfolding any last_vowel_of
+any-last_vowel_of [] e = refl
+any-last_vowel_of (c ∷ cs) e =
+    let none = neither (vowel c) (any vowel cs) e in
+    rw none.0 (any-last_vowel_of cs none.1)
+
+pub last_vowel_answer-zero : (w : List ℕ) (c : ℕ) → last_vowel_answer w c ≡ None → last_vowel_of (before w c) ≡ 0
+last_vowel_answer-zero w c e = any-last_vowel_of (before w c) (sym (last_vowel_answer-any w c) ∙ ap is_some e)
+
 -- an answer l of the walk from place c
 module _ (w : List ℕ) (c : ℕ) (l : LastVowel) (e : last_vowel_answer w c ≡ Some l) where
   chosen : (any vowel (before w c) ≡ true) × (record { ch = last_vowel_of (before w c); at = back w c (to_first vowel (before w c)) } ≡ l)
@@ -66,11 +82,6 @@ module _ (w : List ℕ) (c : ℕ) (l : LastVowel) (e : last_vowel_answer w c ≡
   last-before_last_vowel = rw (← chosen.1) (before_back w c (to_first vowel (before w c)) ∙ drop-to_vowel (before w c))
 
 -- ---- two vowels ----
-
--- of two tests of which none passes each fails
-neither : (a b : Bool) → a || b ≡ false → (a ≡ false) × (b ≡ false)
-neither true b e = absurd (true≢false e)
-neither false b e = (refl, e)
 
 -- without a vowel there are not two
 more_than_one_syllable-none : (cs : List ℕ) → any vowel cs ≡ false → more_than_one_syllable cs ≡ false

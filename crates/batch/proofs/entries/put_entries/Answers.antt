@@ -1,5 +1,5 @@
 -- `batch::entries::put_entries` meets its contract. The loop's invariant: the buffers hold the entries of the tails done, and the stand-in stands before the
--- next. The measure is how many tails are left. Assumes nothing.
+-- next. Assumes nothing.
 use Prim.Native.Nat.{◌≤◌, ◌<◌}
 use mathlib.Core.Path.{refl}
 use native.Mathlib.Omega.{arith}
@@ -68,13 +68,6 @@ put_entry-requires c =
       i_in_bounds_2 = p.1.1.1.1.0;
       i_in_bounds_3 = p.1.1.1.1.1;
     }
-
-pub overflow_add-i : goal.overflow_add-i
-unfolding most_tails
-overflow_add-i c =
-    let l = c.loop-i in
-    let few : l.i < 64 = below _ _ _ _ _ _ _ _ l.invariant c.requires.flags_value _ c.requires.t_value c.loop-i-test.true in
-    search rules
 
 pub overflow_add-at : goal.overflow_add-at
 overflow_add-at c =

@@ -7,6 +7,7 @@ use borrow.Author.Rules.{rules}
 use Rattle.turkish.specs.Calls.{limit}
 use Rattle.batches.specs.BatchCalls.{bit}
 use Rattle.batch.specs.declared.entries.Removal.{Removal}
+use Rattle.batch.proofs.Laws.Removals.{from_bool-bit}
 use Rattle.batch.proofs.entries.put_entry.Goals as goal
 
 pub overflow_add-lengths : goal.overflow_add-lengths
@@ -31,6 +32,6 @@ returns c =
     record {
       word_after = c.stem_behind-r.ensures.word_after;
       lengths_after = ap (λ (r : Removal). set c.args.lengths.now c.args.i (c.args.n + length c.args.tail.now - r.bytes)) removal;
-      answers_after = ap (set c.args.answers.now c.args.i) (c.bit.ensures ∙ ap (λ (r : Removal). bit r.yes) removal);
-      flags_after = ap (set c.args.flags.now c.args.i) (c.bit-2.ensures ∙ ap (λ (r : Removal). bit r.flag) removal);
+      answers_after = ap (set c.args.answers.now c.args.i) (c.from.ensures ∙ from_bool-bit _ ∙ ap (λ (r : Removal). bit r.yes) removal);
+      flags_after = ap (set c.args.flags.now c.args.i) (c.from-2.ensures ∙ from_bool-bit _ ∙ ap (λ (r : Removal). bit r.flag) removal);
     }

@@ -1,12 +1,12 @@
 -- `batch::tails::find_tails` meets its contract. The loop's invariant: what is found of the lines before the place and what the rest has are
 -- what all have. The measure is what is left of the slice. Assumes nothing.
 use Prim.Native.Nat.{◌-◌, ◌≤◌, ◌<◌, max}
-use mathlib.Core.Path.{◌≡◌}
+use mathlib.Core.Path.{◌≡◌, ◌∙◌}
 use native.Mathlib.Omega.{arith}
 use lib.ListN.{set}
 use Rattle.batches.specs.BatchCalls.{most_tails}
-use Rattle.batch.proofs.Laws.Tails.{line-ends, line-within, found_none, found-line, found_all}
-use Rattle.batch.proofs.tails.find_tails.Goals.{then-count-lt-TAILS, else-count-lt-TAILS, then-longest-end, else-longest-end}
+use Rattle.batch.proofs.Laws.Tails.{nat_max, line-ends, line-within, found_none, found-line, found_all}
+use Rattle.batch.proofs.tails.find_tails.Goals.{then-count-lt-TAILS, else-count-lt-TAILS}
 use Rattle.batch.proofs.tails.find_tails.Goals as goal
 
 pub loop-at-init : goal.loop-at-init
@@ -15,9 +15,6 @@ loop-at-init c = found_none _
 
 pub overflow_sub-end : goal.overflow_sub-end
 overflow_sub-end c = omega (arith, line-ends _ _ c.line_at-line.ensures)
-
-pub overflow_sub-longest : goal.overflow_sub-longest
-overflow_sub-longest c = omega (arith, line-ends _ _ c.line_at-line.ensures)
 
 pub overflow_add-at : goal.overflow_add-at
 overflow_add-at c =
@@ -38,8 +35,7 @@ loop-at-preserved c =
     elim c.if-count-lt-TAILS.branch [ then-count-lt-TAILS u ↦ λ h. u.ends-is | else-count-lt-TAILS u ↦ λ h. absurd (omega arith) ] in
     let kept : most_tails ≤ l.count → c.if-count-lt-TAILS.ends ≡ l.ends =
     elim c.if-count-lt-TAILS.branch [ then-count-lt-TAILS u ↦ λ h. absurd (omega arith) | else-count-lt-TAILS u ↦ λ h. u.ends-is ] in
-    let most : c.if-longest-end.longest ≡ max l.longest (end - l.at) =
-    elim c.if-longest-end.branch [ then-longest-end u ↦ omega arith | else-longest-end u ↦ omega arith ] in
+    let most : c.max-longest.result ≡ max l.longest (end - l.at) = c.max-longest.ensures ∙ nat_max _ _ in
     found-line _ _ line.result l.invariant c.loop-at-test.true line.ensures stored kept most
 
 pub returns : goal.returns

@@ -34,7 +34,7 @@ pub put_repair-requires : goal.put_repair-requires
 put_repair-requires c =
     let pre = c.requires in
     let f = repair-fits _ _ _ _ c.postlude.ensures (kept-le _ _ pre.s_value) (le_refl _) in
-    record { keep_in_bounds = f.0; more_bound = f.1; more_in_bounds = omega arith }
+    record { keep_in_bounds = f.0; more_in_bounds = omega arith }
 
 pub returns : goal.returns
 returns c =

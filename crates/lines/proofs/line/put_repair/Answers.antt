@@ -1,25 +1,27 @@
--- `lines::line::put_repair` meets its contract: each of its three ends has written the bytes kept and as many after them as `more` says.
+-- `lines::line::put_repair` meets its contract: the bytes kept are written, and the letter that follows behind them.
 -- Assumes nothing.
+use mathlib.Core.Path.{refl, ap}
 use native.Mathlib.Omega.{arith}
-use Rattle.writing.proofs.Laws.Put.{wrote_nothing, wrote-byte, wrote-bytes, wrote-all}
-use Rattle.lines.proofs.Laws.LineText.{repair-none, repair-one, repair-two}
+use lib.ListN.{length}
+use Rattle.repairs.specs.Repairs.{letter_bytes}
+use Rattle.writing.proofs.Laws.Put.{wrote_nothing, wrote-text, wrote-bytes, wrote-all}
+use Rattle.lines.proofs.Laws.LineText.{repair-none, repair-some}
 use Rattle.lines.proofs.line.put_repair.Goals as goal
 
-pub returns-then-more-eq0 : goal.returns-then-more-eq0
-returns-then-more-eq0 c =
-    let p = wrote-all (repair-none _ _ c.if-more-eq0.true) (wrote-bytes _ _ c.requires.keep_in_bounds (wrote_nothing (omega arith)) (c.put_bytes-a.ensures.value, c.put_bytes-a.ensures.out_after)) in
+pub returns-in_default : goal.returns-in_default
+returns-in_default c =
+    let p = wrote-all (repair-none _ _ c.in_default.is)
+    (wrote-bytes _ _ c.requires.keep_in_bounds (wrote_nothing (omega arith)) (c.put_bytes-a.ensures.value, c.put_bytes-a.ensures.out_after)) in
     record { value = p.0; out_after = p.1 }
 
-pub returns-then-more-eq1 : goal.returns-then-more-eq1
-returns-then-more-eq1 c =
-    let p = wrote-all (repair-one _ _ c.if-more-eq1.true)
-    (wrote-byte _ (wrote-bytes _ _ c.requires.keep_in_bounds (wrote_nothing (omega arith)) (c.put_bytes-a.ensures.value, c.put_bytes-a.ensures.out_after)) (c.put_byte-b.ensures.value, c.put_byte-b.ensures.out_after)) in
-    record { value = p.0; out_after = p.1 }
+pub put-requires : goal.put-requires
+put-requires c = omega (arith, c.put_bytes-a.auto.out, ap (λ l. length (letter_bytes l)) c.in-Some.is)
 
 pub returns : goal.returns
 returns c =
-    let p = wrote-all (repair-two _ _ (omega arith))
-    (wrote-byte _
-    (wrote-byte _ (wrote-bytes _ _ c.requires.keep_in_bounds (wrote_nothing (omega arith)) (c.put_bytes-a.ensures.value, c.put_bytes-a.ensures.out_after)) (c.put_byte-b.ensures.value, c.put_byte-b.ensures.out_after))
-    (c.put_byte.ensures.value, c.put_byte.ensures.out_after)) in
+    let more = ap (λ l. length (letter_bytes l)) c.in-Some.is in
+    let p = wrote-all (repair-some _ _ _ c.in-Some.is)
+    (wrote-text _ _ refl
+    (wrote-bytes _ _ c.requires.keep_in_bounds (wrote_nothing (omega (arith, more))) (c.put_bytes-a.ensures.value, c.put_bytes-a.ensures.out_after))
+    (c.put.ensures.value, c.put.ensures.out_after)) in
     record { value = p.0; out_after = p.1 }

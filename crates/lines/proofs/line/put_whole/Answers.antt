@@ -17,7 +17,7 @@ returns-then-not-syllable c =
 pub put_run-requires : goal.put_run-requires
 put_run-requires c =
     let f = whole_run_of-fits _ _ (le_refl _) _ c.whole_of.ensures in
-    record { keep_in_bounds = f.0; more_bound = f.1.0; from_le_upto = f.1.1.0; upto_in_bounds = f.1.1.1.0; from_in_bounds = omega arith }
+    record { keep_in_bounds = f.0; from_le_upto = f.1.0; upto_in_bounds = f.1.1.0; from_in_bounds = omega arith }
 
 pub returns : goal.returns
 returns c =

@@ -14,7 +14,7 @@ pub write_repair-length-requires : goal.write_repair-length-requires
 write_repair-length-requires c =
     let room = into-room _ _ _ _ c.refusal_into-n.ensures c.if-n-ne0.false in
     let fits = repair-fits _ _ _ _ c.postlude-r.ensures (omega arith) room in
-    record { keep_in_bounds = fits.0; more_bound = fits.1; more_in_bounds = fits.2 }
+    record { keep_in_bounds = fits.0; more_in_bounds = fits.1 }
 
 pub returns : goal.returns
 returns c =

@@ -34,7 +34,7 @@ pub write_run-length-requires : goal.write_run-length-requires
 write_run-length-requires c =
     let room = into-room _ _ _ _ c.refusal_into-n.ensures c.if-n-ne0.false in
     let p = whole_run_of-fits _ _ room _ c.whole_of-r.ensures in
-    record { keep_in_bounds = p.0; more_bound = p.1.0; from_le_upto = p.1.1.0; upto_in_bounds = p.1.1.1.0; from_in_bounds = p.1.1.1.1 }
+    record { keep_in_bounds = p.0; from_le_upto = p.1.0; upto_in_bounds = p.1.1.0; from_in_bounds = p.1.1.1 }
 
 pub returns : goal.returns
 unfolding chars
