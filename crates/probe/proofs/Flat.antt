@@ -1,44 +1,30 @@
 -- What laying three entries out flat leaves. Assumes nothing.
-use Prim.Native.Nat.{ℕ}
-use mathlib.Core.Path.{◌≡◌, refl}
+use Prim.Native.Nat.{ℕ, ◌<◌}
+use mathlib.Core.Path.{◌≡◌}
 use mathlib.Core.List.{List, [], ◌∷◌}
 use native.Mathlib.Omega.{arith}
 use lib.ListN.{length, get_or}
+use denote.Param.Members.{Mut, Called}
+use Rattle.std.specs.Array.{IsMapOf}
 use Rattle.turkish.specs.declared.endings.Piece.{Piece}
-use Rattle.turkish.specs.declared.endings.Removed.{Removed}
-use Rattle.turkish.specs.PieceCalls.{Span, kind_number, kind_joined, told, unused}
-use Rattle.probe.specs.declared.ProbeRemoved.{ProbeRemoved}
-use Rattle.probe.specs.Flat.{joined_number, column, flat_removed_of}
+use Rattle.turkish.specs.PieceCalls.{Span, told, unused}
+use Rattle.probe.specs.Flat.{column}
 
--- a column of three entries is the number of each
-column-three : (f : Span → ℕ) (ps : List Piece) → length ps ≡ 3
-    → column f ps ≡ f (told (get_or ps 0 unused)) ∷ f (told (get_or ps 1 unused)) ∷ f (told (get_or ps 2 unused)) ∷ []
+-- a column of three entries, entry by entry
+column-three : (v : Span → ℕ) (ps : List Piece) (ns : List ℕ) → length ps ≡ 3 → length ns ≡ 3
+    → ((i : ℕ) → i < 3 → get_or ns i 0 ≡ v (told (get_or ps i unused))) → ns ≡ column v ps
 unfolding column
-column-three f [] e = absurd (omega arith)
-column-three f (a ∷ []) e = absurd (omega arith)
-column-three f (a ∷ b ∷ []) e = absurd (omega arith)
-column-three f (a ∷ b ∷ c ∷ []) e = refl
-column-three f (a ∷ b ∷ c ∷ d ∷ ps) e = absurd (omega arith)
+column-three v (a ∷ b ∷ c ∷ []) (k ∷ l ∷ m ∷ []) e f h = rw (h 0 (omega arith), h 1 (omega arith), h 2 (omega arith))
+column-three v [] ns e f h = absurd (omega arith)
+column-three v (a ∷ []) ns e f h = absurd (omega arith)
+column-three v (a ∷ b ∷ []) ns e f h = absurd (omega arith)
+column-three v (a ∷ b ∷ c ∷ d ∷ ps) ns e f h = absurd (omega arith)
+column-three v (a ∷ b ∷ c ∷ []) [] e f h = absurd (omega arith)
+column-three v (a ∷ b ∷ c ∷ []) (k ∷ []) e f h = absurd (omega arith)
+column-three v (a ∷ b ∷ c ∷ []) (k ∷ l ∷ []) e f h = absurd (omega arith)
+column-three v (a ∷ b ∷ c ∷ []) (k ∷ l ∷ m ∷ n ∷ ns) e f h = absurd (omega arith)
 
-module _ (r : Removed) where
-  -- the entry at a place
-  abbrev at : ℕ → Piece
-  at n = get_or r.pieces n unused
-
-  -- a list of three entries is laid out flat by the numbers of each
-  pub flat_removed_of-three : {i j k l m n : ℕ} → length r.pieces ≡ 3
-      → i ≡ kind_number (at 0).kind → j ≡ kind_number (at 1).kind → k ≡ kind_number (at 2).kind
-      → l ≡ joined_number (kind_joined (at 0).kind) → m ≡ joined_number (kind_joined (at 1).kind) → n ≡ joined_number (kind_joined (at 2).kind)
-      → ◌≡◌ {A = ProbeRemoved}
-      (record {
-        refusal = r.refusal;
-        length = r.length;
-        count = r.count;
-        kinds = i ∷ j ∷ k ∷ [];
-        joinings = l ∷ m ∷ n ∷ [];
-        first = (at 0).first ∷ (at 1).first ∷ (at 2).first ∷ [];
-        last = (at 0).last ∷ (at 1).last ∷ (at 2).last ∷ [];
-      })
-      (flat_removed_of r)
-  unfolding flat_removed_of told
-  flat_removed_of-three e f g h x y z = simp (f, g, h, x, y, z, column-three)
+-- what a closure gives of each entry is a column, where each call gives a piece's number
+pub column-mapped : {F : Type 0} {g : Mut F (Piece × Unit {0}) ℕ} (v : Span → ℕ) → ((x : Piece) (y : ℕ) (p q : F) → Called g p (x, tt) y q → y ≡ v (told x))
+    → {f : F} {ps : List Piece} {ns : List ℕ} → length ps ≡ 3 → IsMapOf g f ps ns 3 → ns ≡ column v ps
+column-mapped v h {ps = ps} {ns = ns} e m = column-three v ps ns e m.long (λ i l. let k = m.at i unused 0 l in h _ _ k.0 k.1 k.2)

@@ -188,7 +188,6 @@ fn joining_of(kind: Kind) -> u8
 }
 
 // A list of pieces, laid out flat.
-#[tactic(auto, unfolding(crate::specs::Flat::flat_removed_of, crate::specs::Flat::column, turkish::specs::PieceCalls::told))]
 fn flat_removed(r: Removed) -> ProbeRemoved
     ensures { result ≡ flat_removed_of r }
 {

@@ -1,8 +1,7 @@
 -- What the noun stage's lines leave of a text, by the places that they came to: a line that is cut, the chain cut before marks that stay, and the
 -- first line that fits. Assumes nothing.
-use Prim.Native.Nat.{ℕ, ◌+◌}
+use Prim.Native.Nat.{ℕ}
 use mathlib.Core.Path.{◌≡◌, refl, sym, ap, ap₂, ◌∙◌}
-use mathlib.Core.Bool.{true}
 use mathlib.Core.List.{List}
 use lib.ListN.{drop}
 use Rattle.std.specs.Prelude.{Option, Some, None}

@@ -7,7 +7,7 @@ use Rattle.std.specs.Prelude.{Option, Some, None, is_some}
 use Rattle.utf8.specs.declared.cursor.Cursor.{Cursor}
 use Rattle.utf8.specs.Behind.{behind}
 use Rattle.theorems.specs.Simple.Harmony.{harmony}
-use Rattle.theorems.specs.Simple.Grammar.{Mark, among, asking, mark_of}
+use Rattle.theorems.specs.Simple.Grammar.{Mark, asking, mark_of}
 use Rattle.keys.specs.declared.among.Key.{Key}
 use Rattle.keys.specs.Passed.{passes}
 use Rattle.keys.specs.Search.{found}

@@ -5,7 +5,6 @@ use mathlib.Core.Path.{◌≡◌, ap, ◌∙◌}
 use native.Mathlib.Omega.{arith}
 use Rattle.std.specs.Prelude.{Option, Some}
 use Rattle.std.specs.Option.{option_or}
-use Rattle.nouns.specs.declared.link.Link.{Link}
 use Rattle.nouns.specs.declared.link.Link.TheVariants.{Ends, Calls}
 use Rattle.nouns.proofs.Laws.Links.{chain-unfit, chain-ends, chain-calls, chain-open}
 use Rattle.nouns.proofs.chain.+stem_suffix_chain_before_ki.Goals as goal

@@ -1,7 +1,7 @@
 -- `nouns::link::before_possessive` meets its contract: lAr, behind which the chain is called, or nothing. Assumes nothing.
 use Rattle.theorems.specs.Simple.Grammar.{mark_of}
 use Rattle.theorems.specs.Simple.Marks.{lAr}
-use Rattle.nouns.specs.Link.{ends, calls, before_lAr}
+use Rattle.nouns.specs.Link.{calls, before_lAr}
 use Rattle.nouns.proofs.Laws.Links.{or-none, or-calls, ends-here}
 use Rattle.nouns.proofs.link.before_possessive.Goals as goal
 
