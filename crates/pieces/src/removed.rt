@@ -2,41 +2,62 @@
 ghost use Rattle.std.specs.Prelude.{◌≡◌, true, length};
 ghost use Rattle.turkish.specs.Calls.{refusal, accepted, stage_call};
 ghost use Rattle.turkish.specs.PieceCalls.{given, Lists};
-ghost use Rattle.pieces.specs.Removed.{Stands, piece_of, count_of, removed_of};
+ghost use Rattle.pieces.specs.Removed.{Stands, number_of, piece_of, start_of, count_of, removed_of};
 
 use kinds::kind;
+use marks::marked::Mark;
 use refusals::refusal;
 use stages::stage;
 use stages::trail::{Stop, Trail};
 use turkish::endings::{Piece, Removed};
 
+// A mark's number.
+#[tactic(auto, unfolding(crate::specs::Removed::number_of))]
+fn number_of(mark: Mark) -> u32
+    ensures { result ≡ number_of mark }
+{
+    mark as u32
+}
+
 // A mark kept, as a piece that ends before place `end`. A y before the key is the piece's first letter, and no key begins with one.
-fn piece_of(w: &[u8], s: Stop, end: usize) -> Piece
+fn piece_of(w: &[u8], s: Option<Stop>, end: usize) -> Piece
     requires { Stands w.now s end }
     ensures { result ≡ piece_of w.now s end }
 {
-    if s.kind == 0 {
+    let Some(stop) = s else {
         return Piece::UNUSED;
-    }
-    let at = s.at;
+    };
+    let at = stop.at;
     Piece {
-        kind: kind::kind_of(s.kind, w[at] == 0x79),
+        kind: kind::kind_of(number_of(stop.kind), w[at] == 0x79),
         first: at,
         last: end - 1,
     }
 }
 
+// Where a mark kept begins, 0 where there is none.
+#[tactic(auto, unfolding(crate::specs::Removed::start_of))]
+fn start_of(s: Option<Stop>) -> usize
+    ensures { result ≡ start_of s }
+{
+    let Some(stop) = s else {
+        return 0;
+    };
+    stop.at
+}
+
 // How many marks were kept.
+#[tactic(auto, unfolding(crate::specs::Removed::count_of))]
 fn count_of(t: Trail) -> usize
     ensures { result ≡ count_of t }
 {
-    if t.first.kind == 0 {
+    if t.first.is_none() {
         return 0;
     }
-    if t.second.kind == 0 {
+    if t.second.is_none() {
         return 1;
     }
-    if t.third.kind == 0 {
+    if t.third.is_none() {
         return 2;
     }
     3
@@ -48,13 +69,10 @@ pub(crate) fn pieces_of(w: &[u8]) -> Removed
     ensures { result ≡ removed_of w.now }
 {
     let o = stage::stem_nominal_verb_suffixes(w);
-    let t = o.trail;
-    let a = t.first;
-    let b = t.second;
-    let c = t.third;
-    let first = piece_of(w, a, w.len());
-    let second = piece_of(w, b, a.at);
-    let third = piece_of(w, c, b.at);
+    let t = o.way.trail;
+    let first = piece_of(w, t.first, w.len());
+    let second = piece_of(w, t.second, start_of(t.first));
+    let third = piece_of(w, t.third, start_of(t.second));
     Removed {
         refusal: 0,
         length: o.kept,

@@ -9,46 +9,38 @@ use native.Mathlib.Omega.{arith}
 use lib.ListN.{length, drop, get_or}
 use lib.Seq.{drop-drop}
 use lib.Dec.{eqb}
-use borrow.Author.Tests.{ne_eqb}
 use Rattle.utf8.specs.declared.cursor.Cursor.{Cursor}
 use Rattle.utf8.specs.Characters.{back}
 use Rattle.utf8.specs.Behind.{back_by}
 use Rattle.utf8.proofs.Laws.Behind.{back_by-add, back_by-back}
-use Rattle.turkish.specs.declared.endings.Kind.{Kind}
 use Rattle.theorems.specs.Simple.Pieces.{Taken, total, joint_by, kept_at, located}
 use Rattle.turkish.specs.Calls.{chars, accepted}
 use Rattle.turkish.specs.PieceCalls.{Span, span_of, told}
 use Rattle.theorems.proofs.Laws.PieceCounts.{Numbered, Each}
 use Rattle.theorems.proofs.Laws.Joints.{joins, JoinedAs, joined_as-head, joined_as-tail}
 use Rattle.theorems.proofs.Laws.Offsets.{offset-back, joint_by-byte}
-use Rattle.kinds.specs.Kinds.{kind_at}
 use Rattle.kinds.proofs.Laws.Kinds.{kind_number-kind_at}
 use Rattle.kinds.proofs.Laws.Joined.{kind_joined-kind_at}
-use Rattle.stages.specs.declared.trail.Stop.{Stop}
+use Rattle.marks.specs.Reach.{mark_numbered}
+use Rattle.stages.specs.Trail.{stop_at}
 use Rattle.stages.specs.Outcome.{whole}
 use Rattle.pieces.specs.Removed.{piece_of}
-use Rattle.pieces.proofs.Laws.Trails.{stop_of, listed}
-
--- a mark with a number is a piece of its kind, from where it begins to the place before its end
-pub piece-some : (w : List ℕ) (s : Stop) (end : ℕ) {k : Kind} → (s.kind ≡ 0 → ⊥) → k ≡ kind_at s.kind (eqb (get_or w s.at 0) 0x79)
-    → record { kind = k; first = s.at; last = end - 1 } ≡ piece_of w s end
-unfolding piece_of
-piece-some w s end n e = rw (ne_eqb s.kind 0 n, e)
+use Rattle.pieces.proofs.Laws.Trails.{held, listed}
 
 module _ (w : List ℕ) (a : accepted w ≡ true) where
   -- a mark that took some characters behind the nearest n is told as the piece that it is
   told-piece : (n : ℕ) (t : Taken) → Numbered t → t.joined ≡ joint_by (joins t.kind) t.size (drop n (chars w)) → n + t.size ≤ length (chars w)
-      → told (piece_of w (record { kind = t.kind; at = back w (length w) (n + t.size) }) (back w (length w) n))
+      → told (piece_of w (stop_at (mark_numbered t.kind) (back w (length w) (n + t.size))) (back w (length w) n))
       ≡ span_of w (kept_at (length (chars w) - n) t)
-  unfolding told piece_of span_of joins
+  unfolding told piece_of span_of joins stop_at
   told-piece n t s j h =
       let k = t.kind in
       let y = eqb (get_or w (back w (length w) (n + t.size)) 0) 0x79 in
-      let some = ne_eqb k 0 (λ e. omega (arith, s.low)) in
+      let mark = held t s in
       let number = kind_number-kind_at k y s.low s.high in
       let joint = kind_joined-kind_at k y s.low s.high ∙ sym (j ∙ joint_by-byte w (joins k) n t.size a s.some h) in
       let to : length (chars w) - n - t.size ≡ length (chars w) - (n + t.size) = omega arith in
-      rw (some, number, joint, to, offset-back w (n + t.size) a, offset-back w n a)
+      rw (mark.is, mark.number, number, joint, to, offset-back w (n + t.size) a, offset-back w n a)
 
   -- the place n characters back from the word's end
   back_whole : (n : ℕ) → (back_by w (whole w) n).cursor ≡ back w (length w) n
@@ -64,7 +56,7 @@ module _ (w : List ℕ) (a : accepted w ≡ true) where
       let c = back_by w (whole w) n in
       let next = back_by-add w (whole w) n t.size in
       let there : (back_by w c t.size).cursor ≡ back w (length w) (n + t.size) = ap (λ (d : Cursor). d.cursor) next ∙ back_whole (n + t.size) in
-      let first : told (piece_of w (stop_of w c t) c.cursor) ≡ span_of w (kept_at (length (chars w) - n) t) =
+      let first : told (piece_of w (stop_at (mark_numbered t.kind) (back_by w c t.size).cursor) c.cursor) ≡ span_of w (kept_at (length (chars w) - n) t) =
       rw (there, back_whole n) (told-piece n t (s t (Memᴰ.head refl)) (joined_as-head j) (omega arith)) in
       let left : length (chars w) - n - t.size ≡ length (chars w) - (n + t.size) = omega arith in
       let rest : JoinedAs (drop (n + t.size) (chars w)) ts = rw (drop-drop t.size n (chars w)) at (joined_as-tail j) in

@@ -21,10 +21,10 @@ use Rattle.theorems.proofs.Source.KeptStage.{kept_marks-simple}
 use Rattle.theorems.proofs.PieceTheorems.{stage_marks-within, at-most-three-pieces, end_to_end, pieces-within, pieces-inside}
 use Rattle.kinds.specs.Entries.{entry, Near, Inside}
 use Rattle.stages.specs.declared.stage.Outcome.{Outcome}
-use Rattle.stages.specs.Trail.{trail_of}
+use Rattle.stages.specs.Trail.{trail_of, way_of}
 use Rattle.stages.specs.Outcome.{whole, outcome_of}
 use Rattle.stages.proofs.Laws.Branches.{open-whole}
-use Rattle.pieces.specs.Removed.{piece_of, count_of, entries_of, removed_of}
+use Rattle.pieces.specs.Removed.{piece_of, start_of, count_of, entries_of, removed_of}
 use Rattle.pieces.proofs.Laws.Trails.{listed, length-listed, spare, spare-unused, Marks, marks-trail, count-marks, entries-marks, StandAll, stands-marks}
 use Rattle.pieces.proofs.Laws.Entries.{told-listed}
 
@@ -41,12 +41,12 @@ marks-in w = marks-trail w (whole w) (marks_of w) (stage_marks-numbered (chars w
 
 -- so many pieces were made
 count-removed : (w : List ℕ) → (removed_of w).count ≡ length (pieces_of w)
-unfolding removed_of outcome_of
+unfolding removed_of outcome_of way_of
 count-removed w = count-marks w (whole w) (marks-in w) ∙ sym (length-listed w (whole w) (whole w) (marks_of w))
 
 -- and stand before the entries that are not used
 entries-removed : (w : List ℕ) → (removed_of w).pieces ≡ pieces_of w ++ spare (most_pieces - length (marks_of w))
-unfolding removed_of outcome_of whole
+unfolding removed_of outcome_of way_of whole
 entries-removed w = entries-marks w (whole w) refl (marks-in w)
 
 -- the entries past them are not used
@@ -58,11 +58,12 @@ others-removed w =
     past ∙ spare-unused n ∙ ap (map (λ (p : Piece). unused)) (sym past)
 
 -- what is made of the stage's answer, piece by piece
-pub made-removed : (w : List ℕ) {o : Outcome} {n : ℕ} {p q r : Piece} → o ≡ outcome_of w → n ≡ count_of o.trail
-    → p ≡ piece_of w o.trail.first (length w) → q ≡ piece_of w o.trail.second o.trail.first.at → r ≡ piece_of w o.trail.third o.trail.second.at
+pub made-removed : (w : List ℕ) {o : Outcome} {n i j : ℕ} {p q r : Piece} → o ≡ outcome_of w → n ≡ count_of o.way.trail
+    → i ≡ start_of o.way.trail.first → j ≡ start_of o.way.trail.second
+    → p ≡ piece_of w o.way.trail.first (length w) → q ≡ piece_of w o.way.trail.second i → r ≡ piece_of w o.way.trail.third j
     → record { refusal = 0; length = o.kept; count = n; pieces = p ∷ q ∷ r ∷ [] } ≡ removed_of w
 unfolding removed_of entries_of
-made-removed w e n p q r = rw (n, p, q, r, e)
+made-removed w e n i j p q r = rw (n, p, q, r, i, j, e)
 
 module _ (w : List ℕ) (a : accepted w ≡ true) where
   -- the pieces are told as the word's
@@ -92,8 +93,8 @@ module _ (w : List ℕ) (a : accepted w ≡ true) where
   length_removed = sym (stage_text-length w a)
 
   -- the marks stand where the code looks for them
-  pub stands-outcome : {o : Outcome} → o ≡ outcome_of w → StandAll w o.trail
-  unfolding outcome_of
+  pub stands-outcome : {o : Outcome} → o ≡ outcome_of w → StandAll w o.way.trail
+  unfolding outcome_of way_of
   stands-outcome e = rw e (stands-marks w (whole w) (marks-in w) (rw (sym told-pieces) at (end_to_end w a)))
 
   -- an entry below the count is told as one of the word's pieces

@@ -1,25 +1,19 @@
--- `pieces::removed::piece_of` meets its contract: a mark without a number is no piece, and any other stands in the word before the piece's
--- end. Assumes nothing.
+-- `pieces::removed::piece_of` meets its contract: no mark is no piece, and any other stands in the word before the piece's end. Assumes nothing.
 use native.Mathlib.Omega.{arith}
-use borrow.Author.Tests.{eq-eqb}
 use Rattle.turkish.specs.PieceCalls.{unused}
 use Rattle.pieces.specs.Removed.{piece_of}
-use Rattle.pieces.proofs.Laws.Entries.{piece-some}
 use Rattle.pieces.proofs.removed.piece_of.Goals as goal
 
-pub returns-then-s-eq0 : goal.returns-then-s-eq0
+pub returns-in_default : goal.returns-in_default
 unfolding piece_of unused
-returns-then-s-eq0 c = rw (eq-eqb _ 0 c.if-s-eq0.true)
+returns-in_default c = rw c.in_default.is
 
 pub bounds-w-at : goal.bounds-w-at
-bounds-w-at c =
-    let stands = c.requires in
-    omega (arith, stands.before c.if-s-eq0.false, stands.within)
+bounds-w-at c = omega (arith, c.requires.before _ c.in-Some.is, c.requires.within)
 
 pub overflow_sub-result : goal.overflow_sub-result
-overflow_sub-result c =
-    let stands = c.requires in
-    omega (arith, stands.before c.if-s-eq0.false)
+overflow_sub-result c = omega (arith, c.requires.before _ c.in-Some.is)
 
 pub returns : goal.returns
-returns c = piece-some _ c.args.s _ c.if-s-eq0.false c.kind_of.ensures
+unfolding piece_of
+returns c = rw (c.in-Some.is, c.kind_of.ensures, c.number_of.ensures)
