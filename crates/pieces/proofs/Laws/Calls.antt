@@ -7,7 +7,7 @@ use native.Mathlib.Omega.{arith}
 use lib.ListN.{length, take}
 use borrow.Author.Tests.{eq-eqb, ne_eqb}
 use Rattle.turkish.specs.declared.answer.PiecesAnswer.{PiecesAnswer}
-use Rattle.turkish.specs.declared.answer.PiecesTextAnswer.{PiecesTextAnswer}
+use Rattle.turkish.specs.declared.answer.LengthAnswer.{LengthAnswer}
 use Rattle.turkish.specs.declared.endings.Removed.{Removed}
 use Rattle.turkish.specs.Calls.{accepted, refusal, refusal_short_of, written, stage_call}
 use Rattle.turkish.specs.PieceCalls.{Span, spans_of, InSomeOrder, piece_refusal, given, told, unused, Lists, pieces_room, buffer, buffer_of, pieces_refusal, pieces_call, PiecesOut}
@@ -79,7 +79,7 @@ module _ (w out : List ℕ) (n : ℕ) (e : n ≡ refusal_short_of 5 w 9 (length 
 module _ (w out : List ℕ) (n : ℕ) (e : n ≡ refusal_short_of 5 w 96 (length out)) where
   -- a refused call gives its number and leaves the buffer
   pub pieces_text_call-refused : (n ≡ 0 → ⊥)
-      → (◌≡◌ {A = PiecesTextAnswer} (record { refusal = n; length = 0 }) (pieces_text_call w (length out))) × PiecesTextOut w out out
+      → (◌≡◌ {A = LengthAnswer} (record { refusal = n; length = 0 }) (pieces_text_call w (length out))) × PiecesTextOut w out out
   unfolding pieces_text_call pieces_text_refusal piece_refusal text_room given text_of
   pieces_text_call-refused h =
       let no = ne_eqb n 0 h in
@@ -96,7 +96,7 @@ module _ (w out : List ℕ) (n : ℕ) (e : n ≡ refusal_short_of 5 w 96 (length
 
     -- any other call gives the length of the lines, and leaves them written
     pub pieces_text_call-given : {k : ℕ} {last : List ℕ} → let t = text_of w (map told (take r.count r.pieces)) in k ≡ length t → last ≡ written t out
-        → (◌≡◌ {A = PiecesTextAnswer} (record { refusal = 0; length = k }) (pieces_text_call w (length out))) × PiecesTextOut w out last
+        → (◌≡◌ {A = LengthAnswer} (record { refusal = 0; length = k }) (pieces_text_call w (length out))) × PiecesTextOut w out last
     unfolding pieces_text_call pieces_text_refusal piece_refusal text_room given
     pieces_text_call-given l o =
         let a = short-accepted 5 w 96 (length out) n (omega arith) e z in
