@@ -1,14 +1,9 @@
--- A piece's kind from a mark's number and a y, and a kind's name, as the code makes them. Assumes nothing.
-use Rattle.std.specs.Prelude.{ℕ, Bool, cond, length, eqb}
-use Rattle.turkish.specs.Letters.{text}
-use Rattle.turkish.specs.Pieces.{kind_name}
-use Rattle.turkish.specs.Calls.{written}
-use Rattle.turkish.specs.PieceCalls.{kind_number}
+-- A piece's kind from a mark's number and a y, as the code makes it. Assumes nothing.
+use Rattle.std.specs.Prelude.{ℕ, Bool, cond, eqb}
 use Rattle.turkish.specs.declared.endings.Joining.{Joining}
 use Rattle.turkish.specs.declared.endings.Joining.TheVariants.{WithY, AfterVowel}
 use Rattle.turkish.specs.declared.endings.Kind.{Kind}
 use Rattle.turkish.specs.declared.endings.Kind.TheVariants.{YUm, SUn, YUz, SUnUz, LAr, NUz, DUr, CAsInA, YDU, YsA, YmUs, Yken}
-use Rattle.kinds.specs.declared.kind.Name.{Name}
 
 unfoldable pub joining_by : Bool → Joining
 joining_by y = cond y WithY AfterVowel
@@ -26,9 +21,3 @@ kind_at n y =
     (cond (eqb n 9) (YDU (joining_by y))
     (cond (eqb n 10) (YsA (joining_by y))
     (cond (eqb n 11) (YmUs (joining_by y)) (Yken (joining_by y))))))))))))
-
--- a kind's name and how many letters it has, with dots behind it up to six
-unfoldable pub name_of : Kind → Name
-name_of kind =
-    let name = kind_name (kind_number kind) in
-    record { letters = written name (text "......"); n = length name }

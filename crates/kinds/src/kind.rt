@@ -1,21 +1,25 @@
 // A piece's kind: from a mark's number, and to its number and name.
 ghost use Rattle.std.specs.Prelude.{◌≡◌};
+ghost use Rattle.turkish.specs.Pieces.{kind_name};
 ghost use Rattle.turkish.specs.PieceCalls.{kind_number};
-ghost use Rattle.kinds.specs.Kinds.{joining_by, kind_at, name_of};
+ghost use Rattle.kinds.specs.Kinds.{joining_by, kind_at};
 
 use turkish::endings::{Joining, Kind};
 
 // How a piece joined, by whether a y did.
+#[tactic(auto, unfolding(crate::specs::Kinds::joining_by))]
 fn joining(y: bool) -> Joining
     ensures { result ≡ joining_by y }
 {
     if y {
-        return Joining::WithY;
+        Joining::WithY
+    } else {
+        Joining::AfterVowel
     }
-    Joining::AfterVowel
 }
 
 // The kind of the mark with this number, 12 where it is none of the others; y tells whether a y joined it, where one may.
+#[tactic(auto, unfolding(crate::specs::Kinds::kind_at))]
 pub fn kind_of(number: u32, y: bool) -> Kind
     ensures { result ≡ kind_at number y }
 {
@@ -36,7 +40,8 @@ pub fn kind_of(number: u32, y: bool) -> Kind
     }
 }
 
-// A kind's number.
+// A kind's number. No `From`: that could only stand beside the type, in crate turkish, which holds what calls mean and no code.
+#[tactic(auto, unfolding(turkish::specs::PieceCalls::kind_number))]
 pub fn number_of(kind: Kind) -> u8
     ensures { result ≡ kind_number kind }
 {
@@ -56,65 +61,23 @@ pub fn number_of(kind: Kind) -> u8
     }
 }
 
-// A name: the first n of these letters. Those behind it are dots.
-#[derive(Clone, Copy)]
-pub struct Name {
-    pub letters: [u8; 6],
-    pub n: usize,
-}
-
 // A kind's name.
-pub fn name_of(kind: Kind) -> Name
-    ensures { result ≡ name_of kind }
+#[tactic(auto, unfolding(crate::proofs::Names::kind_number, crate::proofs::Names::kind_name, crate::proofs::Names::name_from, crate::proofs::Names::kind_names, crate::proofs::Names::text))]
+pub fn name_of(kind: Kind) -> &'static [u8]
+    ensures { result.now ≡ kind_name (kind_number kind) }
 {
     match kind {
-        Kind::YUm(_) => Name {
-            letters: *b"yUm...",
-            n: 3,
-        },
-        Kind::SUn => Name {
-            letters: *b"sUn...",
-            n: 3,
-        },
-        Kind::YUz(_) => Name {
-            letters: *b"yUz...",
-            n: 3,
-        },
-        Kind::SUnUz => Name {
-            letters: *b"sUnUz.",
-            n: 5,
-        },
-        Kind::LAr => Name {
-            letters: *b"lAr...",
-            n: 3,
-        },
-        Kind::NUz => Name {
-            letters: *b"nUz...",
-            n: 3,
-        },
-        Kind::DUr => Name {
-            letters: *b"DUr...",
-            n: 3,
-        },
-        Kind::CAsInA => Name {
-            letters: *b"cAsInA",
-            n: 6,
-        },
-        Kind::YDU(_) => Name {
-            letters: *b"yDU...",
-            n: 3,
-        },
-        Kind::YsA(_) => Name {
-            letters: *b"ysA...",
-            n: 3,
-        },
-        Kind::YmUs(_) => Name {
-            letters: *b"ymUs_.",
-            n: 5,
-        },
-        Kind::Yken(_) => Name {
-            letters: *b"yken..",
-            n: 4,
-        },
+        Kind::YUm(_) => b"yUm",
+        Kind::SUn => b"sUn",
+        Kind::YUz(_) => b"yUz",
+        Kind::SUnUz => b"sUnUz",
+        Kind::LAr => b"lAr",
+        Kind::NUz => b"nUz",
+        Kind::DUr => b"DUr",
+        Kind::CAsInA => b"cAsInA",
+        Kind::YDU(_) => b"yDU",
+        Kind::YsA(_) => b"ysA",
+        Kind::YmUs(_) => b"ymUs_",
+        Kind::Yken(_) => b"yken",
     }
 }

@@ -17,31 +17,24 @@ fn put_line(out: &mut [u8], at: usize, w: &[u8], p: Piece) -> usize
     ensures value { result ≡ at + length (piece_line w.now (told p)) }
     ensures out_after { out.new ≡ put at (piece_line w.now (told p)) out.old }
 {
-    let k = p.kind;
-    let name = kind::name_of(k);
-    let letters = name.letters;
-    let a = put::put_bytes(out, at, &letters, name.n);
-    let b = put::put_byte(out, a, put::TAB);
-    let first = p.first;
-    let size = p.last + 1 - first;
-    let c = put::put_bytes(out, b, &w[first..], size);
-    put::put_byte(out, c, put::LF)
+    let named = put::put_all(out, at, kind::name_of(p.kind));
+    let parted = put::put_byte(out, named, put::TAB);
+    let spelt = put::put_all(out, parted, &w[p.first..p.last + 1]);
+    put::put_byte(out, spelt, put::LF)
 }
 
 // Writes the lines of the pieces, and gives their length.
+#[tactic(auto, unfolding(turkish::specs::PieceCalls::most_pieces))]
 pub fn put_lines(w: &[u8], r: Removed, out: &mut [u8]) -> usize
     requires inside { Inside w.now r }
     requires pieces_in_bounds { length (text_of w.now (map told (take r.count r.pieces))) ≤ length out.old }
     ensures value { result ≡ length (text_of w.now (map told (take r.count r.pieces))) }
     ensures out_after { out.new ≡ written (text_of w.now (map told (take r.count r.pieces))) out.old }
 {
-    let count = r.count;
     let mut at = 0;
-    let mut i = 0;
-    while i < count {
-        let p = r.pieces[i];
-        at = put_line(out, at, w, p);
-        i += 1;
+    let pieces = &r.pieces[..r.count];
+    for p in pieces {
+        at = put_line(out, at, w, *p);
     }
     at
 }

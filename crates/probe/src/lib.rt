@@ -159,6 +159,7 @@ pub struct ProbeRemoved {
 }
 
 // A joining's number.
+#[tactic(auto, unfolding(crate::specs::Flat::joined_number, turkish::specs::PieceCalls::joined_of))]
 fn number_of_joining(joining: Joining) -> u8
     ensures { result ≡ joined_number (joined_of joining) }
 {
@@ -169,43 +170,30 @@ fn number_of_joining(joining: Joining) -> u8
 }
 
 // The number of how a piece of this kind joined.
+#[tactic(auto, unfolding(crate::specs::Flat::joined_number, turkish::specs::PieceCalls::kind_joined))]
 fn joining_of(kind: Kind) -> u8
     ensures { result ≡ joined_number (kind_joined kind) }
 {
     match kind {
-        Kind::YUm(j) => number_of_joining(j),
-        Kind::SUn => 0,
-        Kind::YUz(j) => number_of_joining(j),
-        Kind::SUnUz => 0,
-        Kind::LAr => 0,
-        Kind::NUz => 0,
-        Kind::DUr => 0,
-        Kind::CAsInA => 0,
-        Kind::YDU(j) => number_of_joining(j),
-        Kind::YsA(j) => number_of_joining(j),
-        Kind::YmUs(j) => number_of_joining(j),
-        Kind::Yken(j) => number_of_joining(j),
+        Kind::YUm(j) | Kind::YUz(j) | Kind::YDU(j) | Kind::YsA(j) | Kind::YmUs(j) | Kind::Yken(j) =>
+            number_of_joining(j),
+        Kind::SUn | Kind::SUnUz | Kind::LAr | Kind::NUz | Kind::DUr | Kind::CAsInA => 0,
     }
 }
 
 // A list of pieces, laid out flat.
+#[tactic(auto, unfolding(crate::specs::Flat::flat_removed_of, crate::specs::Flat::column, turkish::specs::PieceCalls::told))]
 fn flat_removed(r: Removed) -> ProbeRemoved
     ensures { result ≡ flat_removed_of r }
 {
-    let a = r.pieces[0];
-    let b = r.pieces[1];
-    let c = r.pieces[2];
-    let i = a.kind;
-    let j = b.kind;
-    let k = c.kind;
     ProbeRemoved {
         refusal: r.refusal,
         length: r.length,
         count: r.count,
-        kinds: [kind::number_of(i), kind::number_of(j), kind::number_of(k)],
-        joinings: [joining_of(i), joining_of(j), joining_of(k)],
-        first: [a.first, b.first, c.first],
-        last: [a.last, b.last, c.last],
+        kinds: r.pieces.map(|p| kind::number_of(p.kind)),
+        joinings: r.pieces.map(|p| joining_of(p.kind)),
+        first: r.pieces.map(|p| p.first),
+        last: r.pieces.map(|p| p.last),
     }
 }
 

@@ -4,13 +4,17 @@ use mathlib.Core.Path.{◌≡◌, refl, sym, ◌∙◌}
 use mathlib.Core.List.{List, [], ◌∷◌, ◌++◌, map, append_assoc}
 use native.Mathlib.Omega.{arith}
 use native.Mathlib.Numerals.{add-one}
-use lib.ListN.{length, take, get_or, set, length-map}
-use lib.Seq.{length-take-le, sets-eq}
+use Rattle.std.proofs.lemmas.List.{get_or-take}
+use lib.ListN.{length, take, get_or, set, length-map, length-set, length-take}
+use lib.Seq.{length-take-le, take_all, sets-eq}
 use Rattle.turkish.specs.declared.endings.Piece.{Piece}
+use Rattle.turkish.specs.declared.endings.Removed.{Removed}
 use Rattle.turkish.specs.Calls.{written}
-use Rattle.turkish.specs.PieceCalls.{Span, told, kind_number, buffer}
+use Rattle.turkish.specs.PieceCalls.{Span, told, kind_number, unused, buffer}
+use Rattle.theorems.specs.PieceTerms.{most_bytes}
+use Rattle.kinds.specs.Entries.{entry, Near}
 use Rattle.writing.specs.Put.{put}
-use Rattle.kinds.proofs.Laws.Written.{put_written, told-next}
+use Rattle.kinds.proofs.Laws.Written.{written-nothing, put_written, told-next}
 
 -- three bytes stored one after the other are a text of three bytes written
 set-three : (n x y z : ℕ) (o : List ℕ) → n + 3 ≤ length o → set (set (set o n x) (n + 1) y) (n + 2) z ≡ put n (x ∷ y ∷ z ∷ []) o
@@ -18,6 +22,11 @@ unfolding put
 set-three n x y z o h =
     let e : n + 2 ≡ suc (suc n) = omega arith in
     rw (e, add-one) (sets-eq (x ∷ y ∷ z ∷ []) o n h ∙ append_assoc (take n o) (x ∷ y ∷ z ∷ []) _)
+
+-- no pieces have no entries
+pub no-entries : (kept : ℕ) (out : List ℕ) → written (buffer kept []) out ≡ out
+unfolding buffer
+no-entries kept out = sym (written-nothing out)
 
 -- the entries of some pieces stand before those of others
 buffer-append : (kept : ℕ) (ps qs : List Span) → buffer kept (ps ++ qs) ≡ buffer kept ps ++ buffer kept qs
@@ -49,3 +58,14 @@ module _ (kept : ℕ) (ps : List Piece) (i : ℕ) (d : Piece) (h : i < length ps
   set-entry k out o e r w =
       set-three (3 * i) k ((get_or ps i d).first - kept) ((get_or ps i d).last - kept) o r
       ∙ rw (w, e, put_written (buffer kept (map told (take i ps))) _ out (3 * i) (sym length-buffer-take), ← buffer-next)
+
+-- each piece that is counted is near
+pub near-entry : {r : Removed} {i : ℕ} → i < length (take r.count r.pieces) → Near r
+    → let p = get_or (take r.count r.pieces) i unused in (r.length ≤ p.first) × (p.first ≤ p.last) × (p.last < r.length + 256)
+unfolding entry most_bytes
+near-entry {r} {i} h n =
+    let l : i < r.count = omega (arith, length-take r.count r.pieces) in
+    rw (get_or-take r.count r.pieces i unused l) (n.behind i l, n.whole i l, omega (arith, n.near i l))
+
+-- what the check of the loop needs
+pub ruleset entry_laws = (near-entry, set-entry, length-set, length-take, take_all, no-entries)

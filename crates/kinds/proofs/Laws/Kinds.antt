@@ -1,21 +1,14 @@
--- The kind that a mark's number and a y give: it has that number. A kind's name as it is held: its letters
--- come first. Assumes nothing.
+-- The kind that a mark's number and a y give: it has that number. Assumes nothing.
 use Prim.Native.Nat.{ℕ, ◌+◌, ◌≤◌, ◌<◌}
 use mathlib.Core.Path.{◌≡◌, sym}
 use mathlib.Core.Bool.{Bool, cond}
 use native.Mathlib.Omega.{arith}
-use lib.ListN.{length, take, drop, length-append}
-use lib.Seq.{take-append_seam}
 use lib.Dec.{eqb}
 use borrow.Author.Tests.{eqb-true, eqb-false}
 use Rattle.encoding.proofs.Laws.Booleans.{cond_cases}
 use Rattle.turkish.specs.declared.endings.Kind.{Kind}
-use Rattle.turkish.specs.Letters.{text}
-use Rattle.turkish.specs.Pieces.{kind_name}
-use Rattle.turkish.specs.Calls.{written}
 use Rattle.turkish.specs.PieceCalls.{kind_number}
-use Rattle.kinds.specs.declared.kind.Name.{Name}
-use Rattle.kinds.specs.Kinds.{kind_at, name_of}
+use Rattle.kinds.specs.Kinds.{kind_at}
 
 -- what is chosen by a number that is k or more, which is k or more than k
 pub from-here : {A : Type 0} (P : A → Type 0) (n k : ℕ) {x y : A} → k ≤ n → (n ≡ k → P x) → (k + 1 ≤ n → P y) → P (cond (eqb n k) x y)
@@ -37,14 +30,3 @@ kind_number-kind_at n y l h =
     from-here P n 9 l9 sym (λ l10.
     from-here P n 10 l10 sym (λ l11.
     from-here P n 11 l11 sym (λ l12. omega arith)))))))))))
-
-module _ (k : Kind) {r : Name} (e : r ≡ name_of k) where
-  -- the letters of a kind's name stand before the dots
-  pub name_of-letters : take r.n r.letters ≡ kind_name (kind_number k)
-  unfolding name_of written
-  name_of-letters = rw e (take-append_seam (kind_name (kind_number k)) (drop (length (kind_name (kind_number k))) (text "......")))
-
-  -- and there are as many as it has
-  pub name_of-fits : r.n ≤ length r.letters
-  unfolding name_of written
-  name_of-fits = rw (e, length-append) (omega arith)

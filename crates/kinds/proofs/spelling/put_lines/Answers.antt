@@ -1,61 +1,27 @@
--- `kinds::spelling::put_lines` meets its contract. The loop's invariant: the lines of the pieces passed are written, `at` is their end, and the
--- output keeps its length. The measure is what is left of them. Assumes nothing.
-use mathlib.Core.Path.{◌≡◌, refl}
+-- `kinds::spelling::put_lines` meets its contract: each line is written behind those before it, and has room there. Assumes nothing.
+use mathlib.Core.Path.{refl}
 use native.Mathlib.Omega.{arith}
-use lib.ListN.{length}
-use borrow.Author.Rules.{rules}
+use lib.ListN.{take, length-take}
+use lib.Seq.{take_all}
 use Rattle.turkish.specs.PieceCalls.{unused, most_pieces, text_of}
-use Rattle.kinds.specs.Entries.{entry}
-use Rattle.kinds.proofs.Laws.Written.{written-nothing, length-mapped}
-use Rattle.kinds.proofs.Laws.Spelling.{text_of-room, put-piece_line}
+use Rattle.kinds.proofs.Laws.Written.{written-nothing}
+use Rattle.kinds.proofs.Laws.Spelling.{text_of-room, put-piece_line, inside-entry}
 use Rattle.kinds.proofs.spelling.put_lines.Goals as goal
 
-pub loop-i-init : goal.loop-i-init
+pub loop-p-init : goal.loop-p-init
 unfolding text_of
-loop-i-init c = (omega arith, refl, refl, written-nothing _)
-
-pub offset_bounds-r-i : goal.offset_bounds-r-i
-unfolding most_pieces
-offset_bounds-r-i c = search rules
-
-pub bounds-r-i : goal.bounds-r-i
-unfolding most_pieces
-bounds-r-i c = search rules
+loop-p-init c = record { place = refl; output = written-nothing _ }
 
 pub put_line-at-requires : goal.put_line-at-requires
-unfolding entry unused most_pieces
+unfolding unused
 put_line-at-requires c =
-    let r = c.args.r in
-    let three : length r.pieces ≡ 3 = search (rules, length-mapped) in
-    let room = text_of-room c.args.w.now r.pieces c.loop-i.i unused r.count (omega arith) c.loop-i-test.true in
-    record {
-      first_le_last = c.requires.inside.whole _ c.loop-i-test.true;
-      last_in_bounds = c.requires.inside.within _ c.loop-i-test.true;
-      p_in_bounds = omega arith;
-    }
+    let here = inside-entry c.loop-p-test.true c.requires.inside in
+    let room = text_of-room c.args.w.now (take c.args.r.count c.args.r.pieces) c.loop-p.p-index unused c.loop-p-test.true in
+    record { first_le_last = here.0; last_in_bounds = here.1; p_in_bounds = omega (arith, room, c.loop-p.invariant.place) }
 
-pub overflow_add-i : goal.overflow_add-i
-unfolding most_pieces
-overflow_add-i c = search rules
-
-pub loop-i-smaller : goal.loop-i-smaller
-unfolding most_pieces
-loop-i-smaller c = search rules
-
-pub loop-i-preserved : goal.loop-i-preserved
-unfolding unused most_pieces
-loop-i-preserved c =
-    let l = c.loop-i in
-    let r = c.args.r in
-    let three : length r.pieces ≡ 3 = search (rules, length-mapped) in
-    let turn = put-piece_line c.args.w.now r.pieces l.i unused (omega arith) _ _ _ l.invariant.2 l.invariant.3 (c.put_line-at.ensures.value, c.put_line-at.ensures.out_after) in
-    (omega arith, search rules, turn.0, turn.1)
-
-pub shape_of-out : goal.shape_of-out
-unfolding most_pieces
-shape_of-out c = search rules
-
-pub returns : goal.returns
-returns c =
-    let l = c.loop-i in
-    let e : l.i ≡ c.args.r.count = omega arith in record { value = rw (← e) l.invariant.2; out_after = rw (← e) l.invariant.3 }
+pub loop-p-preserved : goal.loop-p-preserved
+unfolding unused
+loop-p-preserved c =
+    let l = c.loop-p in
+    let turn = put-piece_line _ _ l.p-index unused c.loop-p-test.true _ _ _ l.invariant.place l.invariant.output (c.put_line-at.ensures.value, c.put_line-at.ensures.out_after) in
+    record { place = turn.0; output = turn.1 }
