@@ -27,4 +27,4 @@ entries_of w t = piece_of w t.first (length w) ∷ piece_of w t.second t.first.a
 unfoldable pub removed_of : List ℕ → Removed
 removed_of w =
     let o = outcome_of w in
-    record { refusal = 0; length = o.kept; count = count_of o.trail; pieces = entries_of w o.trail }
+    record { length = o.kept; count = count_of o.trail; pieces = entries_of w o.trail }

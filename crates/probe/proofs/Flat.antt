@@ -1,44 +1,36 @@
--- What laying three entries out flat leaves. Assumes nothing.
+-- The list of a word, laid out flat: of one that is refused, and of any other. Assumes nothing.
 use Prim.Native.Nat.{ℕ}
-use mathlib.Core.Path.{◌≡◌, refl}
+use mathlib.Core.Path.{◌≡◌, refl, ap, ◌∙◌}
 use mathlib.Core.List.{List, [], ◌∷◌}
-use native.Mathlib.Omega.{arith}
-use lib.ListN.{length, get_or}
-use Rattle.turkish.specs.declared.endings.Piece.{Piece}
+use mathlib.Core.List.Permᴰ
+use borrow.Author.Tests.{ne_eqb}
 use Rattle.turkish.specs.declared.endings.Removed.{Removed}
-use Rattle.turkish.specs.PieceCalls.{Span, kind_number, kind_joined, told, unused}
+use Rattle.turkish.specs.declared.refusal.Refusal.{Refusal}
+use Rattle.turkish.specs.Calls.{refusal, accepted, stage_call}
+use Rattle.turkish.specs.PieceCalls.{spans_of, given, unused, Lists}
+use Rattle.turkish.specs.Refusals.{refusal_number}
+use Rattle.turkish.proofs.OneToOne.{refusal_number-some}
 use Rattle.probe.specs.declared.ProbeRemoved.{ProbeRemoved}
-use Rattle.probe.specs.Flat.{joined_number, column, flat_removed_of}
+use Rattle.probe.specs.Flat.{flat_removed_of, numbered, FlatList}
 
--- a column of three entries is the number of each
-column-three : (f : Span → ℕ) (ps : List Piece) → length ps ≡ 3
-    → column f ps ≡ f (told (get_or ps 0 unused)) ∷ f (told (get_or ps 1 unused)) ∷ f (told (get_or ps 2 unused)) ∷ []
-unfolding column
-column-three f [] e = absurd (omega arith)
-column-three f (a ∷ []) e = absurd (omega arith)
-column-three f (a ∷ b ∷ []) e = absurd (omega arith)
-column-three f (a ∷ b ∷ c ∷ []) e = refl
-column-three f (a ∷ b ∷ c ∷ d ∷ ps) e = absurd (omega arith)
+module _ (w : List ℕ) where
+  -- a word that is not refused has its own list
+  pub flat-given : {r : Removed} {p : ProbeRemoved} → 0 ≡ refusal w → r.length ≡ (stage_call w).length → Lists (spans_of w) r.count r.pieces
+      → p ≡ flat_removed_of r → FlatList w p
+  unfolding given flat_removed_of
+  flat-given {r} e l s f =
+      record { list = r; kept = l; lists = rw (← e) s; flat = f ∙ ap (λ (n : ℕ). numbered n (flat_removed_of r)) e }
 
-module _ (r : Removed) where
-  -- the entry at a place
-  abbrev at : ℕ → Piece
-  at n = get_or r.pieces n unused
-
-  -- a list of three entries is laid out flat by the numbers of each
-  pub flat_removed_of-three : {i j k l m n : ℕ} → length r.pieces ≡ 3
-      → i ≡ kind_number (at 0).kind → j ≡ kind_number (at 1).kind → k ≡ kind_number (at 2).kind
-      → l ≡ joined_number (kind_joined (at 0).kind) → m ≡ joined_number (kind_joined (at 1).kind) → n ≡ joined_number (kind_joined (at 2).kind)
-      → ◌≡◌ {A = ProbeRemoved}
-      (record {
-        refusal = r.refusal;
-        length = r.length;
-        count = r.count;
-        kinds = i ∷ j ∷ k ∷ [];
-        joinings = l ∷ m ∷ n ∷ [];
-        first = (at 0).first ∷ (at 1).first ∷ (at 2).first ∷ [];
-        last = (at 0).last ∷ (at 1).last ∷ (at 2).last ∷ [];
-      })
-      (flat_removed_of r)
-  unfolding flat_removed_of told
-  flat_removed_of-three e f g h x y z = simp (f, g, h, x, y, z, column-three)
+  -- a refused word has none
+  pub flat-refused : (r : Refusal) {n : ℕ} {p : ProbeRemoved} → refusal_number r ≡ refusal w → n ≡ refusal_number r
+      → p ≡ flat_removed_of (record { length = 0; count = 0; pieces = unused ∷ unused ∷ unused ∷ [] }) → FlatList w (numbered n p)
+  unfolding stage_call accepted given
+  flat-refused r e m f =
+      let none : Removed = record { length = 0; count = 0; pieces = unused ∷ unused ∷ unused ∷ [] } in
+      let no = ne_eqb (refusal_number r) 0 (refusal_number-some r) in
+      record {
+        list = none;
+        kept = rw (← e, no);
+        lists = rw (← e, no) (record { counted = refl; rearranged = mathlib.Core.List.Permᴰ.nil; others = refl });
+        flat = ap (λ (k : ℕ). numbered k _) (m ∙ e) ∙ ap (numbered (refusal w)) f;
+      }

@@ -14,7 +14,7 @@ ghost use Rattle.probe.specs.Flat.{flat_step_of, flat_literal_of, cursor_from, j
 use encoding::plain;
 use kinds::kind;
 use pieces::removed;
-use turkish::endings::{Joining, Kind, Removed};
+use turkish::endings::{Joining, Kind, Piece, Removed};
 use utf8::cursor::Cursor;
 use utf8::{literal, step};
 use words::stage;
@@ -187,7 +187,7 @@ fn flat_removed(r: Removed) -> ProbeRemoved
     ensures { result ≡ flat_removed_of r }
 {
     ProbeRemoved {
-        refusal: r.refusal,
+        refusal: 0,
         length: r.length,
         count: r.count,
         kinds: r.pieces.map(|p| kind::number_of(p.kind)),
@@ -197,10 +197,23 @@ fn flat_removed(r: Removed) -> ProbeRemoved
     }
 }
 
-// What the suffix stage removes of a word, laid out flat. In which order the pieces stand is free.
+// No pieces.
+const NOTHING: Removed = Removed {
+    length: 0,
+    count: 0,
+    pieces: [Piece::UNUSED; 3],
+};
+
+// What the suffix stage removes of a word, laid out flat; nothing where it is refused. In which order the pieces stand is free.
 #[unsafe(no_mangle)]
 pub extern "C" fn probe_removed(w: &[u8]) -> ProbeRemoved
     ensures { FlatList w.now result }
 {
-    flat_removed(removed::removed_word(w))
+    match removed::removed_word(w) {
+        Ok(r) => flat_removed(r),
+        Err(e) => ProbeRemoved {
+            refusal: u32::from(e),
+            ..flat_removed(NOTHING)
+        },
+    }
 }

@@ -1,7 +1,7 @@
 -- No refusal has the number 0, and no two have one number. So what C gets of a result tells which it was: nothing is lost. Assumes nothing.
 use Prim.Native.Nat.{ℕ}
 use mathlib.Core.Path.{◌≡◌, refl, sym, ap, ◌∙◌}
-use mathlib.Core.Bool.{Bool, true, false, cond}
+use mathlib.Core.Bool.{Bool, cond}
 use lib.Dec.{eqb}
 use Rattle.std.specs.Prelude.{Option, Some, None, Result, Ok, Err}
 use Rattle.turkish.specs.declared.refusal.Refusal.{Refusal}
@@ -18,7 +18,7 @@ use Rattle.turkish.specs.declared.answer.LengthAnswer.{LengthAnswer}
 use Rattle.turkish.specs.declared.answer.PassAnswer.{PassAnswer}
 use Rattle.turkish.specs.declared.answer.PiecesAnswer.{PiecesAnswer}
 use Rattle.turkish.specs.declared.answer.BatchAnswer.{BatchAnswer}
-use Rattle.turkish.specs.Refusals.{refusal_number, result_number}
+use Rattle.turkish.specs.Refusals.{refusal_number}
 use Rattle.turkish.specs.Results.{syllable_answer, heard_answer, stage_answer, text_answer, pass_answer, length_answer, pieces_answer, batch_answer}
 
 -- ---- the numbers ----

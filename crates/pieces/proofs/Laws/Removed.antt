@@ -60,7 +60,7 @@ others-removed w =
 -- what is made of the stage's answer, piece by piece
 pub made-removed : (w : List ℕ) {o : Outcome} {n : ℕ} {p q r : Piece} → o ≡ outcome_of w → n ≡ count_of o.trail
     → p ≡ piece_of w o.trail.first (length w) → q ≡ piece_of w o.trail.second o.trail.first.at → r ≡ piece_of w o.trail.third o.trail.second.at
-    → record { refusal = 0; length = o.kept; count = n; pieces = p ∷ q ∷ r ∷ [] } ≡ removed_of w
+    → record { length = o.kept; count = n; pieces = p ∷ q ∷ r ∷ [] } ≡ removed_of w
 unfolding removed_of entries_of
 made-removed w e n p q r = rw (n, p, q, r, e)
 

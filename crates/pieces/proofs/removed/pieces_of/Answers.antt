@@ -6,15 +6,15 @@ use Rattle.pieces.proofs.removed.pieces_of.Goals as goal
 -- the marks stand where their pieces are made, seen from before the first
 pub piece_of-first-requires : goal.piece_of-first-requires
 piece_of-first-requires c =
-    (stands-outcome _ c.requires c.stem_nominal_verb_suffixes-o.ensures).first
+    (stands-outcome _ c.args.w.is_accepted c.stem_nominal_verb_suffixes-o.ensures).first
 
 pub piece_of-second-requires : goal.piece_of-second-requires
 piece_of-second-requires c =
-    (stands-outcome _ c.requires c.stem_nominal_verb_suffixes-o.ensures).second
+    (stands-outcome _ c.args.w.is_accepted c.stem_nominal_verb_suffixes-o.ensures).second
 
 pub piece_of-third-requires : goal.piece_of-third-requires
 piece_of-third-requires c =
-    (stands-outcome _ c.requires c.stem_nominal_verb_suffixes-o.ensures).third
+    (stands-outcome _ c.args.w.is_accepted c.stem_nominal_verb_suffixes-o.ensures).third
 
 pub returns : goal.returns
 returns c =
