@@ -25,12 +25,12 @@ module _ (w : List ℕ) where
   pub flat-refused : (r : Refusal) {n : ℕ} {p : ProbeRemoved} → refusal_number r ≡ refusal w → n ≡ refusal_number r
       → p ≡ flat_removed_of (record { length = 0; count = 0; pieces = unused ∷ unused ∷ unused ∷ [] }) → FlatList w (numbered n p)
   unfolding stage_call accepted given
-  flat-refused r e m f =
+  flat-refused r {n} {p} e m f =
       let none : Removed = record { length = 0; count = 0; pieces = unused ∷ unused ∷ unused ∷ [] } in
       let no = ne_eqb (refusal_number r) 0 (refusal_number-some r) in
       record {
         list = none;
         kept = rw (← e, no);
         lists = rw (← e, no) (record { counted = refl; rearranged = mathlib.Core.List.Permᴰ.nil; others = refl });
-        flat = ap (λ (k : ℕ). numbered k _) (m ∙ e) ∙ ap (numbered (refusal w)) f;
+        flat = ap (λ (k : ℕ). numbered k p) (m ∙ e) ∙ ap (numbered (refusal w)) f;
       }
