@@ -1,4 +1,5 @@
-// The calls' results as C gets them. `refusal` is the papers' number, 0 where the call was not refused; a refused call has 0 and no elsewhere.
+// The calls' results as C gets them: flat structs, since an exported call can hand back no enum. `refusal` is the papers' number, 0 where the call
+// was not refused; a refused call has 0 and no elsewhere.
 ghost use Rattle.std.specs.Prelude.{◌≡◌};
 ghost use Rattle.turkish.specs.Results.{syllable_answer, stage_answer, text_answer, pass_answer, length_answer, pieces_answer, batch_answer};
 

@@ -43,6 +43,7 @@ impl Piece {
 }
 
 // What the suffix stage removed: the kept text's length in bytes, and so many pieces; entries past them are UNUSED.
+// A count and no Option in each entry: readers take `pieces[..count]` as one slice, and `Lists` speaks of its front.
 #[derive(Clone, Copy)]
 pub struct Removed {
     pub length: usize,
