@@ -1,5 +1,6 @@
-// Why a batch is refused, as the papers' number; 0 where it is not.
+// Why a batch is refused.
 ghost use Rattle.std.specs.Prelude.{◌≡◌};
+ghost use Rattle.turkish.specs.Refusals.{result_number};
 ghost use Rattle.batches.specs.BatchCalls.{tails_in, words_refusal_of, rooms_refusal_of, number_of};
 ghost use Rattle.batch.specs.Tails.{survey_of};
 
@@ -7,65 +8,63 @@ use crate::tails;
 use crate::tails::Survey;
 use encoding::validity;
 use refusals::refusal;
+use turkish::refusal::Refusal;
 
-// 1 where the front or a joined word is over the limit, 2 where the front or a tail is not UTF-8. The slice is checked once: a line feed goes on
+// The front and each joined word are within the limit, and the front and each tail are UTF-8. The slice is checked once: a line feed goes on
 // with no character.
-fn words_refusal(front: &[u8], slice: &[u8], s: Survey) -> u32
+fn check_words(front: &[u8], slice: &[u8], s: Survey) -> Result<(), Refusal>
     requires { s ≡ survey_of (tails_in slice.now) }
-    ensures { result ≡ words_refusal_of front.now (tails_in slice.now) }
+    ensures { result_number result ≡ words_refusal_of front.now (tails_in slice.now) }
 {
     if refusal::LIMIT < front.len() {
-        return 1;
+        return Err(Refusal::OverLimit);
     }
     if refusal::LIMIT - front.len() < s.longest {
-        return 1;
+        return Err(Refusal::OverLimit);
     }
     if !validity::is_utf8(front) {
-        return 2;
+        return Err(Refusal::NotUtf8);
     }
     if !validity::is_utf8(slice) {
-        return 2;
+        return Err(Refusal::NotUtf8);
     }
-    0
+    Ok(())
 }
 
-// 3 where a buffer has under 64 entries.
-fn rooms_refusal(lengths: usize, answers: usize, flags: usize) -> u32
-    ensures { result ≡ rooms_refusal_of lengths answers flags }
+// Each buffer has 64 entries or more.
+fn check_rooms(lengths: usize, answers: usize, flags: usize) -> Result<(), Refusal>
+    ensures { result_number result ≡ rooms_refusal_of lengths answers flags }
 {
     if lengths < tails::TAILS {
-        return refusal::TOO_SHORT;
+        return Err(Refusal::OutputTooShort);
     }
     if answers < tails::TAILS {
-        return refusal::TOO_SHORT;
+        return Err(Refusal::OutputTooShort);
     }
     if flags < tails::TAILS {
-        return refusal::TOO_SHORT;
+        return Err(Refusal::OutputTooShort);
     }
-    0
+    Ok(())
 }
 
-// The first number that applies: 1 and 2; 6 for more than 64 tails or one under 16 characters; 3.
-pub(crate) fn refusal_of(
+// The first refusal that applies: the words'; that of more than 64 tails or one under 16 characters; the buffers'.
+pub(crate) fn check_batch(
     front: &[u8],
     slice: &[u8],
     s: Survey,
     lengths: usize,
     answers: usize,
     flags: usize,
-) -> u32
+) -> Result<(), Refusal>
     requires { s ≡ survey_of (tails_in slice.now) }
-    ensures { result ≡ number_of front.now (tails_in slice.now) lengths answers flags }
+    ensures { result_number result ≡ number_of front.now (tails_in slice.now) lengths answers flags }
 {
-    let n = words_refusal(front, slice, s);
-    if n != 0 {
-        return n;
-    }
+    check_words(front, slice, s)?;
     if tails::TAILS < s.count {
-        return 6;
+        return Err(Refusal::TailsRefused);
     }
     if s.short {
-        return 6;
+        return Err(Refusal::TailsRefused);
     }
-    rooms_refusal(lengths, answers, flags)
+    check_rooms(lengths, answers, flags)
 }

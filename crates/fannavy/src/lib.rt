@@ -13,8 +13,7 @@ use folding::fold;
 use outputs::{noun, pass, postlude, whole};
 use pieces::{buffer, text};
 use turkish::answer::{
-    BatchAnswer, FoldAnswer, NounAnswer, PassAnswer, PiecesAnswer, PiecesTextAnswer,
-    PostludeAnswer, StageAnswer, SyllableAnswer, WholeAnswer,
+    BatchAnswer, LengthAnswer, PassAnswer, PiecesAnswer, StageAnswer, SyllableAnswer, TextAnswer,
 };
 use words::{check, stage, syllable};
 
@@ -31,7 +30,7 @@ pub extern "C" fn fannavy_is_utf8(w: &[u8]) -> bool
 pub extern "C" fn fannavy_syllable(w: &[u8]) -> SyllableAnswer
     ensures { result ≡ syllable_call w.now }
 {
-    syllable::check_syllables(w)
+    SyllableAnswer::from(syllable::check_syllables(w))
 }
 
 // The suffix stage's numbers: the kept text is the word's first `length` bytes.
@@ -39,25 +38,25 @@ pub extern "C" fn fannavy_syllable(w: &[u8]) -> SyllableAnswer
 pub extern "C" fn fannavy_stage(w: &[u8]) -> StageAnswer
     ensures { result ≡ stage_call w.now }
 {
-    stage::stage_numbers(w)
+    StageAnswer::from(stage::stage_numbers(w))
 }
 
 // The postlude of the word, to an output of n + 2 bytes or more.
 #[unsafe(no_mangle)]
-pub extern "C" fn fannavy_postlude(w: &[u8], out: &mut [u8]) -> PostludeAnswer
+pub extern "C" fn fannavy_postlude(w: &[u8], out: &mut [u8]) -> TextAnswer
     ensures value { result ≡ postlude_call w.now (length out.old) }
     ensures out_after { out.new ≡ postlude_out w.now out.old }
 {
-    postlude::postlude_word(w, out)
+    TextAnswer::from(postlude::postlude_word(w, out))
 }
 
 // The word folded, to an output as long as the folded text or longer; 2n bytes always are.
 #[unsafe(no_mangle)]
-pub extern "C" fn fannavy_fold(w: &[u8], out: &mut [u8]) -> FoldAnswer
+pub extern "C" fn fannavy_fold(w: &[u8], out: &mut [u8]) -> LengthAnswer
     ensures value { result ≡ fold_call w.now (length out.old) }
     ensures out_after { out.new ≡ fold_out w.now out.old }
 {
-    fold::fold_word(w, out)
+    LengthAnswer::from(fold::fold_word(w, out))
 }
 
 // The word pass, to an output of n + 2 bytes or more.
@@ -66,25 +65,25 @@ pub extern "C" fn fannavy_pass(w: &[u8], out: &mut [u8]) -> PassAnswer
     ensures value { result ≡ pass_call w.now (length out.old) }
     ensures out_after { out.new ≡ pass_out w.now out.old }
 {
-    pass::pass_word(w, out)
+    PassAnswer::from(pass::pass_word(w, out))
 }
 
 // The noun stage of the word, to an output of n bytes or more.
 #[unsafe(no_mangle)]
-pub extern "C" fn fannavy_noun(w: &[u8], out: &mut [u8]) -> NounAnswer
+pub extern "C" fn fannavy_noun(w: &[u8], out: &mut [u8]) -> TextAnswer
     ensures value { result ≡ noun_call w.now (length out.old) }
     ensures out_after { out.new ≡ noun_out w.now out.old }
 {
-    noun::noun_word(w, out)
+    TextAnswer::from(noun::noun_word(w, out))
 }
 
 // The crate's whole Turkish run on the word, to an output of n + 2 bytes or more.
 #[unsafe(no_mangle)]
-pub extern "C" fn fannavy_whole(w: &[u8], out: &mut [u8]) -> WholeAnswer
+pub extern "C" fn fannavy_whole(w: &[u8], out: &mut [u8]) -> LengthAnswer
     ensures value { result ≡ whole_call w.now (length out.old) }
     ensures out_after { out.new ≡ whole_out w.now out.old }
 {
-    whole::whole_word(w, out)
+    LengthAnswer::from(whole::whole_word(w, out))
 }
 
 // The pieces of the ending that the suffix stage removes, to a buffer of 9 bytes or more, in any order.
@@ -93,16 +92,16 @@ pub extern "C" fn fannavy_pieces(w: &[u8], out: &mut [u8]) -> PiecesAnswer
     ensures value { result ≡ pieces_call w.now (length out.old) }
     ensures pieces_out { PiecesOut w.now out.old out.new }
 {
-    buffer::pieces_word(w, out)
+    PiecesAnswer::from(buffer::pieces_word(w, out))
 }
 
 // The same as lines, to a buffer of 96 bytes or more, in any order.
 #[unsafe(no_mangle)]
-pub extern "C" fn fannavy_pieces_text(w: &[u8], out: &mut [u8]) -> PiecesTextAnswer
+pub extern "C" fn fannavy_pieces_text(w: &[u8], out: &mut [u8]) -> LengthAnswer
     ensures value { result ≡ pieces_text_call w.now (length out.old) }
     ensures pieces_text_out { PiecesTextOut w.now out.old out.new }
 {
-    text::pieces_text(w, out)
+    LengthAnswer::from(text::pieces_text(w, out))
 }
 
 // The suffix stage of a front with each of up to 64 tails, to three buffers of 64 entries or more.
@@ -119,5 +118,5 @@ pub extern "C" fn fannavy_batch(
     ensures answers_after { answers.new ≡ answers_after (batch front.now tails.now lengths.old answers.old flags.old) }
     ensures flags_after { flags.new ≡ flags_after (batch front.now tails.now lengths.old answers.old flags.old) }
 {
-    call::batch_words(front, tails, lengths, answers, flags)
+    BatchAnswer::from(call::batch_words(front, tails, lengths, answers, flags))
 }

@@ -1,8 +1,9 @@
 // The output line of one word (document 01, "stemlist"). Each stage runs once, but for the postlude, which pass and whole run have of two texts.
-ghost use Rattle.std.specs.Prelude.{◌≡◌, true, cond, ◌+◌, ◌-◌, ◌≤◌, ◌<◌, length};
+ghost use Rattle.std.specs.Prelude.{◌≡◌, cond, ◌+◌, ◌-◌, ◌≤◌, length, IfOk};
 ghost use Rattle.turkish.specs.Letters.{tab, has};
 ghost use Rattle.theorems.specs.Simple.Harmony.{more_than_one_syllable};
-ghost use Rattle.turkish.specs.Calls.{chars, accepted, pass_text, whole_text};
+ghost use Rattle.turkish.specs.Calls.{chars, pass_text, whole_text};
+ghost use Rattle.turkish.specs.Refusals.{refusal_number, result_number};
 ghost use Rattle.stages.specs.Outcome.{outcome_of};
 ghost use Rattle.repairs.specs.Repairs.{letter_bytes, repair_text};
 ghost use Rattle.outputs.specs.Runs.{run_text};
@@ -12,11 +13,12 @@ ghost use Rattle.lines.specs.Room.{line_room};
 
 use outputs::run;
 use outputs::run::Run;
-use refusals::refusal;
+use refusals::refusal::Word;
 use repairs::postlude;
 use repairs::postlude::Repair;
 use stages::stage::Outcome;
 use stages::{stage, syllable};
+use turkish::refusal::Refusal;
 use writing::put;
 
 const YES: u8 = 0x59;
@@ -41,18 +43,16 @@ fn has_tab(w: &[u8]) -> bool
     false
 }
 
-// Why a line is refused: 1, 2, or 4 for a tab; 0 where it is not.
-fn line_refusal(w: &[u8]) -> u32
-    ensures { result ≡ line_refusal_of w.now }
+// The word of a line, where the line is not refused: as any word is, or for a tab.
+fn word_of(w: &[u8]) -> Result<Word<'_>, Refusal>
+    ensures number { result_number result ≡ line_refusal_of w.now }
+    ensures same { IfOk result (λ word. word.bytes.now ≡ w.now) }
 {
-    let n = refusal::refusal_of(w);
-    if n != 0 {
-        return n;
-    }
+    let word = Word::new(w)?;
     if has_tab(w) {
-        return 4;
+        return Err(Refusal::HasTab);
     }
-    0
+    Ok(word)
 }
 
 // One of two bytes, by an answer.
@@ -94,15 +94,15 @@ fn put_repair(out: &mut [u8], at: usize, w: &[u8], r: Repair) -> usize
     letter.put(out, a)
 }
 
-// Writes the pass's text of an accepted word, whose syllable answer and stage are known.
-fn put_pass(out: &mut [u8], at: usize, w: &[u8], syllable: bool, s: Outcome) -> usize
-    requires w_value { accepted w.now ≡ true }
-    requires syllable_value { syllable ≡ more_than_one_syllable (chars w.now) }
-    requires s_value { s ≡ outcome_of w.now }
-    requires w_in_bounds { at + (length w.now + 2) ≤ length out.old }
-    ensures value { result ≡ at + length (pass_text w.now) }
-    ensures out_after { out.new ≡ put at (pass_text w.now) out.old }
+// Writes the pass's text of a word whose syllable answer and stage are known.
+fn put_pass(out: &mut [u8], at: usize, word: Word, syllable: bool, s: Outcome) -> usize
+    requires syllable_value { syllable ≡ more_than_one_syllable (chars word.bytes.now) }
+    requires s_value { s ≡ outcome_of word.bytes.now }
+    requires w_in_bounds { at + (length word.bytes.now + 2) ≤ length out.old }
+    ensures value { result ≡ at + length (pass_text word.entry.bytes.now) }
+    ensures out_after { out.new ≡ put at (pass_text word.entry.bytes.now) out.old }
 {
+    let w = word.bytes;
     if !syllable {
         return put::put_bytes(out, at, w, w.len());
     }
@@ -128,47 +128,47 @@ fn put_run(out: &mut [u8], at: usize, w: &[u8], r: Run) -> usize
     put::put_bytes(out, a, &w[from..upto], upto - from)
 }
 
-// Writes the whole run's text of an accepted word, whose syllable answer and stage are known.
-fn put_whole(out: &mut [u8], at: usize, w: &[u8], syllable: bool, s: Outcome) -> usize
-    requires w_value { accepted w.now ≡ true }
-    requires syllable_value { syllable ≡ more_than_one_syllable (chars w.now) }
-    requires s_value { s ≡ outcome_of w.now }
-    requires w_in_bounds { at + (length w.now + 2) ≤ length out.old }
-    ensures value { result ≡ at + length (whole_text w.now) }
-    ensures out_after { out.new ≡ put at (whole_text w.now) out.old }
+// Writes the whole run's text of a word whose syllable answer and stage are known.
+fn put_whole(out: &mut [u8], at: usize, word: Word, syllable: bool, s: Outcome) -> usize
+    requires syllable_value { syllable ≡ more_than_one_syllable (chars word.bytes.now) }
+    requires s_value { s ≡ outcome_of word.bytes.now }
+    requires w_in_bounds { at + (length word.bytes.now + 2) ≤ length out.old }
+    ensures value { result ≡ at + length (whole_text word.entry.bytes.now) }
+    ensures out_after { out.new ≡ put at (whole_text word.entry.bytes.now) out.old }
 {
+    let w = word.bytes;
     if !syllable {
         return put::put_bytes(out, at, w, w.len());
     }
     put_run(out, at, w, run::whole_of(w, s))
 }
 
-// Writes the line of an accepted word.
-fn put_fields(out: &mut [u8], at: usize, w: &[u8]) -> usize
-    requires w_value { accepted w.now ≡ true }
-    requires line_room_in_bounds { at + line_room ≤ length out.old }
-    ensures value { result ≡ at + length (fields w.now) }
-    ensures out_after { out.new ≡ put at (fields w.now) out.old }
+// Writes the line of a word that is not refused.
+fn put_fields(out: &mut [u8], at: usize, word: Word) -> usize
+    requires { at + line_room ≤ length out.old }
+    ensures value { result ≡ at + length (fields word.entry.bytes.now) }
+    ensures out_after { out.new ≡ put at (fields word.entry.bytes.now) out.old }
 {
+    let w = word.bytes;
     let syllable = syllable::more_than_one_syllable_word(w, w.len());
     let s = stage::stem_nominal_verb_suffixes(w);
     let a = put::put_bytes(out, at, w, w.len());
     let b = put_answers(out, a, syllable, s.yes, s.flag);
     let c = put::put_bytes(out, b, w, s.kept);
     let d = put::put_byte(out, c, put::TAB);
-    let e = put_pass(out, d, w, syllable, s);
+    let e = put_pass(out, d, word, syllable, s);
     let f = put::put_byte(out, e, put::TAB);
-    let g = put_whole(out, f, w, syllable, s);
+    let g = put_whole(out, f, word, syllable, s);
     put::put_byte(out, g, put::LF)
 }
 
-// Writes a refused line: `!`, one tab and the number, and nothing of the word.
-fn put_refused(out: &mut [u8], at: usize, n: u32) -> usize
-    requires n_bound { n < 10 }
-    requires at_in_bounds { at + 4 ≤ length out.old }
+// Writes a refused line: `!`, one tab and the refusal's number, and nothing of the word.
+fn put_refused(out: &mut [u8], at: usize, r: Refusal) -> usize
+    requires { at + 4 ≤ length out.old }
     ensures value { result ≡ at + 4 }
-    ensures out_after { out.new ≡ put at (refused_line n) out.old }
+    ensures out_after { out.new ≡ put at (refused_line (refusal_number r)) out.old }
 {
+    let n = u32::from(r);
     let a = put::put_byte(out, at, 0x21);
     let b = put::put_byte(out, a, put::TAB);
     let c = put::put_byte(out, b, (0x30 + n) as u8);
@@ -181,9 +181,8 @@ pub fn put_line(out: &mut [u8], at: usize, w: &[u8]) -> usize
     ensures value { result ≡ at + length (list_line w.now) }
     ensures out_after { out.new ≡ put at (list_line w.now) out.old }
 {
-    let n = line_refusal(w);
-    if n != 0 {
-        return put_refused(out, at, n);
+    match word_of(w) {
+        Ok(word) => put_fields(out, at, word),
+        Err(r) => put_refused(out, at, r),
     }
-    put_fields(out, at, w)
 }

@@ -19,12 +19,10 @@ fn put_folded(out: &mut [u8], at: usize, w: &[u8]) -> usize
     ensures out_after { out.new ≡ put at (list_line (listed true w.now)) out.old }
 {
     let mut text = [0u8; FOLDED];
-    let f = fold::fold_word(w, &mut text);
-    if f.refusal != 0 {
-        return line::put_line(out, at, w);
+    match fold::fold_word(w, &mut text) {
+        Ok(n) => line::put_line(out, at, &text[..n]),
+        Err(_) => line::put_line(out, at, w),
     }
-    let n = f.length;
-    line::put_line(out, at, &text[..n])
 }
 
 // Writes the output line of one word at place `at`, as it stands or as its folded form, and gives the place after it.

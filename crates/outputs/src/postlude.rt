@@ -1,29 +1,20 @@
 // The postlude of a word of bytes, written to a lent output of n + 2 bytes or more.
 ghost use Rattle.std.specs.Prelude.{◌≡◌, length};
 ghost use Rattle.turkish.specs.Calls.{postlude_call, postlude_out};
+ghost use Rattle.turkish.specs.Results.{text_answer};
 
 use crate::repair;
-use refusals::refusal;
+use refusals::refusal::Word;
 use repairs::postlude;
-use turkish::answer::PostludeAnswer;
+use turkish::refusal::Refusal;
+use turkish::reply::Text;
 
-pub fn postlude_word(w: &[u8], out: &mut [u8]) -> PostludeAnswer
-    ensures value { result ≡ postlude_call w.now (length out.old) }
+pub fn postlude_word(w: &[u8], out: &mut [u8]) -> Result<Text, Refusal>
+    ensures value { text_answer result ≡ postlude_call w.now (length out.old) }
     ensures out_after { out.new ≡ postlude_out w.now out.old }
 {
-    let n = refusal::refusal_into(w, w.len() + 2, out.len());
-    if n != 0 {
-        return PostludeAnswer {
-            refusal: n,
-            length: 0,
-            yes: false,
-        };
-    }
+    Word::with_output(w, w.len() + 2, out.len())?;
     let r = postlude::postlude(w, w.len());
     let length = repair::write_repair(w, r, out);
-    PostludeAnswer {
-        refusal: 0,
-        length,
-        yes: r.yes,
-    }
+    Ok(Text { length, yes: r.yes })
 }

@@ -51,4 +51,4 @@ entries_of w t =
 unfoldable pub removed_of : List ℕ → Removed
 removed_of w =
     let o = outcome_of w in
-    record { refusal = 0; length = o.kept; count = count_of o.way.trail; pieces = entries_of w o.way.trail }
+    record { length = o.kept; count = count_of o.way.trail; pieces = entries_of w o.way.trail }

@@ -1,15 +1,17 @@
 // The pieces of the ending that the suffix stage removes, for Rattle callers.
-ghost use Rattle.std.specs.Prelude.{◌≡◌, true, length};
-ghost use Rattle.turkish.specs.Calls.{refusal, accepted, stage_call};
-ghost use Rattle.turkish.specs.PieceCalls.{given, Lists};
+ghost use Rattle.std.specs.Prelude.{◌≡◌, length, IfOk};
+ghost use Rattle.turkish.specs.Calls.{refusal, stage_call};
+ghost use Rattle.turkish.specs.PieceCalls.{spans_of, Lists};
+ghost use Rattle.turkish.specs.Refusals.{result_number};
 ghost use Rattle.pieces.specs.Removed.{Stands, number_of, piece_of, start_of, count_of, removed_of};
 
 use kinds::kind;
 use marks::marked::Mark;
-use refusals::refusal;
+use refusals::refusal::Word;
 use stages::stage;
 use stages::trail::{Stop, Trail};
 use turkish::endings::{Piece, Removed};
+use turkish::refusal::Refusal;
 
 // A mark's number.
 #[tactic(auto, unfolding(crate::specs::Removed::number_of))]
@@ -63,18 +65,17 @@ fn count_of(t: Trail) -> usize
     3
 }
 
-// What the suffix stage removes of an accepted word.
-pub(crate) fn pieces_of(w: &[u8]) -> Removed
-    requires { accepted w.now ≡ true }
-    ensures { result ≡ removed_of w.now }
+// What the suffix stage removes of a word.
+pub(crate) fn pieces_of(w: Word) -> Removed
+    ensures { result ≡ removed_of w.entry.bytes.now }
 {
-    let o = stage::stem_nominal_verb_suffixes(w);
+    let bytes = w.bytes;
+    let o = stage::stem_nominal_verb_suffixes(bytes);
     let t = o.way.trail;
-    let first = piece_of(w, t.first, w.len());
-    let second = piece_of(w, t.second, start_of(t.first));
-    let third = piece_of(w, t.third, start_of(t.second));
+    let first = piece_of(bytes, t.first, bytes.len());
+    let second = piece_of(bytes, t.second, start_of(t.first));
+    let third = piece_of(bytes, t.third, start_of(t.second));
     Removed {
-        refusal: 0,
         length: o.kept,
         count: count_of(t),
         pieces: [first, second, third],
@@ -82,19 +83,11 @@ pub(crate) fn pieces_of(w: &[u8]) -> Removed
 }
 
 // The kept text's length, and the pieces of what was removed. In which order they stand is free.
-pub fn removed_word(w: &[u8]) -> Removed
-    ensures refusal_value { result.refusal ≡ refusal w.now }
-    ensures length_value { result.length ≡ (stage_call w.now).length }
-    ensures lists { Lists (given w.now (refusal w.now)) result.count result.pieces }
+pub fn removed_word(w: &[u8]) -> Result<Removed, Refusal>
+    ensures number { result_number result ≡ refusal w.now }
+    ensures length_value { IfOk result (λ r. r.length ≡ (stage_call w.now).length) }
+    ensures lists { IfOk result (λ r. Lists (spans_of w.now) r.count r.pieces) }
 {
-    let n = refusal::refusal_of(w);
-    if n != 0 {
-        return Removed {
-            refusal: n,
-            length: 0,
-            count: 0,
-            pieces: [Piece::UNUSED; 3],
-        };
-    }
-    pieces_of(w)
+    let word = Word::new(w)?;
+    Ok(pieces_of(word))
 }

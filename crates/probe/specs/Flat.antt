@@ -46,7 +46,7 @@ column f ps = map (λ (p : Piece). f (told p)) ps
 unfoldable pub flat_removed_of : Removed → ProbeRemoved
 flat_removed_of r =
     record {
-      refusal = r.refusal;
+      refusal = 0;
       length = r.length;
       count = r.count;
       kinds = column (λ p. p.kind) r.pieces;
@@ -55,10 +55,14 @@ flat_removed_of r =
       last = column (λ p. p.last) r.pieces;
     }
 
--- an answer is some list laid out flat, of which the promise to Rattle callers holds
+-- the same with a refusal's number
+abbrev pub numbered : ℕ → ProbeRemoved → ProbeRemoved
+numbered n p =
+    record { refusal = n; length = p.length; count = p.count; kinds = p.kinds; joinings = p.joinings; first = p.first; last = p.last }
+
+-- an answer is some list laid out flat, with the word's number; of the list the promise to Rattle callers holds, and a refused word's has no pieces
 pub record FlatList (w : List ℕ) (r : ProbeRemoved) : Type 0 where
   pub list : Removed
-  pub refused : list.refusal ≡ refusal w
   pub kept : list.length ≡ (stage_call w).length
   pub lists : Lists (given w (refusal w)) list.count list.pieces
-  pub flat : r ≡ flat_removed_of list
+  pub flat : r ≡ numbered (refusal w) (flat_removed_of list)

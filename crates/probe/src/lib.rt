@@ -14,7 +14,7 @@ ghost use Rattle.probe.specs.Flat.{flat_of, flat_step_of, flat_literal_of, curso
 use encoding::plain;
 use kinds::kind;
 use pieces::removed;
-use turkish::endings::{Joining, Kind, Removed};
+use turkish::endings::{Joining, Kind, Piece, Removed};
 use utf8::cursor::Cursor;
 use utf8::{literal, step};
 use words::stage;
@@ -188,11 +188,12 @@ fn joining_of(kind: Kind) -> u8
 }
 
 // A list of pieces, laid out flat.
+#[tactic(auto, unfolding(crate::specs::Flat::flat_removed_of, crate::specs::Flat::column, turkish::specs::PieceCalls::told))]
 fn flat_removed(r: Removed) -> ProbeRemoved
     ensures { result ≡ flat_removed_of r }
 {
     ProbeRemoved {
-        refusal: r.refusal,
+        refusal: 0,
         length: r.length,
         count: r.count,
         kinds: r.pieces.map(|p| kind::number_of(p.kind)),
@@ -202,10 +203,23 @@ fn flat_removed(r: Removed) -> ProbeRemoved
     }
 }
 
-// What the suffix stage removes of a word, laid out flat. In which order the pieces stand is free.
+// No pieces.
+const NOTHING: Removed = Removed {
+    length: 0,
+    count: 0,
+    pieces: [Piece::UNUSED; 3],
+};
+
+// What the suffix stage removes of a word, laid out flat; nothing where it is refused. In which order the pieces stand is free.
 #[unsafe(no_mangle)]
 pub extern "C" fn probe_removed(w: &[u8]) -> ProbeRemoved
     ensures { FlatList w.now result }
 {
-    flat_removed(removed::removed_word(w))
+    match removed::removed_word(w) {
+        Ok(r) => flat_removed(r),
+        Err(e) => ProbeRemoved {
+            refusal: u32::from(e),
+            ..flat_removed(NOTHING)
+        },
+    }
 }

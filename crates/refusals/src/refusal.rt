@@ -1,45 +1,60 @@
-// Why a call refuses a word, as the papers' number; 0 where it does not.
-ghost use Rattle.std.specs.Prelude.{◌≡◌};
-ghost use Rattle.turkish.specs.Calls.{refusal, refusal_short_of, refusal_into_of};
+// Which words are accepted, and why a call refuses any other.
+ghost use Rattle.std.specs.Prelude.{◌≡◌, true, ◌≤◌, IfOk};
+ghost use Rattle.turkish.specs.Calls.{refusal, refusal_short_of, refusal_into_of, accepted};
+ghost use Rattle.turkish.specs.Refusals.{refusal_number, result_number};
 
 use encoding::validity;
+use turkish::refusal::Refusal;
 
 // The longest word, in bytes.
 pub const LIMIT: usize = 96;
 
-// The number of an output that is too short.
-pub const TOO_SHORT: u32 = 3;
-
-// 1 over the limit, 2 not UTF-8.
-pub fn refusal_of(w: &[u8]) -> u32
-    ensures { result ≡ refusal w.now }
-{
-    if LIMIT < w.len() {
-        return 1;
-    }
-    if validity::is_utf8(w) {
-        return 0;
-    }
-    2
+// A word that is accepted: within the limit, and UTF-8.
+#[derive(Clone, Copy)]
+pub struct Word<'a> {
+    pub bytes: &'a [u8],
+    pub ghost is_accepted: { accepted bytes.now ≡ true },
 }
 
-// The same, and the call's own number where a buffer of `room` bytes is shorter than it needs.
-pub fn refusal_short(w: &[u8], number: u32, need: usize, room: usize) -> u32
-    ensures { result ≡ refusal_short_of number w.now need room }
-{
-    let n = refusal_of(w);
-    if n != 0 {
-        return n;
+impl<'a> Word<'a> {
+    // The word of these bytes, where they are accepted.
+    pub fn new(w: &'a [u8]) -> Result<Word<'a>, Refusal>
+        ensures number { result_number result ≡ refusal w.now }
+        ensures same { IfOk result (λ word. word.bytes.now ≡ w.now) }
+    {
+        if LIMIT < w.len() {
+            return Err(Refusal::OverLimit);
+        }
+        if validity::is_utf8(w) {
+            return Ok(Word { bytes: w });
+        }
+        Err(Refusal::NotUtf8)
     }
-    if room < need {
-        return number;
-    }
-    0
-}
 
-// The same where that is an output.
-pub fn refusal_into(w: &[u8], need: usize, room: usize) -> u32
-    ensures { result ≡ refusal_into_of w.now need room }
-{
-    refusal_short(w, TOO_SHORT, need, room)
+    // The same where a buffer of `room` bytes is not shorter than the call needs; `short` is the call's own refusal where it is.
+    pub fn with_room(
+        w: &'a [u8],
+        short: Refusal,
+        need: usize,
+        room: usize,
+    ) -> Result<Word<'a>, Refusal>
+        ensures number { result_number result ≡ refusal_short_of (refusal_number short) w.now need room }
+        ensures same { IfOk result (λ word. word.bytes.now ≡ w.now) }
+        ensures fits { IfOk result (λ word. need ≤ room) }
+    {
+        let word = Word::new(w)?;
+        if room < need {
+            return Err(short);
+        }
+        Ok(word)
+    }
+
+    // The same where that is an output.
+    pub fn with_output(w: &'a [u8], need: usize, room: usize) -> Result<Word<'a>, Refusal>
+        ensures number { result_number result ≡ refusal_into_of w.now need room }
+        ensures same { IfOk result (λ word. word.bytes.now ≡ w.now) }
+        ensures fits { IfOk result (λ word. need ≤ room) }
+    {
+        Word::with_room(w, Refusal::OutputTooShort, need, room)
+    }
 }

@@ -8,7 +8,7 @@ use lib.ListN.{length, replicate}
 use Rattle.encoding.specs.Encoding.{encode, encode_all, decode, continuation}
 use Rattle.encoding.specs.Validity.{table37, due, refused, lead_in, lead, next, accepts, is_text}
 use Rattle.utf8.specs.Characters.{width, goes_on_of, last_width_of, char_at, last_char, before_within, before}
-use Rattle.turkish.specs.declared.answer.FoldAnswer.{FoldAnswer}
+use Rattle.turkish.specs.declared.answer.LengthAnswer.{LengthAnswer}
 use Rattle.turkish.specs.Letters.{text}
 use Rattle.turkish.specs.Fold.{capitals01, capitals, fold_by, fold_char, fold}
 use Rattle.turkish.specs.Calls.{chars, bytes, limit, refusal, refusal_short_of, accepted, written, fold_text, fold_refusal, fold_call, fold_out}
@@ -24,7 +24,7 @@ row h s = record { heading = h; small = s }
 
 -- what a call leaves: its answer and its output
 pub record Given : Type 0 where
-  pub answer : FoldAnswer
+  pub answer : LengthAnswer
   pub output : List ℕ
 
 -- the fold of a heading into an output of `room` bytes, here stars

@@ -10,8 +10,8 @@ use lib.ListN.{length}
 use Rattle.encoding.specs.Encoding.{encode, encode_all, decode, continuation}
 use Rattle.encoding.specs.Validity.{table37, due, refused, lead_in, lead, next, accepts, is_text}
 use Rattle.utf8.specs.Characters.{width, goes_on_of, last_width_of, char_at, last_char, before_within, before}
-use Rattle.turkish.specs.declared.answer.NounAnswer.{NounAnswer}
-use Rattle.turkish.specs.declared.answer.WholeAnswer.{WholeAnswer}
+use Rattle.turkish.specs.declared.answer.TextAnswer.{TextAnswer}
+use Rattle.turkish.specs.declared.answer.LengthAnswer.{LengthAnswer}
 use Rattle.turkish.specs.Letters.{text, from_end, any, has, starts}
 use Rattle.turkish.specs.Snowball.{ahead, place, limit as text_limit, move_to, with_slice, with_flag, with_strlen, with_found, with_text, and_then, or_else, tested, negated, either_way}
 use Rattle.turkish.specs.Snowball.{carried_out, read_if, is_left, is_in, is_outside, letters, longer, longest, key_ahead, fits, go_past, one_turn, at_least, deep, place_after, slice_from}
@@ -34,8 +34,8 @@ pub data Row : Type 0 where
 
 -- what a call gives: its answer and its text
 pub data Given : Type 0 where
-  by_noun : NounAnswer → List ℕ → Given
-  by_whole : WholeAnswer → List ℕ → Given
+  by_noun : TextAnswer → List ℕ → Given
+  by_whole : LengthAnswer → List ℕ → Given
 
 -- what the call of a row gives
 unfoldable pub found : Row → Given

@@ -9,7 +9,7 @@ use Rattle.encoding.specs.Validity.{table37, due, refused, lead_in, lead, next, 
 use Rattle.utf8.specs.Characters.{width, goes_on_of, last_width_of, char_at, last_char, before_within, before}
 use Rattle.utf8.specs.Steps.{same}
 use Rattle.turkish.specs.declared.answer.PiecesAnswer.{PiecesAnswer}
-use Rattle.turkish.specs.declared.answer.PiecesTextAnswer.{PiecesTextAnswer}
+use Rattle.turkish.specs.declared.answer.LengthAnswer.{LengthAnswer}
 use Rattle.turkish.specs.declared.endings.Joining.TheVariants.{WithY, AfterVowel}
 use Rattle.turkish.specs.declared.endings.Kind.{Kind}
 use Rattle.turkish.specs.declared.endings.Kind.TheVariants.{YUm, SUn, YUz, SUnUz, LAr, NUz, DUr, CAsInA, YDU, YsA, YmUs, Yken}
@@ -94,7 +94,7 @@ Formed fs =
 -- what the two calls answer for a word of bytes and a buffer of so many
 pub record Answered : Type 0 where
   pub pieces : PiecesAnswer
-  pub lines : PiecesTextAnswer
+  pub lines : LengthAnswer
 
 unfoldable pub answered : List ℕ → ℕ → ℕ → Answered
 answered w room textroom = record { pieces = pieces_call w room; lines = pieces_text_call w textroom }

@@ -9,7 +9,7 @@ use lib.ListN.{length}
 use Rattle.encoding.specs.Encoding.{encode, encode_all, decode, continuation}
 use Rattle.encoding.specs.Validity.{table37, due, refused, lead_in, lead, next, accepts, is_text}
 use Rattle.utf8.specs.Characters.{width, goes_on_of, last_width_of, char_at, last_char, before_within, before}
-use Rattle.turkish.specs.declared.answer.PostludeAnswer.{PostludeAnswer}
+use Rattle.turkish.specs.declared.answer.TextAnswer.{TextAnswer}
 use Rattle.turkish.specs.declared.answer.PassAnswer.{PassAnswer}
 use Rattle.turkish.specs.Letters.{text, from_end, any, has, starts}
 use Rattle.turkish.specs.Snowball.{ahead, place, limit as text_limit, move_to, with_slice, with_flag, with_strlen, with_found, with_text, and_then, or_else, tested, negated, either_way, carried_out, read_if, is_left, is_in, letters, longer, longest, key_ahead, fits, go_past, one_turn, at_least, place_after, slice_from, shifted, inserted, turned, turned_back, enough, run}
@@ -32,7 +32,7 @@ pub data Row : Type 0 where
 -- what a call gives: its answer, the stage's as far as document 01 knows it, and its text
 pub data Given : Type 0 where
   by_stage : ℕ → ℕ → Bool → Bool → List ℕ → Given
-  by_postlude : PostludeAnswer → List ℕ → Given
+  by_postlude : TextAnswer → List ℕ → Given
   by_pass : PassAnswer → List ℕ → Given
 
 -- what the call of a row gives

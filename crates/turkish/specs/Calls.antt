@@ -7,11 +7,9 @@ use Rattle.encoding.specs.Validity.{is_text}
 use Rattle.utf8.specs.Characters.{before}
 use Rattle.turkish.specs.declared.answer.SyllableAnswer.{SyllableAnswer}
 use Rattle.turkish.specs.declared.answer.StageAnswer.{StageAnswer}
-use Rattle.turkish.specs.declared.answer.PostludeAnswer.{PostludeAnswer}
-use Rattle.turkish.specs.declared.answer.FoldAnswer.{FoldAnswer}
+use Rattle.turkish.specs.declared.answer.TextAnswer.{TextAnswer}
+use Rattle.turkish.specs.declared.answer.LengthAnswer.{LengthAnswer}
 use Rattle.turkish.specs.declared.answer.PassAnswer.{PassAnswer}
-use Rattle.turkish.specs.declared.answer.NounAnswer.{NounAnswer}
-use Rattle.turkish.specs.declared.answer.WholeAnswer.{WholeAnswer}
 use Rattle.turkish.specs.Answers.{syllable_check, suffix_stage, postlude_of, noun_stage, whole_run}
 use Rattle.turkish.specs.Heard.{Heard, unheard, heard, is_heard, loan_in}
 use Rattle.turkish.specs.Pieces.{stage_heard}
@@ -106,7 +104,7 @@ postlude_text w = bytes (postlude_of (chars w)).text
 unfoldable pub postlude_refusal : List ℕ → ℕ → ℕ
 postlude_refusal w room = refusal_into_of w (length w + 2) room
 
-unfoldable pub postlude_call : List ℕ → ℕ → PostludeAnswer
+unfoldable pub postlude_call : List ℕ → ℕ → TextAnswer
 postlude_call w room =
     cond (eqb (postlude_refusal w room) 0)
     (record { refusal = 0; length = length (postlude_text w); yes = (postlude_of (chars w)).yes })
@@ -123,7 +121,7 @@ fold_text w = bytes (fold (chars w))
 unfoldable pub fold_refusal : List ℕ → ℕ → ℕ
 fold_refusal w room = refusal_into_of w (length (fold_text w)) room
 
-unfoldable pub fold_call : List ℕ → ℕ → FoldAnswer
+unfoldable pub fold_call : List ℕ → ℕ → LengthAnswer
 fold_call w room =
     cond (eqb (fold_refusal w room) 0)
     (record { refusal = 0; length = length (fold_text w) })
@@ -157,7 +155,7 @@ noun_text w = bytes (noun_stage (chars w)).text
 unfoldable pub noun_refusal : List ℕ → ℕ → ℕ
 noun_refusal w room = refusal_into_of w (length w) room
 
-unfoldable pub noun_call : List ℕ → ℕ → NounAnswer
+unfoldable pub noun_call : List ℕ → ℕ → TextAnswer
 noun_call w room =
     cond (eqb (noun_refusal w room) 0)
     (record { refusal = 0; length = length (noun_text w); yes = (noun_stage (chars w)).yes })
@@ -174,7 +172,7 @@ whole_text w = bytes (whole_run (chars w))
 unfoldable pub whole_refusal : List ℕ → ℕ → ℕ
 whole_refusal w room = refusal_into_of w (length w + 2) room
 
-unfoldable pub whole_call : List ℕ → ℕ → WholeAnswer
+unfoldable pub whole_call : List ℕ → ℕ → LengthAnswer
 whole_call w room =
     cond (eqb (whole_refusal w room) 0)
     (record { refusal = 0; length = length (whole_text w) })

@@ -3,7 +3,7 @@
 use Rattle.std.specs.Prelude.{ℕ, ◌+◌, ◌-◌, ◌≡◌, cond, length, take, drop, eqb}
 use mathlib.Core.List.{List, [], ◌∷◌, ◌++◌, map, Permᴰ}
 use Rattle.turkish.specs.declared.answer.PiecesAnswer.{PiecesAnswer}
-use Rattle.turkish.specs.declared.answer.PiecesTextAnswer.{PiecesTextAnswer}
+use Rattle.turkish.specs.declared.answer.LengthAnswer.{LengthAnswer}
 use Rattle.turkish.specs.declared.endings.Joining.{Joining}
 use Rattle.turkish.specs.declared.endings.Joining.TheVariants.{WithY, AfterVowel}
 use Rattle.turkish.specs.declared.endings.Kind.{Kind}
@@ -146,7 +146,7 @@ text_of w (p ∷ ps) = piece_line w p ++ text_of w ps
 unfoldable pub pieces_text_refusal : List ℕ → ℕ → ℕ
 pieces_text_refusal w room = piece_refusal w text_room room
 
-unfoldable pub pieces_text_call : List ℕ → ℕ → PiecesTextAnswer
+unfoldable pub pieces_text_call : List ℕ → ℕ → LengthAnswer
 pieces_text_call w room =
     cond (eqb (pieces_text_refusal w room) 0)
     (record { refusal = 0; length = length (text_of w (spans_of w)) })

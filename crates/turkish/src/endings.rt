@@ -42,11 +42,10 @@ impl Piece {
     };
 }
 
-// What the suffix stage removed: the kept text's length in bytes, and so many pieces; entries past them are UNUSED. A refused call has
-// its number and no pieces.
+// What the suffix stage removed: the kept text's length in bytes, and so many pieces; entries past them are UNUSED.
+// A count and no Option in each entry: readers take `pieces[..count]` as one slice, and `Lists` speaks of its front.
 #[derive(Clone, Copy)]
 pub struct Removed {
-    pub refusal: u32,
     pub length: usize,
     pub count: usize,
     pub pieces: [Piece; 3],

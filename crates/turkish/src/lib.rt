@@ -3,4 +3,6 @@
 
 pub mod answer;
 pub mod endings;
+pub mod refusal;
+pub mod reply;
 pub mod summary;

@@ -9,7 +9,7 @@ use lib.Seq.{take-append_seam}
 use lib.Dec.{eqb}
 use borrow.Author.Tests.{eqb-true}
 use Rattle.encoding.proofs.Laws.Booleans.{and-false, cond_cases}
-use Rattle.turkish.specs.declared.answer.FoldAnswer.{FoldAnswer}
+use Rattle.turkish.specs.declared.answer.LengthAnswer.{LengthAnswer}
 use Rattle.turkish.specs.Calls.{limit, accepted, written, fold_text, fold_refusal, fold_call, fold_out}
 use Rattle.theorems.proofs.Laws.Accepted.{accepted-iff}
 use Rattle.theorems.proofs.Folds.{fold_text-doubled}
@@ -40,10 +40,10 @@ listed-refused folded w n = rw (n, and-false folded)
 fold_call-number : (w : List ℕ) (room : ℕ) → (fold_call w room).refusal ≡ fold_refusal w room
 unfolding fold_call
 fold_call-number w room =
-    cond_cases (λ (x : FoldAnswer). x.refusal ≡ fold_refusal w room) (eqb (fold_refusal w room) 0) (λ t. sym (eqb-true (fold_refusal w room) 0 t)) (λ t. refl)
+    cond_cases (λ (x : LengthAnswer). x.refusal ≡ fold_refusal w room) (eqb (fold_refusal w room) 0) (λ t. sym (eqb-true (fold_refusal w room) 0 t)) (λ t. refl)
 
 -- f is answered and o left of an output with room for twice the limit
-module _ (w out o : List ℕ) (f : FoldAnswer) (room : 2 * limit ≤ length out) (e : (f ≡ fold_call w (length out)) × (o ≡ fold_out w out)) where
+module _ (w out o : List ℕ) (f : LengthAnswer) (room : 2 * limit ≤ length out) (e : (f ≡ fold_call w (length out)) × (o ≡ fold_out w out)) where
   -- an accepted word's folded text always fits
   given : accepted w ≡ true → (record { refusal = 0; length = length (fold_text w) } ≡ f) × (written (fold_text w) out ≡ o)
   given ok =
@@ -56,14 +56,14 @@ module _ (w out o : List ℕ) (f : FoldAnswer) (room : 2 * limit ≤ length out)
   call-refused h = sym (listed-refused true w (go (accepted w) refl))
     where
       go : (t : Bool) → accepted w ≡ t → accepted w ≡ false
-      go true ok = absurd (h (sym (ap (λ (x : FoldAnswer). x.refusal) (given ok).0)))
+      go true ok = absurd (h (sym (ap (λ (x : LengthAnswer). x.refusal) (given ok).0)))
       go false n = n
 
   -- with none the word is accepted
   module _ (z : f.refusal ≡ 0) where
     ok : accepted w ≡ true
     unfolding fold_refusal
-    ok = into-accepted w (length (fold_text w)) (length out) f.refusal (ap (λ (x : FoldAnswer). x.refusal) e.0 ∙ fold_call-number w (length out)) z
+    ok = into-accepted w (length (fold_text w)) (length out) f.refusal (ap (λ (x : LengthAnswer). x.refusal) e.0 ∙ fold_call-number w (length out)) z
 
     -- the length is within the output
     pub call_fits : f.length ≤ length o

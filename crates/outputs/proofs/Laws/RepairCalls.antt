@@ -12,7 +12,7 @@ use borrow.Author.Tests.{ne_eqb}
 use Rattle.utf8.specs.Characters.{before}
 use Rattle.encoding.specs.Text.{TextOf}
 use Rattle.utf8.proofs.Laws.Characters.{back-le, before_back}
-use Rattle.turkish.specs.declared.answer.PostludeAnswer.{PostludeAnswer}
+use Rattle.turkish.specs.declared.answer.TextAnswer.{TextAnswer}
 use Rattle.turkish.specs.declared.answer.PassAnswer.{PassAnswer}
 use Rattle.theorems.specs.Simple.Harmony.{more_than_one_syllable}
 use Rattle.theorems.specs.Simple.Stage.{stage, kept, kept_length}
@@ -90,7 +90,7 @@ module _ (w out : List ℕ) (n : ℕ) (e : n ≡ refusal_into_of w (length w + 2
 
   -- a refused call gives its number and leaves the output
   pub postlude_call-postlude_out-refused : (n ≡ 0 → ⊥)
-      → (◌≡◌ {A = PostludeAnswer} (record { refusal = n; length = 0; yes = false }) (postlude_call w (length out)))
+      → (◌≡◌ {A = TextAnswer} (record { refusal = n; length = 0; yes = false }) (postlude_call w (length out)))
       × (out ≡ postlude_out w out)
   unfolding postlude_call postlude_out postlude_refusal
   postlude_call-postlude_out-refused h = (rw (← e, ne_eqb n 0 h), rw (← e, ne_eqb n 0 h))
@@ -98,7 +98,7 @@ module _ (w out : List ℕ) (n : ℕ) (e : n ≡ refusal_into_of w (length w + 2
   -- any other gives the length of the repair's text, and leaves it written
   pub postlude_call-postlude_out-given : n ≡ 0 → (r : Repair) → r ≡ repair_of w (length w)
       → (k : ℕ) (last : List ℕ) → k ≡ length (repair_text w r) → last ≡ written (repair_text w r) out
-      → (◌≡◌ {A = PostludeAnswer} (record { refusal = 0; length = k; yes = r.yes }) (postlude_call w (length out)))
+      → (◌≡◌ {A = TextAnswer} (record { refusal = 0; length = k; yes = r.yes }) (postlude_call w (length out)))
       × (last ≡ postlude_out w out)
   unfolding postlude_call postlude_out postlude_refusal chars
   postlude_call-postlude_out-given z r q k last l o =

@@ -2,15 +2,15 @@
 use Prim.Native.Nat.{ℕ, ◌≤◌}
 use mathlib.Core.Path.{◌≡◌, refl, sym, ◌∙◌}
 use mathlib.Core.Bool.{true}
-use mathlib.Core.List.{List, [], ◌∷◌, map, Permᴰ}
+use mathlib.Core.List.{List, [], map, Permᴰ}
 use native.Mathlib.Omega.{arith}
 use lib.ListN.{length, take}
-use borrow.Author.Tests.{eq-eqb, ne_eqb}
+use borrow.Author.Tests.{ne_eqb}
 use Rattle.turkish.specs.declared.answer.PiecesAnswer.{PiecesAnswer}
-use Rattle.turkish.specs.declared.answer.PiecesTextAnswer.{PiecesTextAnswer}
+use Rattle.turkish.specs.declared.answer.LengthAnswer.{LengthAnswer}
 use Rattle.turkish.specs.declared.endings.Removed.{Removed}
-use Rattle.turkish.specs.Calls.{accepted, refusal, refusal_short_of, written, stage_call}
-use Rattle.turkish.specs.PieceCalls.{Span, spans_of, InSomeOrder, piece_refusal, given, told, unused, Lists, pieces_room, buffer, buffer_of, pieces_refusal, pieces_call, PiecesOut}
+use Rattle.turkish.specs.Calls.{accepted, refusal_short_of, written, stage_call}
+use Rattle.turkish.specs.PieceCalls.{Span, spans_of, InSomeOrder, piece_refusal, given, told, Lists, pieces_room, buffer, buffer_of, pieces_refusal, pieces_call, PiecesOut}
 use Rattle.turkish.specs.PieceCalls.{text_room, text_of, pieces_text_refusal, pieces_text_call, PiecesTextOut}
 use Rattle.theorems.proofs.PieceTheorems.{text-fits}
 use Rattle.refusals.proofs.Laws.Refusals.{short-accepted, short-room}
@@ -30,28 +30,18 @@ as-they-are form ps e = record { order = ps; rearranged = mathlib.Core.List.Perm
 
 -- ---- the list ----
 
--- a word that has no number is accepted
-pub refusal-accepted : (w : List ℕ) → refusal w ≡ 0 → accepted w ≡ true
-unfolding accepted
-refusal-accepted w e = eq-eqb (refusal w) 0 e
+-- the list of an accepted word
+module _ (w : List ℕ) (a : accepted w ≡ true) {r : Removed} (m : r ≡ removed_of w) where
+  -- has the kept text's length
+  pub listed-length : r.length ≡ (stage_call w).length
+  unfolding stage_call
+  listed-length = rw (a, m) (length_removed w a)
 
--- a refused word has no pieces
-pub lists-refused : (w : List ℕ) (n : ℕ) → n ≡ refusal w → (n ≡ 0 → ⊥)
-    → (n ≡ refusal w) × (0 ≡ (stage_call w).length) × Lists (given w (refusal w)) 0 (unused ∷ unused ∷ unused ∷ [])
-unfolding stage_call accepted given
-lists-refused w n e h =
-    let no = ne_eqb n 0 h in
-    (e, rw (← e, no), rw (← e, no) (record { counted = refl; rearranged = mathlib.Core.List.Permᴰ.nil; others = refl }))
-
--- any other has its own
-pub lists-given : (w : List ℕ) (n : ℕ) → n ≡ refusal w → n ≡ 0 → {r : Removed} → r ≡ removed_of w
-    → (r.refusal ≡ refusal w) × (r.length ≡ (stage_call w).length) × Lists (given w (refusal w)) r.count r.pieces
-unfolding stage_call accepted given removed_of
-lists-given w n e z m =
-    let none : refusal w ≡ 0 = sym e ∙ z in
-    let a = refusal-accepted w none in
-    let all : Permᴰ (spans_of w) (map told (take (removed_of w).count (removed_of w).pieces)) = rw (told-removed w a) (mathlib.Core.List.Permᴰ.refl (spans_of w)) in
-    rw (m, none) (refl, length_removed w a, record { counted = counted-removed w a; rearranged = all; others = others-removed w })
+  -- and the word's pieces
+  pub listed-pieces : Lists (spans_of w) r.count r.pieces
+  listed-pieces =
+      let all : Permᴰ (spans_of w) (map told (take (removed_of w).count (removed_of w).pieces)) = rw (told-removed w a) (mathlib.Core.List.Permᴰ.refl (spans_of w)) in
+      rw m (record { counted = counted-removed w a; rearranged = all; others = others-removed w })
 
 -- ---- the buffer ----
 
@@ -79,7 +69,7 @@ module _ (w out : List ℕ) (n : ℕ) (e : n ≡ refusal_short_of 5 w 9 (length 
 module _ (w out : List ℕ) (n : ℕ) (e : n ≡ refusal_short_of 5 w 96 (length out)) where
   -- a refused call gives its number and leaves the buffer
   pub pieces_text_call-refused : (n ≡ 0 → ⊥)
-      → (◌≡◌ {A = PiecesTextAnswer} (record { refusal = n; length = 0 }) (pieces_text_call w (length out))) × PiecesTextOut w out out
+      → (◌≡◌ {A = LengthAnswer} (record { refusal = n; length = 0 }) (pieces_text_call w (length out))) × PiecesTextOut w out out
   unfolding pieces_text_call pieces_text_refusal piece_refusal text_room given text_of
   pieces_text_call-refused h =
       let no = ne_eqb n 0 h in
@@ -96,7 +86,7 @@ module _ (w out : List ℕ) (n : ℕ) (e : n ≡ refusal_short_of 5 w 96 (length
 
     -- any other call gives the length of the lines, and leaves them written
     pub pieces_text_call-given : {k : ℕ} {last : List ℕ} → let t = text_of w (map told (take r.count r.pieces)) in k ≡ length t → last ≡ written t out
-        → (◌≡◌ {A = PiecesTextAnswer} (record { refusal = 0; length = k }) (pieces_text_call w (length out))) × PiecesTextOut w out last
+        → (◌≡◌ {A = LengthAnswer} (record { refusal = 0; length = k }) (pieces_text_call w (length out))) × PiecesTextOut w out last
     unfolding pieces_text_call pieces_text_refusal piece_refusal text_room given
     pieces_text_call-given l o =
         let a = short-accepted 5 w 96 (length out) n (omega arith) e z in

@@ -61,7 +61,7 @@ others-removed w =
 pub made-removed : (w : List ℕ) {o : Outcome} {n i j : ℕ} {p q r : Piece} → o ≡ outcome_of w → n ≡ count_of o.way.trail
     → i ≡ start_of o.way.trail.first → j ≡ start_of o.way.trail.second
     → p ≡ piece_of w o.way.trail.first (length w) → q ≡ piece_of w o.way.trail.second i → r ≡ piece_of w o.way.trail.third j
-    → record { refusal = 0; length = o.kept; count = n; pieces = p ∷ q ∷ r ∷ [] } ≡ removed_of w
+    → record { length = o.kept; count = n; pieces = p ∷ q ∷ r ∷ [] } ≡ removed_of w
 unfolding removed_of entries_of
 made-removed w e n i j p q r = rw (n, p, q, r, i, j, e)
 

@@ -1,13 +1,19 @@
 -- Which number a call into a lent output gives, each test's answer as a fact about the word and the room.
 -- Assumes nothing.
 use Prim.Native.Nat.{ℕ, zero, suc, ◌≤◌, ◌<◌}
-use mathlib.Core.Path.{◌≡◌, refl, sym, ◌∙◌}
+use mathlib.Core.Path.{◌≡◌, refl, sym, ap, ◌∙◌}
 use mathlib.Core.Bool.{Bool, true, false, cond}
 use mathlib.Core.List.{List}
 use native.Mathlib.Omega.{arith}
 use lib.Dec.{eqb, ltb, eqb-suc-zero}
 use borrow.Author.Tests.{lt-ltb, le-ltb, ltb-false, eq-eqb, ne_eqb}
+use Rattle.std.specs.Prelude.{Result, Ok, Err, IsErr, IsErrAnd}
 use Rattle.turkish.specs.Calls.{refusal, refusal_short_of, refusal_into_of, accepted}
+
+-- an error that `?` hands on is the one that it found
+pub raised : {A E : Type 0} (r : Result A E) (e : E) → IsErr r × IsErrAnd r (λ x. x ≡ e) → r ≡ Err e
+raised (Ok x) e h = absurd h.1
+raised (Err d) e h = ap Err h.1
 
 module _ (number : ℕ) (w : List ℕ) (need room n : ℕ) (e : n ≡ refusal w) where
   -- the number that the word has comes first

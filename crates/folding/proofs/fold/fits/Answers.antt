@@ -6,13 +6,13 @@ use Rattle.folding.proofs.fold.fits.Goals as goal
 
 pub overflow_mul-w : goal.overflow_mul-w
 unfolding limit
-overflow_mul-w c = omega (arith, accepted-limit c.args.w.now c.requires)
+overflow_mul-w c = omega (arith, accepted-limit c.args.w.bytes.now c.args.w.is_accepted)
 
 pub returns-then-w-room : goal.returns-then-w-room
-returns-then-w-room c = fits-twice c.args.w.now c.requires _ c.if-w-room.true
+returns-then-w-room c = fits-twice c.args.w.bytes.now c.args.w.is_accepted _ c.if-w-room.true
 
 pub folded_length-requires : goal.folded_length-requires
-folded_length-requires c = accepted-limit c.args.w.now c.requires
+folded_length-requires c = accepted-limit c.args.w.bytes.now c.args.w.is_accepted
 
 pub returns : goal.returns
-returns c = fits-measured c.args.w.now c.requires _ _ c.folded_length.ensures
+returns c = fits-measured c.args.w.bytes.now c.args.w.is_accepted _ _ c.folded_length.ensures

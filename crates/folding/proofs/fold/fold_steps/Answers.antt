@@ -3,22 +3,19 @@
 use Rattle.folding.proofs.Laws.FoldCall.{fold_bytes-accepted, fold-short, fold-given, not-fitting, fitting}
 use Rattle.folding.proofs.fold.fold_steps.Goals as goal
 
-pub fits-requires : goal.fits-requires
-fits-requires c = c.requires
-
 pub returns-then-not-fits : goal.returns-then-not-fits
 returns-then-not-fits c =
-    let p = fold-short c.args.w.now c.requires c.args.out.now (not-fitting _ _ _ c.fits.ensures c.if-not-fits.true-raw) in
+    let p = fold-short c.args.w.bytes.now c.args.w.is_accepted c.args.out.now (not-fitting _ _ _ c.fits.ensures c.if-not-fits.true-raw) in
     record { value = p.0; out_after = p.1 }
 
-pub write_steps-length-requires : goal.write_steps-length-requires
-write_steps-length-requires c =
-    rw (fold_bytes-accepted c.args.w.now c.requires) (fitting _ _ _ c.fits.ensures c.if-not-fits.false-raw)
+pub write_steps-requires : goal.write_steps-requires
+write_steps-requires c =
+    rw (fold_bytes-accepted c.args.w.bytes.now c.args.w.is_accepted) (fitting _ _ _ c.fits.ensures c.if-not-fits.false-raw)
 
 pub returns : goal.returns
 returns c =
     let room = fitting _ _ _ c.fits.ensures c.if-not-fits.false-raw in
-    let length-told = rw (fold_bytes-accepted c.args.w.now c.requires) at c.write_steps-length.ensures.value in
-    let written = rw (fold_bytes-accepted c.args.w.now c.requires) at c.write_steps-length.ensures.out_after in
-    let p = fold-given c.args.w.now c.requires c.args.out.now _ _ room length-told written in
+    let length-told = rw (fold_bytes-accepted c.args.w.bytes.now c.args.w.is_accepted) at c.write_steps.ensures.value in
+    let written = rw (fold_bytes-accepted c.args.w.bytes.now c.args.w.is_accepted) at c.write_steps.ensures.out_after in
+    let p = fold-given c.args.w.bytes.now c.args.w.is_accepted c.args.out.now _ _ room length-told written in
     record { value = p.0; out_after = p.1 }

@@ -12,33 +12,32 @@ use Rattle.lines.proofs.line.put_fields.Goals as goal
 pub put_bytes-a-requires : goal.put_bytes-a-requires
 unfolding line_room
 put_bytes-a-requires c =
-    let sizes = fields-sizes _ _ c.requires.w_value c.stem_nominal_verb_suffixes-s.ensures in
+    let sizes = fields-sizes _ _ c.args.word.is_accepted c.stem_nominal_verb_suffixes-s.ensures in
     record { n_in_bounds = omega arith; n_in_bounds_2 = omega arith }
 
 pub put_answers-b-requires : goal.put_answers-b-requires
 unfolding line_room
 put_answers-b-requires c =
-    let sizes = fields-sizes _ _ c.requires.w_value c.stem_nominal_verb_suffixes-s.ensures in
+    let sizes = fields-sizes _ _ c.args.word.is_accepted c.stem_nominal_verb_suffixes-s.ensures in
     omega arith
 
 pub put_bytes-c-requires : goal.put_bytes-c-requires
 unfolding line_room
 put_bytes-c-requires c =
-    let sizes = fields-sizes _ _ c.requires.w_value c.stem_nominal_verb_suffixes-s.ensures in
+    let sizes = fields-sizes _ _ c.args.word.is_accepted c.stem_nominal_verb_suffixes-s.ensures in
     record { n_in_bounds = omega arith; n_in_bounds_2 = omega arith }
 
 pub put_byte-d-requires : goal.put_byte-d-requires
 unfolding line_room
 put_byte-d-requires c =
-    let sizes = fields-sizes _ _ c.requires.w_value c.stem_nominal_verb_suffixes-s.ensures in
+    let sizes = fields-sizes _ _ c.args.word.is_accepted c.stem_nominal_verb_suffixes-s.ensures in
     omega (arith, c.requires)
 
 pub put_pass-e-requires : goal.put_pass-e-requires
 unfolding chars line_room
 put_pass-e-requires c =
-    let sizes = fields-sizes _ _ c.requires.w_value c.stem_nominal_verb_suffixes-s.ensures in
+    let sizes = fields-sizes _ _ c.args.word.is_accepted c.stem_nominal_verb_suffixes-s.ensures in
     record {
-      w_value = c.requires.w_value;
       syllable_value = c.more_than_one_syllable_word-syllable.ensures;
       s_value = c.stem_nominal_verb_suffixes-s.ensures;
       w_in_bounds = omega (arith, c.requires);
@@ -47,15 +46,14 @@ put_pass-e-requires c =
 pub put_byte-f-requires : goal.put_byte-f-requires
 unfolding line_room
 put_byte-f-requires c =
-    let sizes = fields-sizes _ _ c.requires.w_value c.stem_nominal_verb_suffixes-s.ensures in
+    let sizes = fields-sizes _ _ c.args.word.is_accepted c.stem_nominal_verb_suffixes-s.ensures in
     omega (arith, c.requires)
 
 pub put_whole-g-requires : goal.put_whole-g-requires
 unfolding chars line_room
 put_whole-g-requires c =
-    let sizes = fields-sizes _ _ c.requires.w_value c.stem_nominal_verb_suffixes-s.ensures in
+    let sizes = fields-sizes _ _ c.args.word.is_accepted c.stem_nominal_verb_suffixes-s.ensures in
     record {
-      w_value = c.requires.w_value;
       syllable_value = c.more_than_one_syllable_word-syllable.ensures;
       s_value = c.stem_nominal_verb_suffixes-s.ensures;
       w_in_bounds = omega (arith, c.requires);
@@ -64,16 +62,16 @@ put_whole-g-requires c =
 pub put_byte-requires : goal.put_byte-requires
 unfolding line_room
 put_byte-requires c =
-    let sizes = fields-sizes _ _ c.requires.w_value c.stem_nominal_verb_suffixes-s.ensures in
+    let sizes = fields-sizes _ _ c.args.word.is_accepted c.stem_nominal_verb_suffixes-s.ensures in
     omega (arith, c.requires)
 
 pub returns : goal.returns
 unfolding chars tab lf line_room
 returns c =
-    let w = c.args.w.now in
+    let w = c.args.word.bytes.now in
     let q = c.stem_nominal_verb_suffixes-s.ensures in
-    let sizes = fields-sizes _ _ c.requires.w_value q in
-    let p = wrote-all (fields-parts _ _ _ c.requires.w_value c.more_than_one_syllable_word-syllable.ensures q)
+    let sizes = fields-sizes _ _ c.args.word.is_accepted q in
+    let p = wrote-all (fields-parts _ _ _ c.args.word.is_accepted c.more_than_one_syllable_word-syllable.ensures q)
     (wrote-byte _
     (wrote-text (whole_text w) _ refl
     (wrote-byte _

@@ -11,8 +11,8 @@ use Rattle.lines.proofs.line.put_pass.Goals as goal
 
 pub returns-then-not-syllable : goal.returns-then-not-syllable
 returns-then-not-syllable c =
-    let p = wrote-all (pass_text-short _ c.requires.w_value _ c.requires.syllable_value (not-true _ c.if-not-syllable.true-raw))
-    (wrote-whole c.args.w.now (wrote_nothing (omega arith)) (c.put_bytes.ensures.value, c.put_bytes.ensures.out_after)) in
+    let p = wrote-all (pass_text-short _ c.args.word.is_accepted _ c.requires.syllable_value (not-true _ c.if-not-syllable.true-raw))
+    (wrote-whole c.args.word.bytes.now (wrote_nothing (omega arith)) (c.put_bytes.ensures.value, c.put_bytes.ensures.out_after)) in
     record { value = p.0; out_after = p.1 }
 
 pub put_bytes-requires-then-not-s : goal.put_bytes-requires-then-not-s
@@ -23,7 +23,7 @@ put_bytes-requires-then-not-s c =
 pub returns-then-not-s : goal.returns-then-not-s
 returns-then-not-s c =
     let pre = c.requires in
-    let p = wrote-all (pass_text-cut _ pre.w_value _ pre.syllable_value _ pre.s_value (not-false _ c.if-not-syllable.false-raw) (not-true _ c.if-not-s.true))
+    let p = wrote-all (pass_text-cut _ c.args.word.is_accepted _ pre.syllable_value _ pre.s_value (not-false _ c.if-not-syllable.false-raw) (not-true _ c.if-not-s.true))
     (wrote-bytes _ _ (kept-le _ _ pre.s_value) (wrote_nothing (omega (arith, kept-le _ _ pre.s_value))) (c.put_bytes-then-not-s.ensures.value, c.put_bytes-then-not-s.ensures.out_after)) in
     record { value = p.0; out_after = p.1 }
 
@@ -40,6 +40,6 @@ pub returns : goal.returns
 returns c =
     let pre = c.requires in
     let short = not-false _ c.if-not-syllable.false-raw in let p = put-equal _ _
-    (pass_text-repaired _ pre.w_value _ pre.syllable_value _ pre.s_value short (not-false _ c.if-not-s.false) _ c.postlude.ensures)
+    (pass_text-repaired _ c.args.word.is_accepted _ pre.syllable_value _ pre.s_value short (not-false _ c.if-not-s.false) _ c.postlude.ensures)
     (c.put_repair.ensures.value, c.put_repair.ensures.out_after) in
     record { value = p.0; out_after = p.1 }

@@ -10,8 +10,8 @@ use Rattle.lines.proofs.line.put_whole.Goals as goal
 
 pub returns-then-not-syllable : goal.returns-then-not-syllable
 returns-then-not-syllable c =
-    let p = wrote-all (whole_text-one _ c.requires.w_value _ c.requires.syllable_value (not-true _ c.if-not-syllable.true-raw))
-    (wrote-whole c.args.w.now (wrote_nothing (omega arith)) (c.put_bytes.ensures.value, c.put_bytes.ensures.out_after)) in
+    let p = wrote-all (whole_text-one _ c.args.word.is_accepted _ c.requires.syllable_value (not-true _ c.if-not-syllable.true-raw))
+    (wrote-whole c.args.word.bytes.now (wrote_nothing (omega arith)) (c.put_bytes.ensures.value, c.put_bytes.ensures.out_after)) in
     record { value = p.0; out_after = p.1 }
 
 pub put_run-requires : goal.put_run-requires
@@ -22,6 +22,6 @@ put_run-requires c =
 pub returns : goal.returns
 returns c =
     let pre = c.requires in let p = put-equal _ _
-    (whole_text-run _ pre.w_value _ pre.syllable_value (not-false _ c.if-not-syllable.false-raw) _ c.whole_of.ensures)
+    (whole_text-run _ c.args.word.is_accepted _ pre.syllable_value (not-false _ c.if-not-syllable.false-raw) _ c.whole_of.ensures)
     (c.put_run.ensures.value, c.put_run.ensures.out_after) in
     record { value = p.0; out_after = p.1 }

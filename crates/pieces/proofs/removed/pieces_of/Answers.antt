@@ -5,13 +5,13 @@ use Rattle.pieces.proofs.removed.pieces_of.Goals as goal
 
 -- the marks stand where their pieces are made, seen from before the first
 pub piece_of-first-requires : goal.piece_of-first-requires
-piece_of-first-requires c = (stands-outcome _ c.requires c.stem_nominal_verb_suffixes-o.ensures).first
+piece_of-first-requires c = (stands-outcome _ c.args.w.is_accepted c.stem_nominal_verb_suffixes-o.ensures).first
 
 pub piece_of-second-requires : goal.piece_of-second-requires
-piece_of-second-requires c = rw c.start_of.ensures (stands-outcome _ c.requires c.stem_nominal_verb_suffixes-o.ensures).second
+piece_of-second-requires c = rw c.start_of.ensures (stands-outcome _ c.args.w.is_accepted c.stem_nominal_verb_suffixes-o.ensures).second
 
 pub piece_of-third-requires : goal.piece_of-third-requires
-piece_of-third-requires c = rw c.start_of-2.ensures (stands-outcome _ c.requires c.stem_nominal_verb_suffixes-o.ensures).third
+piece_of-third-requires c = rw c.start_of-2.ensures (stands-outcome _ c.args.w.is_accepted c.stem_nominal_verb_suffixes-o.ensures).third
 
 pub returns : goal.returns
 returns c =

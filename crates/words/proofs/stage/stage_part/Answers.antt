@@ -1,12 +1,13 @@
--- `words::stage::stage_part` meets its contract: the number found says which case of `stage_part_of` holds; the text kept lies within
+-- `words::stage::stage_part` meets its contract: whether the word is refused says which case of `stage_part_of` holds; the text kept lies within
 -- the word. Assumes nothing.
+use mathlib.Core.Path.{sym, ◌∙◌}
 use Rattle.stages.proofs.Laws.Kept.{kept-length-take}
 use Rattle.words.proofs.Laws.WordCalls.{stage_part_of-refused, stage_part_of-given}
 use native.Mathlib.Omega.{arith}
 use Rattle.words.proofs.stage.stage_part.Goals as goal
 
-pub returns-then-refusal_of-ne0 : goal.returns-then-refusal_of-ne0
-returns-then-refusal_of-ne0 c = stage_part_of-refused _ _ c.refusal_of.ensures c.if-refusal_of-ne0.true
+pub returns-then-refused : goal.returns-then-refused
+returns-then-refused c = stage_part_of-refused _ _ c.new.ensures.number (sym c.is_err-refused.ensures.value ∙ c.if-refused.true)
 
 pub slice_bounds-result-end-2 : goal.slice_bounds-result-end-2
 slice_bounds-result-end-2 c =
@@ -14,4 +15,4 @@ slice_bounds-result-end-2 c =
 
 pub returns : goal.returns
 returns c =
-    stage_part_of-given _ _ c.refusal_of.ensures c.if-refusal_of-ne0.false _ c.stem_nominal_verb_suffixes-s.ensures
+    stage_part_of-given _ _ c.new.ensures.number (sym c.is_err-refused.ensures.value ∙ c.if-refused.false) _ c.stem_nominal_verb_suffixes-s.ensures

@@ -1,10 +1,11 @@
--- `words::syllable::check_syllables` meets its contract: the number found says which case of `syllable_call` holds. Assumes
+-- `words::syllable::check_syllables` meets its contract: the refusal found, or none, says which case of `syllable_call` holds. Assumes
 -- nothing.
+use Rattle.refusals.proofs.Laws.Refusals.{raised}
 use Rattle.words.proofs.Laws.WordCalls.{syllable_call-refused, syllable_call-given}
 use Rattle.words.proofs.syllable.check_syllables.Goals as goal
 
-pub returns-then-n-ne0 : goal.returns-then-n-ne0
-returns-then-n-ne0 c = syllable_call-refused _ _ c.refusal_of-n.ensures c.if-n-ne0.true
+pub returns-in_err-new : goal.returns-in_err-new
+returns-in_err-new c = rw (raised _ _ c.from_residual.ensures) (syllable_call-refused _ _ c.in_err-new.ensures.number)
 
 pub returns : goal.returns
-returns c = syllable_call-given _ _ c.refusal_of-n.ensures c.if-n-ne0.false _ c.more_than_one_syllable_word.ensures
+returns c = syllable_call-given _ c.in_ok-new.ensures.number c.more_than_one_syllable_word.ensures

@@ -1,11 +1,11 @@
--- `batch::refusal::words_refusal` meets its contract: each test's answer is a law of `words_refusal_of`. Assumes nothing.
+-- `batch::refusal::check_words` meets its contract: each test's answer is a law of `words_refusal_of`. Assumes nothing.
 use mathlib.Core.Path.{sym, ◌∙◌}
 use native.Mathlib.Omega.{arith}
 use Rattle.turkish.specs.Calls.{limit}
 use Rattle.batch.proofs.Laws.Refusals.{is_text-tails, words-front-over, words-joined-over, words-front-no-text, words-tail-no-text, words-texts}
 use Rattle.batch.proofs.Laws.Tails.{survey-longest}
 use borrow.Author.Tests.{not-true, not-false}
-use Rattle.batch.proofs.refusal.words_refusal.Goals as goal
+use Rattle.batch.proofs.refusal.check_words.Goals as goal
 
 pub returns-then-front-gt-LIMIT : goal.returns-then-front-gt-LIMIT
 unfolding limit

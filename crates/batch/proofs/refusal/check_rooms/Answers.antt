@@ -1,7 +1,7 @@
--- `batch::refusal::rooms_refusal` meets its contract: each test's answer, and those before it, tell the number. Assumes nothing.
+-- `batch::refusal::check_rooms` meets its contract: each test's answer, and those before it, tell the number. Assumes nothing.
 use borrow.Author.Tests.{lt-ltb, le-ltb}
 use Rattle.batches.specs.BatchCalls.{most_tails, rooms_refusal_of}
-use Rattle.batch.proofs.refusal.rooms_refusal.Goals as goal
+use Rattle.batch.proofs.refusal.check_rooms.Goals as goal
 
 pub returns-then-lengths-lt-TAILS : goal.returns-then-lengths-lt-TAILS
 unfolding rooms_refusal_of most_tails
