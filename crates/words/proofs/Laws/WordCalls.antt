@@ -89,5 +89,5 @@ module _ (w : List ℕ) where
   stage_call-given e q p =
       let a = accepted-yes e in
       ap (λ (x : Stage). stage_answer (Ok x)) p ∙ rw (a, q, outcome-heard w a, told-harmony w (stage_heard (chars w)))
-      (heard_told w _ (stage_heard (chars w))
+      (heard_told w (told_of (outcome_of w)) (stage_heard (chars w))
       ∙ (unfold outcome_of in rw (stage_text-length w a, suffix_stage-yes (chars w), suffix_stage-flag (chars w))))
