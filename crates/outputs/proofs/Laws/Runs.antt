@@ -33,7 +33,6 @@ use Rattle.theorems.proofs.Laws.NounText.{staying, Rests, all, shorter, closer, 
 use Rattle.theorems.proofs.PostludeRules.{parted-postlude}
 use Rattle.theorems.proofs.Source.Calls.{noun_stage-yes, noun_text-simple, whole_text-simple}
 use Rattle.stages.specs.declared.stage.Outcome.{Outcome}
-use Rattle.repairs.specs.declared.postlude.Repair.{Repair}
 use Rattle.stages.specs.Outcome.{outcome_of}
 use Rattle.repairs.specs.Repairs.{ending, letter_bytes, repair_text, unchanged, repair_of}
 use Rattle.repairs.proofs.RepairText.{repair-text, repair-size}
