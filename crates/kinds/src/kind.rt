@@ -1,4 +1,5 @@
-// A piece's kind: from a mark's number, and to its number and name.
+// A piece's kind: from a mark's number, and to its number and name. Functions and no `From`: an impl could only stand beside the types, in crate
+// turkish, which holds what the calls mean and no code.
 ghost use Rattle.std.specs.Prelude.{◌≡◌};
 ghost use Rattle.turkish.specs.Pieces.{kind_name};
 ghost use Rattle.turkish.specs.PieceCalls.{kind_number};
@@ -40,7 +41,7 @@ pub fn kind_of(number: u32, y: bool) -> Kind
     }
 }
 
-// A kind's number. No `From`: that could only stand beside the type, in crate turkish, which holds what calls mean and no code.
+// A kind's number.
 #[tactic(auto, unfolding(turkish::specs::PieceCalls::kind_number))]
 pub fn number_of(kind: Kind) -> u8
     ensures { result ≡ kind_number kind }

@@ -49,6 +49,7 @@ impl Run {
     }
 
     // The postlude of the first `front` bytes, where the noun stage had n.
+    #[tactic(auto, unfolding(crate::specs::Runs::front_repaired))]
     fn repaired(w: &[u8], front: usize, n: usize) -> Run
         requires { front ≤ length w.now }
         ensures { result ≡ front_repaired w.now front n }

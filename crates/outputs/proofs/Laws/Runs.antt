@@ -1,7 +1,7 @@
 -- The runs that the code writes: those of the noun stage and of the whole run have the texts that the definitions give, lie within the word
 -- and fit the output. Assumes nothing.
 use Prim.Native.Nat.{ℕ, zero, suc, ◌+◌, ◌-◌, ◌≤◌, ◌<◌}
-use mathlib.Core.Path.{◌≡◌, refl, sym, ap, ◌∙◌}
+use mathlib.Core.Path.{◌≡◌, refl, sym, ap, ◌∙◌, subst}
 use mathlib.Core.Bool.{Bool, true, false, cond, false≢true}
 use mathlib.Core.List.{List, ◌++◌, append-nil, append_cancel_left}
 use native.Mathlib.Nat.{sub_self}
@@ -33,7 +33,6 @@ use Rattle.theorems.proofs.Laws.NounText.{staying, Rests, all, shorter, closer, 
 use Rattle.theorems.proofs.PostludeRules.{parted-postlude}
 use Rattle.theorems.proofs.Source.Calls.{noun_stage-yes, noun_text-simple, whole_text-simple}
 use Rattle.stages.specs.declared.stage.Outcome.{Outcome}
-use Rattle.repairs.specs.declared.postlude.Repair.{Repair}
 use Rattle.stages.specs.Outcome.{outcome_of}
 use Rattle.repairs.specs.Repairs.{ending, letter_bytes, repair_text, unchanged, repair_of}
 use Rattle.repairs.proofs.RepairText.{repair-text, repair-size}
@@ -239,7 +238,8 @@ module _ (w : List ℕ) (n : ℕ) (h : n ≤ length w) where
 pub uninflected_of-front : (w : List ℕ) (n : ℕ) → n ≤ length w → {u : Uninflected} → Some u ≡ uninflected_of w n → u.front ≤ length w
 unfolding noun_run left_run unchanged
 uninflected_of-front w n h {u} p =
-    let fits : Fits w (left_run (Some u) n) n = rw p (noun-fits w n h) in
+    let P : Option Uninflected → Type 0 = λ o. Fits w (left_run o n) n in
+    let fits : P (Some u) = subst P (sym p) (noun-fits w n h) in
     fits.0
 
 -- an output of n bytes has room for what the noun stage leaves of a word

@@ -20,8 +20,8 @@ pub returns-then-u-kept : goal.returns-then-u-kept
 returns-then-u-kept c =
     whole_run_of-left _ _ c.requires (not-false _ c.if-not-s.false) c.in-Some.ensures c.if-u-kept.true _ c.left.ensures
 
-pub repaired-2-requires : goal.repaired-2-requires
-repaired-2-requires c = uninflected_of-front _ _ (kept-le _ _ c.requires) c.in-Some.ensures
+pub repaired-requires-2 : goal.repaired-requires-2
+repaired-requires-2 c = uninflected_of-front _ _ (kept-le _ _ c.requires) c.in-Some.ensures
 
 pub returns : goal.returns
 returns c = whole_run_of-repaired _ _ c.requires (not-false _ c.if-not-s.false) c.in-Some.ensures c.if-u-kept.false _ c.repaired-2.ensures

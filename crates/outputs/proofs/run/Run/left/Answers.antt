@@ -1,5 +1,4 @@
 -- `outputs::run::Run::left` meets its contract: the definition is its text. Assumes nothing.
-use mathlib.Core.Path.{ap, ◌∙◌, sym}
 use Rattle.outputs.specs.Runs.{left_run}
 use Rattle.outputs.proofs.run.Run.left.Goals as goal
 
