@@ -10,10 +10,6 @@ byte_values = 0x100
 abbrev pub word_bytes : ℕ
 word_bytes = 8
 
--- the bytes of four such words, which a turn of the code's first loop takes
-abbrev pub four_words : ℕ
-four_words = 4 * word_bytes
-
 -- the next n bytes are there and none has its top bit set
 unfoldable pub plain_next : ℕ → List ℕ → Bool
 plain_next zero w = true
