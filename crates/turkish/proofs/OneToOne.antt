@@ -11,13 +11,7 @@ use Rattle.turkish.specs.declared.reply.Stage.{Stage}
 use Rattle.turkish.specs.declared.reply.Text.{Text}
 use Rattle.turkish.specs.declared.reply.Pass.{Pass}
 use Rattle.turkish.specs.declared.reply.Pieces.{Pieces}
-use Rattle.turkish.specs.declared.answer.SyllableAnswer.{SyllableAnswer}
 use Rattle.turkish.specs.declared.answer.StageAnswer.{StageAnswer}
-use Rattle.turkish.specs.declared.answer.TextAnswer.{TextAnswer}
-use Rattle.turkish.specs.declared.answer.LengthAnswer.{LengthAnswer}
-use Rattle.turkish.specs.declared.answer.PassAnswer.{PassAnswer}
-use Rattle.turkish.specs.declared.answer.PiecesAnswer.{PiecesAnswer}
-use Rattle.turkish.specs.declared.answer.BatchAnswer.{BatchAnswer}
 use Rattle.turkish.specs.Refusals.{refusal_number}
 use Rattle.turkish.specs.Results.{syllable_answer, heard_answer, stage_answer, text_answer, pass_answer, length_answer, pieces_answer, batch_answer}
 

@@ -1,13 +1,12 @@
 -- The step from a place of a word, by the bytes that stand there. Assumes nothing.
 use Prim.Native.Nat.{ℕ, ◌+◌, ◌≤◌, ◌<◌}
-use mathlib.Core.Path.{◌≡◌, refl, sym, ◌∙◌}
-use mathlib.Core.Bool.{Bool, true, false, not}
+use mathlib.Core.Path.{◌≡◌, refl, sym}
+use mathlib.Core.Bool.{true, false}
 use mathlib.Core.List.{List, [], ◌∷◌}
 use native.Mathlib.Omega.{arith}
 use native.Mathlib.Numerals.{add-one}
 use lib.ListN.{length, drop, get_or}
 use lib.Seq.{drop-cons, drop-length}
-use borrow.Author.Tests.{not-true, not-false}
 use Rattle.folding.specs.declared.step.Given.{Given}
 use Rattle.folding.specs.FoldBytes.{alone, pair, paired, taking, fold_step}
 use Rattle.folding.proofs.Laws.Bytes.{not-paired}

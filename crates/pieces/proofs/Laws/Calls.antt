@@ -1,6 +1,6 @@
 -- The calls on pieces: what a refused one gives and leaves, and what any other makes of the word's pieces. Assumes nothing.
 use Prim.Native.Nat.{ℕ, ◌≤◌}
-use mathlib.Core.Path.{◌≡◌, refl, sym, ◌∙◌}
+use mathlib.Core.Path.{◌≡◌, refl, ◌∙◌}
 use mathlib.Core.Bool.{true}
 use mathlib.Core.List.{List, [], map, Permᴰ}
 use native.Mathlib.Omega.{arith}

@@ -1,6 +1,5 @@
 -- `fronts::stand_in::put_stand_in` meets its contract. The loop's invariant: of the vowels passed those that are counted are written, `at` is their
 -- end, and there is room for the others. Assumes nothing.
-use Prim.Native.Nat.{◌-◌, ◌≤◌}
 use mathlib.Core.Path.{◌≡◌}
 use lib.ListN.{length}
 use Rattle.writing.proofs.Laws.Put.{Wrote}
