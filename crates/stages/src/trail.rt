@@ -79,7 +79,7 @@ pub struct Branch {
 impl Branch {
     // One mark alone.
     #[tactic(auto, unfolding(crate::specs::Trail::one_mark, crate::specs::Trail::no_way, crate::specs::Trail::no_trail))]
-    pub fn of(m: Marked) -> Branch
+    pub(crate) fn of(m: Marked) -> Branch
         ensures { result ≡ one_mark m }
     {
         Branch {
@@ -90,7 +90,7 @@ impl Branch {
 
     // The same behind one mark that was kept before.
     #[tactic(auto, unfolding(crate::specs::Trail::behind_branch))]
-    pub fn behind(self, m: Marked) -> Branch
+    pub(crate) fn behind(self, m: Marked) -> Branch
         ensures { result ≡ behind_branch m self }
     {
         Branch {
@@ -101,7 +101,7 @@ impl Branch {
 
     // With all from its record on deleted.
     #[tactic(auto, unfolding(crate::specs::Trail::cut))]
-    pub fn deleted(self) -> Branch
+    pub(crate) fn deleted(self) -> Branch
         ensures { result ≡ cut self }
     {
         Branch {
