@@ -1,32 +1,28 @@
 // A step of the fold over a word: one or two of its bytes are taken, and one or two given for them. Two are taken where a letter that
 // folds may stand, of which the first byte is that of Ç Ö Ü, of Ğ İ, or of Ş; everywhere else one.
 ghost use Rattle.std.specs.Prelude.{◌≡◌, ◌<◌, length, drop};
-ghost use Rattle.folding.specs.FoldBytes.{given_bytes, small_byte, alone, second, paired, pair, fold_step};
+ghost use Rattle.writing.specs.Letter.{bytes_of};
+ghost use Rattle.folding.specs.FoldBytes.{small_byte, alone, second, paired, pair, fold_step};
 
-// The bytes given for those taken.
-#[derive(Clone, Copy)]
-pub enum Given {
-    One(u8),
-    Two(u8, u8),
-}
+use writing::letter::Letter;
 
-impl Given {
-    // How many there are.
-    pub(crate) fn len(self) -> usize
-        ensures { result ≡ length (given_bytes self) }
-    {
-        match self {
-            Given::One(_) => 1,
-            Given::Two(_, _) => 2,
-        }
-    }
-}
-
-// How many bytes are taken, and what is given for them.
+// How many bytes are taken, and the one or two given for them, which are held as those of a letter are.
 #[derive(Clone, Copy)]
 pub struct FoldStep {
     pub taken: usize,
-    pub given: Given,
+    pub given: Letter,
+}
+
+impl FoldStep {
+    // How many bytes are given.
+    pub(crate) fn gives(self) -> usize
+        ensures { result ≡ length (bytes_of self.given) }
+    {
+        match self.given {
+            Letter::One(_) => 1,
+            Letter::Two(_, _) => 2,
+        }
+    }
 }
 
 // A to Z become a to z; every other byte stays.
@@ -40,13 +36,13 @@ pub(crate) fn small(b: u8) -> u8
 }
 
 // One byte: I becomes ı.
-pub(crate) fn fold_alone(b: u8) -> Given
+pub(crate) fn fold_alone(b: u8) -> Letter
     ensures { result ≡ alone b }
 {
     if b == 0x49 {
-        return Given::Two(0xC4, 0xB1);
+        return Letter::Two(0xC4, 0xB1);
     }
-    Given::One(small(b))
+    Letter::One(small(b))
 }
 
 // The second byte after the first byte a: that of Ç Ö Ü, of Ğ or of Ş.
@@ -70,13 +66,13 @@ fn is_paired(b: u8) -> bool
 }
 
 // Two bytes: İ becomes i.
-fn fold_pair(a: u8, b: u8) -> Given
+fn fold_pair(a: u8, b: u8) -> Letter
     ensures { result ≡ pair a b }
 {
     if (a == 0xC4) & (b == 0xB0) {
-        return Given::One(0x69);
+        return Letter::One(0x69);
     }
-    Given::Two(a, fold_second(a, b))
+    Letter::Two(a, fold_second(a, b))
 }
 
 // The step from place i of the word.

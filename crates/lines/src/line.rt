@@ -33,14 +33,7 @@ const ZERO: u8 = 0x30;
 fn has_tab(w: &[u8]) -> bool
     ensures { result ≡ has w.now tab }
 {
-    let mut i = 0;
-    while i < w.len() {
-        if w[i] == put::TAB {
-            return true;
-        }
-        i += 1;
-    }
-    false
+    w.contains(&put::TAB)
 }
 
 // The word of a line, where the line is not refused: as any word is, or for a tab.
@@ -55,7 +48,7 @@ fn word_of(w: &[u8]) -> Result<Word<'_>, Refusal>
     Ok(word)
 }
 
-// One of two bytes, by an answer.
+// One of two bytes, by an answer. A function of its own, so that what is written by three answers is told without their eight cases.
 fn either(t: bool, yes: u8, no: u8) -> u8
     ensures { result ≡ cond t yes no }
 {
@@ -71,13 +64,16 @@ fn put_answers(out: &mut [u8], at: usize, syllable: bool, yes: bool, flag: bool)
     ensures value { result ≡ at + 7 }
     ensures out_after { out.new ≡ put at (answers syllable yes flag) out.old }
 {
-    let a = put::put_byte(out, at, put::TAB);
-    let b = put::put_byte(out, a, either(syllable, YES, NO));
-    let c = put::put_byte(out, b, put::TAB);
-    let d = put::put_byte(out, c, either(yes, YES, NO));
-    let e = put::put_byte(out, d, put::TAB);
-    let f = put::put_byte(out, e, either(flag, ONE, ZERO));
-    put::put_byte(out, f, put::TAB)
+    let answers = [
+        put::TAB,
+        either(syllable, YES, NO),
+        put::TAB,
+        either(yes, YES, NO),
+        put::TAB,
+        either(flag, ONE, ZERO),
+        put::TAB,
+    ];
+    put::put_all(out, at, &answers)
 }
 
 // Writes the text of a repair of w.

@@ -8,7 +8,8 @@ use native.Mathlib.Omega.{arith}
 use lib.Dec.{eqb, leb}
 use borrow.Author.Tests.{leb-true, le-leb, eqb-true, eqb-false, ne_eqb}
 use Rattle.encoding.proofs.Laws.Booleans.{and_right, or-either}
-use Rattle.folding.specs.FoldBytes.{small_byte, alone, second, pair, paired, given_bytes, fold_bytes}
+use Rattle.writing.specs.Letter.{bytes_of}
+use Rattle.folding.specs.FoldBytes.{small_byte, alone, second, pair, paired, fold_bytes}
 use Rattle.folding.proofs.Laws.Steps.{fold_bytes-alone}
 
 -- a number that is not from `low` to `high` is told so
@@ -37,8 +38,8 @@ unfolding small_byte
 small-stays b n = rw (range-not 0x41 0x5A b n)
 
 -- a byte that is not I is given as one
-alone-one : (b : ℕ) → (b ≡ 0x49 → ⊥) → given_bytes (alone b) ≡ small_byte b ∷ []
-unfolding alone given_bytes
+alone-one : (b : ℕ) → (b ≡ 0x49 → ⊥) → bytes_of (alone b) ≡ small_byte b ∷ []
+unfolding alone
 alone-one b n = rw (ne_eqb b 0x49 n)
 
 -- from a byte that begins no letter which folds, one is taken
@@ -97,6 +98,6 @@ not-dotted a b o = go (eqb a 0xC4) refl (eqb b 0xB0) refl
     go false p t q = refl
 
 -- so both stay
-pub pair-stays : (a b : ℕ) → Other a b → given_bytes (pair a b) ≡ a ∷ b ∷ []
-unfolding pair given_bytes
+pub pair-stays : (a b : ℕ) → Other a b → bytes_of (pair a b) ≡ a ∷ b ∷ []
+unfolding pair
 pair-stays a b o = rw (not-dotted a b o, second-stays a b o)

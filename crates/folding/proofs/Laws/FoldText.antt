@@ -15,7 +15,7 @@ use Rattle.utf8.proofs.TextCharacters.{before-whole}
 use Rattle.turkish.specs.Fold.{capitals01, capitals, fold_by, fold_char, fold}
 use Rattle.turkish.specs.Calls.{chars, bytes, fold_text}
 use Rattle.theorems.proofs.Laws.Folding.{fold_by-elim, reverse-fold}
-use Rattle.folding.specs.FoldBytes.{alone, second, pair, paired, given_bytes, fold_bytes}
+use Rattle.folding.specs.FoldBytes.{alone, second, pair, paired, fold_bytes}
 use Rattle.folding.proofs.Laws.Steps.{fold_bytes-alone, fold_bytes-pair}
 use Rattle.folding.proofs.Laws.Bytes.{small-capital, small-stays, fold_bytes-ascii, fold_bytes-stays, not-paired, Other, pair-stays}
 
@@ -112,7 +112,7 @@ module _ (rest : List ℕ) where
 
   -- any character
   fold-char : (c : ℕ) → fold_bytes (encode c ++ rest) ≡ encode (fold_char c) ++ fold_bytes rest
-  unfolding encode fold_bytes alone second pair paired given_bytes
+  unfolding encode fold_bytes alone second pair paired
   fold-char c =
       fold_char-elim (λ d. fold_bytes (encode c ++ rest) ≡ encode d ++ fold_bytes rest) c
       (λ e. rw e (fold_bytes-alone 0x49 rest refl))

@@ -7,25 +7,19 @@ use mathlib.Core.List.{List, [], ◌∷◌, ◌++◌, append-nil}
 use native.Mathlib.Omega.{arith}
 use lib.ListN.{length, drop, length-drop}
 use lib.Seq.{drop-drop}
-use Rattle.folding.specs.declared.step.Given.{Given}
-use Rattle.folding.specs.declared.step.Given.TheVariants.{One, Two}
+use Rattle.writing.specs.Letter.{bytes_of}
+use Rattle.writing.proofs.Laws.Letter.{bytes_of-two}
 use Rattle.folding.specs.declared.step.FoldStep.{FoldStep}
-use Rattle.folding.specs.FoldBytes.{alone, pair, paired, taking, fold_step, given_bytes, fold_bytes}
-
--- no more than two bytes are given
-pub given-most : (g : Given) → length (given_bytes g) ≤ 2
-unfolding given_bytes
-given-most (One a) = omega arith
-given-most (Two a b) = omega arith
+use Rattle.folding.specs.FoldBytes.{alone, pair, paired, taking, fold_step, fold_bytes}
 
 -- a byte from which two are not taken is folded by itself
-pub fold_bytes-alone : (b : ℕ) (bs : List ℕ) → paired b ≡ false → fold_bytes (b ∷ bs) ≡ given_bytes (alone b) ++ fold_bytes bs
+pub fold_bytes-alone : (b : ℕ) (bs : List ℕ) → paired b ≡ false → fold_bytes (b ∷ bs) ≡ bytes_of (alone b) ++ fold_bytes bs
 unfolding fold_bytes
-fold_bytes-alone b [] p = sym (append-nil (given_bytes (alone b)))
+fold_bytes-alone b [] p = sym (append-nil (bytes_of (alone b)))
 fold_bytes-alone b (c ∷ cs) p = rw p
 
 -- and one from which they are, with the next
-pub fold_bytes-pair : (b c : ℕ) (bs : List ℕ) → paired b ≡ true → fold_bytes (b ∷ c ∷ bs) ≡ given_bytes (pair b c) ++ fold_bytes bs
+pub fold_bytes-pair : (b c : ℕ) (bs : List ℕ) → paired b ≡ true → fold_bytes (b ∷ c ∷ bs) ≡ bytes_of (pair b c) ++ fold_bytes bs
 unfolding fold_bytes
 fold_bytes-pair b c bs p = rw p
 
@@ -33,22 +27,22 @@ fold_bytes-pair b c bs p = rw p
 pub record Stepped (s : FoldStep) (bs : List ℕ) : Type 0 where
   pub some : 0 < s.taken
   pub within : s.taken ≤ length bs
-  pub most : length (given_bytes s.given) ≤ 2 * s.taken
-  pub rest : fold_bytes bs ≡ given_bytes s.given ++ fold_bytes (drop s.taken bs)
+  pub most : length (bytes_of s.given) ≤ 2 * s.taken
+  pub rest : fold_bytes bs ≡ bytes_of s.given ++ fold_bytes (drop s.taken bs)
 
 -- one byte taken
-stepped-alone : (b : ℕ) (bs : List ℕ) → fold_bytes (b ∷ bs) ≡ given_bytes (alone b) ++ fold_bytes bs → Stepped (taking 1 (alone b)) (b ∷ bs)
-stepped-alone b bs e = record { some = omega arith; within = omega arith; most = omega (arith, given-most (alone b)); rest = e }
+stepped-alone : (b : ℕ) (bs : List ℕ) → fold_bytes (b ∷ bs) ≡ bytes_of (alone b) ++ fold_bytes bs → Stepped (taking 1 (alone b)) (b ∷ bs)
+stepped-alone b bs e = record { some = omega arith; within = omega arith; most = omega (arith, bytes_of-two (alone b)); rest = e }
 
 -- two bytes taken
 stepped-pair : (b c : ℕ) (bs : List ℕ) → paired b ≡ true → Stepped (taking 2 (pair b c)) (b ∷ c ∷ bs)
-stepped-pair b c bs p = record { some = omega arith; within = omega arith; most = omega (arith, given-most (pair b c)); rest = fold_bytes-pair b c bs p }
+stepped-pair b c bs p = record { some = omega arith; within = omega arith; most = omega (arith, bytes_of-two (pair b c)); rest = fold_bytes-pair b c bs p }
 
 -- any step at the front of some bytes
 stepped : (bs : List ℕ) → 0 < length bs → Stepped (fold_step bs) bs
 unfolding fold_step fold_bytes
 stepped [] h = absurd (omega arith)
-stepped (b ∷ []) h = stepped-alone b [] (sym (append-nil (given_bytes (alone b))))
+stepped (b ∷ []) h = stepped-alone b [] (sym (append-nil (bytes_of (alone b))))
 stepped (b ∷ c ∷ cs) h = go (paired b) refl
   where
     go : (t : Bool) → paired b ≡ t → Stepped (cond t (taking 2 (pair b c)) (taking 1 (alone b))) (b ∷ c ∷ cs)
@@ -59,8 +53,8 @@ stepped (b ∷ c ∷ cs) h = go (paired b) refl
 pub record SteppedAt (s : FoldStep) (w : List ℕ) (i : ℕ) : Type 0 where
   pub some : 0 < s.taken
   pub within : i + s.taken ≤ length w
-  pub most : length (given_bytes s.given) ≤ 2 * s.taken
-  pub rest : fold_bytes (drop i w) ≡ given_bytes s.given ++ fold_bytes (drop (i + s.taken) w)
+  pub most : length (bytes_of s.given) ≤ 2 * s.taken
+  pub rest : fold_bytes (drop i w) ≡ bytes_of s.given ++ fold_bytes (drop (i + s.taken) w)
 
 -- which holds of every step that the code makes
 pub stepped-at : (w : List ℕ) (i : ℕ) (s : FoldStep) → i < length w → s ≡ fold_step (drop i w) → SteppedAt s w i

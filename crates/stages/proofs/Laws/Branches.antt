@@ -132,10 +132,15 @@ unfolding begins every last_passes branch6 DUr marked from_end text
 sixth-begins = refl
 
 -- a branch that may not begin with the last letter seen keeps nothing
+pub branch-out : (p : ℕ → Bool) (b : Command) → begins p b ≡ true → (w : List ℕ) (s : Seen) → Sees w s → p s.ending.last ≡ false
+    → trace b (behind w s.c) ≡ none
+branch-out p b e w s sees f = trace-unfit p b (behind w s.c) e (sym (ap p (last-seen w s sees)) ∙ f)
+
+-- so it does not fit
 pub cut-unbegun : (p : ℕ → Bool) (b : Command) → begins p b ≡ true → (w : List ℕ) (s : Seen) → Sees w s → p s.ending.last ≡ false
     → None ≡ cut_to w s.c (trace b (behind w s.c))
 unfolding cut_to
-cut-unbegun p b e w s sees f = sym (ap (cut_to w s.c) (trace-unfit p b (behind w s.c) e (sym (ap p (last-seen w s sees)) ∙ f)))
+cut-unbegun p b e w s sees f = sym (ap (cut_to w s.c) (branch-out p b e w s sees f))
 
 -- ---- the stage ----
 

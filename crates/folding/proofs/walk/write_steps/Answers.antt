@@ -11,8 +11,8 @@ use Rattle.folding.proofs.walk.write_steps.Goals as goal
 pub loop-i-init : goal.loop-i-init
 loop-i-init c = (omega arith, refl, reached-start c.args.w.now c.args.out.now c.requires)
 
-pub put_given-at-requires : goal.put_given-at-requires
-put_given-at-requires c =
+pub put-at-requires : goal.put-at-requires
+put-at-requires c =
     let l = c.loop-i in
     let given = c.fold_alone in
     let z = stepped-ascii c.args.w.now l.i given.result c.loop-i-test.true c.if-b-lt128.true given.ensures in
@@ -23,11 +23,11 @@ loop-i-preserved-then-b-lt128 c =
     let given = c.fold_alone in
     let l = c.loop-i in
     let z = stepped-ascii c.args.w.now l.i given.result c.loop-i-test.true c.if-b-lt128.true given.ensures in
-    let wrote = c.put_given-at.ensures in
+    let wrote = c.put-at.ensures in
     (omega arith, search rules, reached-next c.args.w.now c.args.out.now l.out l.at l.i l.invariant.2 (taking 1 given.result) z _ _ (wrote.value, wrote.out_after))
 
-pub put_given-at-requires-in-loop-i : goal.put_given-at-requires-in-loop-i
-put_given-at-requires-in-loop-i c =
+pub put-at-requires-in-loop-i : goal.put-at-requires-in-loop-i
+put-at-requires-in-loop-i c =
     let l = c.loop-i in
     let step = c.fold_at-s in
     let z = stepped-at c.args.w.now l.i step.result c.loop-i-test.true step.ensures in
@@ -48,7 +48,7 @@ loop-i-preserved c =
     let l = c.loop-i in
     let r = c.fold_at-s.result in
     let z = stepped-at c.args.w.now l.i r c.loop-i-test.true c.fold_at-s.ensures in
-    let next = reached-next c.args.w.now c.args.out.now l.out l.at l.i l.invariant.2 r z _ _ (c.put_given-at-in-loop-i.ensures.value, c.put_given-at-in-loop-i.ensures.out_after) in
+    let next = reached-next c.args.w.now c.args.out.now l.out l.at l.i l.invariant.2 r z _ _ (c.put-at-in-loop-i.ensures.value, c.put-at-in-loop-i.ensures.out_after) in
     (omega arith, search rules, next)
 
 pub returns : goal.returns
