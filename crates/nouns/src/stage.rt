@@ -37,6 +37,7 @@ fn plural(w: &[u8], s: Seen) -> Option<usize>
 }
 
 // Possessives, and a plural before it in the word (line 388, and within 368, 400, 412).
+#[inline(always)]
 #[tactic(auto, using(crate::proofs::Laws::Passing::steps), unfolding(theorems::specs::Simple::Nouns::possessed))]
 fn possessed(w: &[u8], s: Seen) -> Option<usize>
     requires { Sees w.now s }
@@ -47,6 +48,7 @@ fn possessed(w: &[u8], s: Seen) -> Option<usize>
 }
 
 // sU, and a plural before it in the word (lines 378, 384, and within 368, 400, 412).
+#[inline(always)]
 #[tactic(auto, using(crate::proofs::Laws::Passing::steps), unfolding(theorems::specs::Simple::Nouns::owned_by_sU_of))]
 fn owned_by_sU(w: &[u8], s: Seen) -> Option<usize>
     requires { Sees w.now s }
@@ -57,6 +59,7 @@ fn owned_by_sU(w: &[u8], s: Seen) -> Option<usize>
 }
 
 // Possessives or sU, and a plural before it in the word (lines 368, 400, 412).
+#[inline(never)]
 #[tactic(auto, using(crate::proofs::Laws::Passing::steps))]
 fn owned(w: &[u8], s: Seen) -> Option<usize>
     requires { Sees w.now s }
@@ -258,6 +261,15 @@ fn after_DA(w: &[u8], s: Seen) -> Option<usize>
     Some(near_DA(w, t).unwrap_or(t.c.cursor))
 }
 
+// The chain at the word's end (line 408). Few words end in `ki`, so that is asked of what is seen already.
+fn chain_alone(w: &[u8], s: Seen) -> Option<usize>
+    requires { Sees w.now s }
+    ensures { result ≡ passes w.now s.c (chain (behind w.now s.c)) }
+{
+    mark::mark_ki(w, s)?;
+    stem_suffix_chain_before_ki(w, s)
+}
+
 // Lines 384 to 412.
 #[tactic(auto, using(crate::proofs::Laws::Passing::steps), unfolding(crate::specs::Stage::later_lines_of))]
 fn later_lines(w: &[u8], s: Seen) -> Option<usize>
@@ -268,7 +280,7 @@ fn later_lines(w: &[u8], s: Seen) -> Option<usize>
         .or_else(|| after_DAn(w, s))
         .or_else(|| after_nUn(w, s))
         .or_else(|| mark::mark_lArI(w, s))
-        .or_else(|| stem_suffix_chain_before_ki(w, s))
+        .or_else(|| chain_alone(w, s))
         .or_else(|| after_DA(w, s))
         .or_else(|| owned(w, s))
 }
