@@ -17,6 +17,8 @@ use crate::mark;
 use crate::step::step_to;
 use keys::seen;
 use keys::seen::Seen;
+use marks::mark::mark_lAr;
+use marks::marked::place;
 use utf8::cursor::Cursor;
 
 // Another text that the stage leaves of the first n bytes: those before `front`, and those from `from` on.
@@ -32,7 +34,7 @@ fn plural(w: &[u8], s: Seen) -> Option<usize>
     requires { Sees w.now s }
     ensures { result ≡ passes w.now s.c (plural chain (behind w.now s.c)) }
 {
-    let t = step_to(w, s, mark::mark_lAr(w, s)?);
+    let t = step_to(w, s, place(mark_lAr(w, s))?);
     Some(stem_suffix_chain_before_ki(w, t).unwrap_or(t.c.cursor))
 }
 
@@ -43,7 +45,7 @@ fn possessed(w: &[u8], s: Seen) -> Option<usize>
     requires { Sees w.now s }
     ensures { result ≡ passes w.now s.c (possessed chain (behind w.now s.c)) }
 {
-    let t = step_to(w, s, mark::mark_possessives(w, s)?);
+    let t = step_to(w, s, place(mark::mark_possessives(w, s))?);
     Some(plural(w, t).unwrap_or(t.c.cursor))
 }
 
@@ -54,7 +56,7 @@ fn owned_by_sU(w: &[u8], s: Seen) -> Option<usize>
     requires { Sees w.now s }
     ensures { result ≡ passes w.now s.c (owned_by_sU_of chain (behind w.now s.c)) }
 {
-    let t = step_to(w, s, mark::mark_sU(w, s)?);
+    let t = step_to(w, s, place(mark::mark_sU(w, s))?);
     Some(plural(w, t).unwrap_or(t.c.cursor))
 }
 
@@ -74,7 +76,7 @@ fn near_ncA(w: &[u8], s: Seen) -> Option<usize>
     requires { Sees w.now s }
     ensures { result ≡ passes w.now s.c (near_ncA_of (behind w.now s.c)) }
 {
-    mark::mark_lArI(w, s)
+    place(mark::mark_lArI(w, s))
         .or_else(|| owned(w, s))
         .or_else(|| plural(w, s))
 }
@@ -85,7 +87,7 @@ fn after_ncA(w: &[u8], s: Seen) -> Option<usize>
     requires { Sees w.now s }
     ensures { result ≡ passes w.now s.c (after_ncA_of (behind w.now s.c)) }
 {
-    let t = step_to(w, s, mark::mark_ncA(w, s)?);
+    let t = step_to(w, s, place(mark::mark_ncA(w, s))?);
     Some(near_ncA(w, t).unwrap_or(t.c.cursor))
 }
 
@@ -95,7 +97,7 @@ fn pronominal(w: &[u8], s: Seen) -> Option<usize>
     requires { Sees w.now s }
     ensures { result ≡ passes w.now s.c (pronominal (behind w.now s.c)) }
 {
-    mark::mark_ndA(w, s).or_else(|| mark::mark_nA(w, s))
+    place(mark::mark_ndA(w, s)).or_else(|| place(mark::mark_nA(w, s)))
 }
 
 // What may stand before ndA or nA in the word (lines 376 and 378).
@@ -104,7 +106,7 @@ fn near_pronominal(w: &[u8], s: Seen) -> Option<usize>
     requires { Sees w.now s }
     ensures { result ≡ passes w.now s.c (near_pronominal_of (behind w.now s.c)) }
 {
-    mark::mark_lArI(w, s).or_else(|| owned_by_sU(w, s))
+    place(mark::mark_lArI(w, s)).or_else(|| owned_by_sU(w, s))
 }
 
 // Lines 374 to 380. On line 380 the chain cuts before ndA or nA, which stays.
@@ -130,7 +132,7 @@ fn ndAn_or_nU(w: &[u8], s: Seen) -> Option<usize>
     requires { Sees w.now s }
     ensures { result ≡ passes w.now s.c (ndAn_or_nU_of (behind w.now s.c)) }
 {
-    mark::mark_ndAn(w, s).or_else(|| mark::mark_nU(w, s))
+    place(mark::mark_ndAn(w, s)).or_else(|| place(mark::mark_nU(w, s)))
 }
 
 // Line 384.
@@ -160,7 +162,7 @@ fn after_DAn(w: &[u8], s: Seen) -> Option<usize>
     requires { Sees w.now s }
     ensures { result ≡ passes w.now s.c (after_DAn_of (behind w.now s.c)) }
 {
-    let t = step_to(w, s, mark::mark_DAn(w, s)?);
+    let t = step_to(w, s, place(mark::mark_DAn(w, s))?);
     Some(near_DAn(w, t).unwrap_or(t.c.cursor))
 }
 
@@ -170,7 +172,7 @@ fn nUn_or_ylA(w: &[u8], s: Seen) -> Option<usize>
     requires { Sees w.now s }
     ensures { result ≡ passes w.now s.c (nUn_or_ylA_of (behind w.now s.c)) }
 {
-    mark::mark_nUn(w, s).or_else(|| mark::mark_ylA(w, s))
+    place(mark::mark_nUn(w, s)).or_else(|| place(mark::mark_ylA(w, s)))
 }
 
 // Before lAr of line 398: the chain or, lAr being cut all the same, line 400.
@@ -188,7 +190,7 @@ fn lost_lAr(w: &[u8], s: Seen) -> Option<usize>
     requires { Sees w.now s }
     ensures { result ≡ passes w.now s.c (lost_lAr_of (behind w.now s.c)) }
 {
-    let t = step_to(w, s, mark::mark_lAr(w, s)?);
+    let t = step_to(w, s, place(mark_lAr(w, s))?);
     Some(near_lost_lAr(w, t).unwrap_or(t.c.cursor))
 }
 
@@ -218,9 +220,9 @@ fn DA_or_yU_or_yA(w: &[u8], s: Seen) -> Option<usize>
     requires { Sees w.now s }
     ensures { result ≡ passes w.now s.c (DA_or_yU_or_yA_of (behind w.now s.c)) }
 {
-    mark::mark_DA(w, s)
-        .or_else(|| mark::mark_yU(w, s))
-        .or_else(|| mark::mark_yA(w, s))
+    place(mark::mark_DA(w, s))
+        .or_else(|| place(mark::mark_yU(w, s)))
+        .or_else(|| place(mark::mark_yA(w, s)))
 }
 
 // Possessives, with lAr before it or not (line 410).
@@ -229,8 +231,8 @@ fn possessives_and_lAr(w: &[u8], s: Seen) -> Option<usize>
     requires { Sees w.now s }
     ensures { result ≡ passes w.now s.c (possessives_and_lAr_of (behind w.now s.c)) }
 {
-    let t = step_to(w, s, mark::mark_possessives(w, s)?);
-    Some(mark::mark_lAr(w, t).unwrap_or(t.c.cursor))
+    let t = step_to(w, s, place(mark::mark_possessives(w, s))?);
+    Some(place(mark_lAr(w, t)).unwrap_or(t.c.cursor))
 }
 
 // That, or lAr (line 410).
@@ -239,7 +241,7 @@ fn possessives_or_lAr(w: &[u8], s: Seen) -> Option<usize>
     requires { Sees w.now s }
     ensures { result ≡ passes w.now s.c (possessives_or_lAr_of (behind w.now s.c)) }
 {
-    possessives_and_lAr(w, s).or_else(|| mark::mark_lAr(w, s))
+    possessives_and_lAr(w, s).or_else(|| place(mark_lAr(w, s)))
 }
 
 // What may stand before DA, yU or yA in the word (line 410).
@@ -266,7 +268,7 @@ fn chain_alone(w: &[u8], s: Seen) -> Option<usize>
     requires { Sees w.now s }
     ensures { result ≡ passes w.now s.c (chain (behind w.now s.c)) }
 {
-    mark::mark_ki(w, s)?;
+    place(mark::mark_ki(w, s))?;
     stem_suffix_chain_before_ki(w, s)
 }
 
@@ -279,7 +281,7 @@ fn later_lines(w: &[u8], s: Seen) -> Option<usize>
     after_ndAn(w, s)
         .or_else(|| after_DAn(w, s))
         .or_else(|| after_nUn(w, s))
-        .or_else(|| mark::mark_lArI(w, s))
+        .or_else(|| place(mark::mark_lArI(w, s)))
         .or_else(|| chain_alone(w, s))
         .or_else(|| after_DA(w, s))
         .or_else(|| owned(w, s))

@@ -20,6 +20,7 @@ use Rattle.keys.specs.declared.seen.Seen.{Seen}
 use Rattle.keys.specs.Passed.{passes}
 use Rattle.keys.specs.Seen.{seen_at, Sees}
 use Rattle.keys.proofs.Laws.Sees.{seen-c, sees-made}
+use Rattle.marks.proofs.Laws.Marks.{place-reach}
 
 -- ---- one answer ----
 
@@ -152,5 +153,5 @@ pub chain-kiless : (w : List ℕ) (c : Cursor) {p : Option ℕ} → p ≡ passes
 unfolding link
 chain-kiless w c is e = both-none w c (mark_of ki) _ is e ∙ sym (ap (passes w c) (chain-text (behind w c)))
 
--- what the check of a step and of what stands before it needs
-pub ruleset steps = (leads-open, step-sees, both-none, both-then, both-perhaps, passes-either, owned-either)
+-- what the check of a mark's place, of a step and of what stands before it needs
+pub ruleset steps = (place-reach, leads-open, step-sees, both-none, both-then, both-perhaps, passes-either, owned-either)
