@@ -28,8 +28,7 @@ use Rattle.keys.specs.Ends.{is_U_of, is_a, is_kmn_of}
 use Rattle.keys.proofs.Laws.Ends.{last_passes, begins, trace-unfit, last-seen}
 use Rattle.keys.proofs.Laws.Sees.{seen-c}
 use Rattle.std.specs.Prelude.{MatchOption}
-use Rattle.marks.specs.declared.marked.Marked.{Marked}
-use Rattle.marks.specs.Reach.{reach}
+use Rattle.marks.specs.Reach.{Answer, reach}
 use Rattle.marks.proofs.Laws.Marks.{reach-fails}
 use Rattle.stages.specs.declared.trail.Branch.{Branch}
 use Rattle.stages.specs.Groups.{person_mark, first_ends_of, fifth_ends}
@@ -75,13 +74,13 @@ module _ (cs : List ℕ) where
       go (keeps us g) = unfold more_trace in refl
 
 -- a person's ending that fits is a step
-pub steps-person : (w : List ℕ) (c : Cursor) {r : Option Marked} {m : Marked} → r ≡ reach w c (trace person_mark (behind w c)) → r ≡ Some m
+pub steps-person : (w : List ℕ) (c : Cursor) {r : Option Answer} {m : Answer} → r ≡ reach w c (trace person_mark (behind w c)) → r ≡ Some m
     → Steps w c (trace person (behind w c)) m
 unfolding only_marks
 steps-person w c is to = rw (person-first (behind w c)) at (first_step w c (steps-group w c person_mark refl is to) (keeps [] true))
 
 -- the next of a group's marks, tried where those before it fail
-pub reach-else : (w : List ℕ) (c : Cursor) (o q : Trace) {a r : Option Marked} {P : Type 0} → a ≡ reach w c o → MatchOption a P (λ m. r ≡ Some m)
+pub reach-else : (w : List ℕ) (c : Cursor) (o q : Trace) {a r : Option Answer} {P : Type 0} → a ≡ reach w c o → MatchOption a P (λ m. r ≡ Some m)
     → (P → r ≡ reach w c q) → r ≡ reach w c (first_trace o q)
 unfolding first_trace
 reach-else w c o q {a = None} is tried next = next tried ∙ sym (ap (λ (x : Trace). reach w c (first_trace x q)) (reach-fails w c o is refl))
@@ -96,7 +95,7 @@ from-seen : {R : Type 0} (f : List ℕ → Cursor → Trace → R) (w : List ℕ
 from-seen f w c q e is = is ∙ ap (λ (x : Cursor). f w x (q (behind w x))) (seen-c w c e)
 
 -- a mark's or a group's
-pub reach-seen : (w : List ℕ) (c : Cursor) (q : List ℕ → Trace) {s : Seen} {r : Option Marked} → s ≡ seen_at w c → r ≡ reach w s.c (q (behind w s.c))
+pub reach-seen : (w : List ℕ) (c : Cursor) (q : List ℕ → Trace) {s : Seen} {r : Option Answer} → s ≡ seen_at w c → r ≡ reach w s.c (q (behind w s.c))
     → r ≡ reach w c (q (behind w c))
 reach-seen = from-seen reach
 
