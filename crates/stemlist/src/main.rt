@@ -77,7 +77,7 @@ fn close<W: Write>(to: &mut W, folded: bool, held: &Held, out: &mut [u8]) -> io:
     ensures out_after { out.new ≡ put 0 (last_out folded held.now) out.old }
     ensures written { OnOk result (Appends (W.contents to.old) (W.contents to.new) (last_out folded held.now)) }
 {
-    let last = feed::finish(folded, held, out);
+    let last = feed::finish(folded, held.as_slice(), out);
     to.write_all(&out[..last])
 }
 

@@ -1,6 +1,6 @@
 -- Why a line is refused, each test's answer as a fact about the word, and the line that the number gives.
 -- Assumes nothing.
-use Prim.Native.Nat.{ℕ, zero, suc, ◌≤◌, ◌<◌}
+use Prim.Native.Nat.{ℕ, zero, suc, ◌<◌, ◌≤◌}
 use mathlib.Core.Path.{◌≡◌, refl, sym, ◌∙◌}
 use mathlib.Core.Bool.{Bool, true, false, cond}
 use mathlib.Core.List.{List}
@@ -36,7 +36,7 @@ module _ (w : List ℕ) (n : ℕ) (e : n ≡ refusal w) where
 
 -- ---- what the number says ----
 
--- no number is more than 4
+-- no line's number is more than 4
 pub line_refusal_of-most : (w : List ℕ) → line_refusal_of w ≤ 4
 unfolding line_refusal_of refusal
 line_refusal_of-most w = go (ltb limit (length w)) (is_text w) (has w tab)
