@@ -34,7 +34,7 @@ pub fn mark_sU(w: &[u8], s: Seen) -> Option<Marked>
         return None;
     };
     let p = mark_suffix_with_optional_consonant(w, key.before, 0x73);
-    marked::kept_in_harmony(w, s.c, None, p)
+    marked::kept_in_harmony(w, s.c, None, p) // babası
 }
 
 pub fn mark_lArI(w: &[u8], s: Seen) -> Option<Marked>
