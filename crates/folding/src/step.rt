@@ -36,7 +36,6 @@ pub(crate) fn small(b: u8) -> u8
 }
 
 // One byte: I becomes ı.
-#[inline(always)]
 pub(crate) fn fold_alone(b: u8) -> Letter
     ensures { result ≡ alone b }
 {
@@ -67,7 +66,6 @@ fn is_paired(b: u8) -> bool
 }
 
 // Two bytes: İ becomes i.
-#[inline(always)]
 fn fold_pair(a: u8, b: u8) -> Letter
     ensures { result ≡ pair a b }
 {
@@ -78,7 +76,6 @@ fn fold_pair(a: u8, b: u8) -> Letter
 }
 
 // The step from place i of the word.
-#[inline(always)]
 pub(crate) fn fold_at(w: &[u8], i: usize) -> FoldStep
     requires { i < length w.now }
     ensures { result ≡ fold_step (drop i w.now) }

@@ -24,8 +24,7 @@ impl Letter {
         Letter::Two((0xC0 + ch / 0x40) as u8, (0x80 + ch % 0x40) as u8)
     }
 
-    // Writes it at place `at`, and gives the place after it. Inlined, so that one byte and two are told where the letter is made.
-    #[inline(always)]
+    // Writes it at place `at`, and gives the place after it.
     pub fn put(self, out: &mut [u8], at: usize) -> usize
         requires { at + length (bytes_of self) ≤ length out.old }
         ensures value { result ≡ at + length (bytes_of self) }
