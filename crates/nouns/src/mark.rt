@@ -15,6 +15,8 @@ use keys::seen::Seen;
 use marks::marked;
 use marks::marked::Marked;
 
+// Inlined, so that its answer is not stored where only the place is asked for.
+#[inline(always)]
 pub fn mark_possessives(w: &[u8], s: Seen) -> Option<Marked>
     requires { Sees w.now s }
     ensures { result ≡ reach w.now s.c (trace_of possessives (behind w.now s.c)) }
