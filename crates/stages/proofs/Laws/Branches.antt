@@ -26,7 +26,7 @@ use Rattle.keys.specs.Seen.{seen_at, Sees}
 use Rattle.theorems.proofs.Laws.Tests.{every}
 use Rattle.keys.specs.Ends.{is_U_of, is_a, is_kmn_of}
 use Rattle.keys.proofs.Laws.Ends.{last_passes, begins, trace-unfit, last-seen}
-use Rattle.keys.proofs.Laws.Sees.{seen-c}
+use Rattle.keys.proofs.Laws.Sees.{seen-c, sees-made}
 use Rattle.std.specs.Prelude.{MatchOption}
 use Rattle.marks.specs.Reach.{Answer, reach}
 use Rattle.marks.proofs.Laws.Marks.{reach-fails}
@@ -148,6 +148,11 @@ pub passed_over : (b q : Command) (cs : List ℕ) → trace b cs ≡ none → tr
 unfolding trace first_trace
 passed_over b q cs e = ap (λ (o : Trace). first_trace o (trace q cs)) e
 
+-- where the stage is a branch and others, and this one keeps nothing, it is the others
+pub next_guarded : (w : List ℕ) (b q : Command) → trace branches (chars w) ≡ trace (b or q) (chars w) → trace b (chars w) ≡ none
+    → trace branches (chars w) ≡ trace q (chars w)
+next_guarded w b q left out = left ∙ passed_over b q (chars w) out
+
 -- a branch that is cut keeps these marks, and its flag is f
 record Cut (w : List ℕ) (c : Cursor) (o : Trace) (f : Bool) (b : Branch) : Type 0 where
   marks : List Taken
@@ -191,6 +196,14 @@ pub open-whole : (w : List ℕ) → Open w (whole w)
 unfolding whole
 open-whole w = open-start w (length w) (length w) (omega arith) (omega arith)
 
+-- a branch that may not begin with the last letter seen there keeps nothing
+pub branch-out-end : (w : List ℕ) {s : Seen} → s ≡ seen_at w (whole w) → (p : ℕ → Bool) (b : Command) → begins p b ≡ true → p s.ending.last ≡ false
+    → trace b (chars w) ≡ none
+unfolding chars whole
+branch-out-end w {s = s} is p b e f =
+    let characters = ap (behind w) (seen-c w (whole w) is) ∙ behind-before w (length w) (length w) in
+    sym (ap (trace b) characters) ∙ branch-out p b e w s (sees-made w (whole w) is (open-whole w)) f
+
 module _ (w : List ℕ) {s : Seen} (is : s ≡ seen_at w (whole w)) (b : Command) {r : Option Branch} (e : r ≡ cut_to w s.c (trace b (behind w s.c))) where
   -- a branch from what is seen there is one on all the word's characters
   at-end : r ≡ cut_to w (whole w) (trace b (chars w))
@@ -217,4 +230,4 @@ module _ (w : List ℕ) {s : Seen} (is : s ≡ seen_at w (whole w)) (b : Command
 
   -- where the stage is this branch and others, and this one does not fit, it is the others
   pub next_branch : (q : Command) → trace branches (chars w) ≡ trace (b or q) (chars w) → r ≡ None → trace branches (chars w) ≡ trace q (chars w)
-  next_branch q left fails = left ∙ passed_over b q (chars w) (branch-unfit fails)
+  next_branch q left fails = next_guarded w b q left (branch-unfit fails)
