@@ -81,7 +81,8 @@ fn key_before(w: &[u8], s: Seen, key: &[u32]) -> Option<usize>
     key_rest(w, s.c.moved_to(s.ending.three), &key[3..])
 }
 
-// The first key of the table that ends the text before the cursor.
+// The first key of the table that ends the text before the cursor. Inlined, so that a constant table is folded into the marks.
+#[inline(always)]
 pub fn find_among_b<const N: usize>(w: &[u8], s: Seen, keys: &[[u32; N]]) -> Option<Key>
     requires { Sees w.now s }
     ensures { result ≡ found (rows keys.now) w.now s.c }

@@ -33,24 +33,29 @@ pub fn literal_back(w: &[u8], s: &[u8], c: &mut Cursor) -> bool
     true
 }
 
-// Where the literal stands: whether the joint stands before it, the record before both, and the record one character back from there.
+// Whether the literal stood, whether the joint stood before it, the record before both, and the record one character back from there. A
+// literal that does not stand leaves the record as it is.
 #[derive(Clone, Copy)]
 pub struct Over {
+    pub literal: bool,
     pub joined: bool,
     pub here: Cursor,
     pub next: Option<Cursor>,
 }
 
 // Back past the literal s, past the literal y if it stands there, and then one character, over one record of its own.
-pub fn back_over(w: &[u8], s: &[u8], y: &[u8], r: Cursor) -> Option<Over>
+pub fn back_over(w: &[u8], s: &[u8], y: &[u8], r: Cursor) -> Over
     ensures { result ≡ over w.now s.now y.now r }
 {
     let mut c = r;
-    if !literal_back(w, s, &mut c) {
-        return None;
-    }
+    let literal = literal_back(w, s, &mut c);
     let joined = literal_back(w, y, &mut c);
     let here = c;
     let next = step_back(w, &mut c).then_some(c);
-    Some(Over { joined, here, next })
+    Over {
+        literal,
+        joined,
+        here,
+        next,
+    }
 }

@@ -10,6 +10,9 @@ use crate::held::Held;
 use lines::listed;
 use refusals::refusal;
 
+// The bytes held of a line that is not ended.
+pub use crate::held::HELD;
+
 // Room for any output line: four times the limit, and fifteen bytes.
 const LINE: usize = 4 * refusal::LIMIT + 15;
 
@@ -59,14 +62,13 @@ pub fn feed(folded: bool, block: &[u8], from: usize, held: &mut Held, out: &mut 
 }
 
 // The line that the input's end closes, if it is not empty, to the front of the output.
-pub fn finish(folded: bool, held: &Held, out: &mut [u8]) -> usize
+pub fn finish(folded: bool, held: &[u8], out: &mut [u8]) -> usize
     requires { line_room ≤ length out.old }
     ensures value { result ≡ length (last_out folded held.now) }
     ensures out_after { out.new ≡ put 0 (last_out folded held.now) out.old }
 {
-    let line = held.as_slice();
-    if line.is_empty() {
+    if held.is_empty() {
         return 0;
     }
-    listed::put_listed(out, 0, line, folded)
+    listed::put_listed(out, 0, held, folded)
 }

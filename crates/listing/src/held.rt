@@ -6,7 +6,7 @@ use refusals::refusal;
 use std::marker::Model;
 
 // The bytes held of a line that is not ended: one more than the limit, since a longer line is refused whatever follows.
-const HELD: usize = refusal::LIMIT + 1;
+pub const HELD: usize = refusal::LIMIT + 1;
 
 // The first `len` of these bytes are held; contracts see the list of them.
 #[derive(Drop)]

@@ -11,6 +11,10 @@ use Rattle.marks.specs.declared.marked.Mark.{Mark}
 use Rattle.marks.specs.declared.marked.Mark.TheVariants.{YUm, SUn, YUz, SUnUz, LAr, NUz, DUr, CAsInA, YDU, YsA, YmUs, Yken}
 use Rattle.marks.specs.declared.marked.Marked.{Marked}
 
+-- the answer of a mark of either stage: its kind is one of the twelve, or none
+abbrev pub Answer : Type 0
+Answer = Marked (Option Mark)
+
 -- the mark with a number; none has any other, as 0, which those of the noun stage have
 unfoldable pub mark_numbered : ℕ → Option Mark
 mark_numbered n =
@@ -37,20 +41,20 @@ unfoldable pub leading_heard : List ℕ → Cursor → List Taken → Option Har
 leading_heard w c [] = None
 leading_heard w c (t ∷ ts) = heard_of w c t.found
 
-unfoldable pub reach : List ℕ → Cursor → Trace → Option Marked
+unfoldable pub reach : List ℕ → Cursor → Trace → Option Answer
 reach w c none = None
 reach w c (keeps ts f) = Some (record { before = back_by w c (total ts); kind = leading ts; heard = leading_heard w c ts })
 
 -- ---- a mark by its parts ----
 
 -- how far its key and what joins it go is p: it is kept where they fit, and, if it tests harmony, where that holds too
-unfoldable pub kept : Cursor → Option Mark → Option ℕ → Option Marked
+unfoldable pub kept : {K : Type 0} → Cursor → K → Option ℕ → Option (Marked K)
 kept c kind p = option_map (λ at. record { before = move_to c at; kind = kind; heard = None }) p
 
-unfoldable pub kept_in_harmony_of : List ℕ → Cursor → Option Mark → Option ℕ → Option Marked
+unfoldable pub kept_in_harmony_of : {K : Type 0} → List ℕ → Cursor → K → Option ℕ → Option (Marked K)
 kept_in_harmony_of w c kind None = None
 kept_in_harmony_of w c kind (Some at) = option_map (λ h. record { before = move_to c at; kind = kind; heard = Some h }) (harmony_at w c)
 
 -- how far an answer goes alone
-unfoldable pub place_of : Option Marked → Option ℕ
+unfoldable pub place_of : {K : Type 0} → Option (Marked K) → Option ℕ
 place_of m = option_map (λ r. r.before.cursor) m

@@ -198,9 +198,10 @@ fn back_over_yken(w: &[u8], c: Cursor) -> Option<usize>
     requires { Open w.now c }
     ensures { result ≡ passes w.now c (mark_of yken (behind w.now c)) }
 {
-    let Some(k) = lent::back_over(w, &KEN, &Y, c) else {
+    let k = lent::back_over(w, &KEN, &Y, c);
+    if !k.literal {
         return None;
-    };
+    }
     let Some(next) = k.next else {
         return None;
     };

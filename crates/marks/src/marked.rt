@@ -24,17 +24,17 @@ pub enum Mark {
     Yken,
 }
 
-// A mark of the noun stage has no kind, and one that tests no harmony has heard nothing.
+// A mark of the noun stage has no kind, and one that tests no harmony has heard nothing. A caller may tell its marks apart by a kind of its own.
 #[derive(Clone, Copy)]
-pub struct Marked {
+pub struct Marked<K = Option<Mark>> {
     pub before: Cursor,
-    pub kind: Option<Mark>,
+    pub kind: K,
     pub heard: Option<Harmony>,
 }
 
 // A mark that tests no harmony, from how far its key and what joins it go.
 #[tactic(auto, unfolding(crate::specs::Reach::kept))]
-pub fn kept(c: Cursor, kind: Option<Mark>, p: Option<usize>) -> Option<Marked>
+pub fn kept<K: Copy>(c: Cursor, kind: K, p: Option<usize>) -> Option<Marked<K>>
     ensures { result ≡ kept c kind p }
 {
     let at = p?;
@@ -48,7 +48,7 @@ pub fn kept(c: Cursor, kind: Option<Mark>, p: Option<usize>) -> Option<Marked>
 // The same of a mark that tests harmony, which is walked for last: all must hold, so the answer is the same as in the Rust, which tests it
 // first. The walk is called from here and below, so the compiler leaves it out of line and inlines these two into the marks.
 #[tactic(auto, unfolding(crate::specs::Reach::kept_in_harmony_of))]
-pub fn kept_in_harmony(w: &[u8], c: Cursor, kind: Option<Mark>, p: Option<usize>) -> Option<Marked>
+pub fn kept_in_harmony<K: Copy>(w: &[u8], c: Cursor, kind: K, p: Option<usize>) -> Option<Marked<K>>
     requires { Open w.now c }
     ensures { result ≡ kept_in_harmony_of w.now c kind p }
 {
@@ -63,7 +63,7 @@ pub fn kept_in_harmony(w: &[u8], c: Cursor, kind: Option<Mark>, p: Option<usize>
 
 // The same of a mark that nothing joins: it goes to the place before its key.
 #[tactic(auto, unfolding(crate::specs::Reach::kept_in_harmony_of))]
-pub fn in_harmony(w: &[u8], c: Cursor, kind: Option<Mark>, at: usize) -> Option<Marked>
+pub fn in_harmony<K: Copy>(w: &[u8], c: Cursor, kind: K, at: usize) -> Option<Marked<K>>
     requires { Open w.now c }
     ensures { result ≡ kept_in_harmony_of w.now c kind (Some at) }
 {
@@ -77,7 +77,7 @@ pub fn in_harmony(w: &[u8], c: Cursor, kind: Option<Mark>, at: usize) -> Option<
 
 // How far a mark went alone.
 #[tactic(auto, unfolding(crate::specs::Reach::place_of))]
-pub fn place(m: Option<Marked>) -> Option<usize>
+pub fn place<K: Copy>(m: Option<Marked<K>>) -> Option<usize>
     ensures { result ≡ place_of m }
 {
     let m = m?;

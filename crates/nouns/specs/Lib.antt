@@ -1,4 +1,3 @@
 -- How the code holds what the noun stage's definitions say. No promise to a host rests on these.
-pub mod Places
 pub mod Link
 pub mod Stage

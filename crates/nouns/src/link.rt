@@ -8,6 +8,8 @@ ghost use Rattle.nouns.specs.Link.{linked, before_lAr, before_DA_of, before_nUn_
 use crate::mark;
 use crate::step::step_to;
 use keys::seen::Seen;
+use marks::mark::mark_lAr;
+use marks::marked::place;
 
 // A turn takes the text from this place on, and the chain ends there or may go on there.
 #[derive(Clone, Copy)]
@@ -21,7 +23,7 @@ fn before_possessive(w: &[u8], s: Seen) -> Link
     requires { Sees w.now s }
     ensures { Some result ≡ linked w.now s.c (before_lAr (behind w.now s.c)) }
 {
-    match mark::mark_lAr(w, s) {
+    match place(mark_lAr(w, s)) {
         Some(p) => Link::Calls(p),
         None => Link::Ends(s.c.cursor),
     }
@@ -32,10 +34,10 @@ fn before_DA(w: &[u8], s: Seen) -> Link
     requires { Sees w.now s }
     ensures { Some result ≡ linked w.now s.c (before_DA_of (behind w.now s.c)) }
 {
-    if let Some(p) = mark::mark_lAr(w, s) {
+    if let Some(p) = place(mark_lAr(w, s)) {
         return Link::Calls(p);
     }
-    if let Some(p) = mark::mark_possessives(w, s) {
+    if let Some(p) = place(mark::mark_possessives(w, s)) {
         return before_possessive(w, step_to(w, s, p));
     }
     Link::Ends(s.c.cursor)
@@ -46,13 +48,13 @@ fn before_nUn(w: &[u8], s: Seen) -> Link
     requires { Sees w.now s }
     ensures { Some result ≡ linked w.now s.c (before_nUn_of (behind w.now s.c)) }
 {
-    if let Some(p) = mark::mark_lArI(w, s) {
+    if let Some(p) = place(mark::mark_lArI(w, s)) {
         return Link::Ends(p);
     }
-    if let Some(p) = mark::mark_possessives(w, s) {
+    if let Some(p) = place(mark::mark_possessives(w, s)) {
         return before_possessive(w, step_to(w, s, p));
     }
-    if let Some(p) = mark::mark_sU(w, s) {
+    if let Some(p) = place(mark::mark_sU(w, s)) {
         return before_possessive(w, step_to(w, s, p));
     }
     Link::Calls(s.c.cursor)
@@ -63,10 +65,10 @@ pub fn one_link(w: &[u8], s: Seen) -> Option<Link>
     requires { Sees w.now s }
     ensures { result ≡ linked w.now s.c (link_of (behind w.now s.c)) }
 {
-    let t = step_to(w, s, mark::mark_ki(w, s)?);
-    if let Some(p) = mark::mark_DA(w, t) {
+    let t = step_to(w, s, place(mark::mark_ki(w, s))?);
+    if let Some(p) = place(mark::mark_DA(w, t)) {
         return Some(before_DA(w, step_to(w, t, p)));
     }
-    let p = mark::mark_nUn(w, t)?;
+    let p = place(mark::mark_nUn(w, t))?;
     Some(before_nUn(w, step_to(w, t, p)))
 }

@@ -17,6 +17,8 @@ use crate::mark;
 use crate::step::step_to;
 use keys::seen;
 use keys::seen::Seen;
+use marks::mark::mark_lAr;
+use marks::marked::place;
 use utf8::cursor::Cursor;
 
 // Another text that the stage leaves of the first n bytes: those before `front`, and those from `from` on.
@@ -32,31 +34,34 @@ fn plural(w: &[u8], s: Seen) -> Option<usize>
     requires { Sees w.now s }
     ensures { result ≡ passes w.now s.c (plural chain (behind w.now s.c)) }
 {
-    let t = step_to(w, s, mark::mark_lAr(w, s)?);
+    let t = step_to(w, s, place(mark_lAr(w, s))?);
     Some(stem_suffix_chain_before_ki(w, t).unwrap_or(t.c.cursor))
 }
 
 // Possessives, and a plural before it in the word (line 388, and within 368, 400, 412).
+#[inline(always)]
 #[tactic(auto, using(crate::proofs::Laws::Passing::steps), unfolding(theorems::specs::Simple::Nouns::possessed))]
 fn possessed(w: &[u8], s: Seen) -> Option<usize>
     requires { Sees w.now s }
     ensures { result ≡ passes w.now s.c (possessed chain (behind w.now s.c)) }
 {
-    let t = step_to(w, s, mark::mark_possessives(w, s)?);
+    let t = step_to(w, s, place(mark::mark_possessives(w, s))?);
     Some(plural(w, t).unwrap_or(t.c.cursor))
 }
 
 // sU, and a plural before it in the word (lines 378, 384, and within 368, 400, 412).
+#[inline(always)]
 #[tactic(auto, using(crate::proofs::Laws::Passing::steps), unfolding(theorems::specs::Simple::Nouns::owned_by_sU_of))]
 fn owned_by_sU(w: &[u8], s: Seen) -> Option<usize>
     requires { Sees w.now s }
     ensures { result ≡ passes w.now s.c (owned_by_sU_of chain (behind w.now s.c)) }
 {
-    let t = step_to(w, s, mark::mark_sU(w, s)?);
+    let t = step_to(w, s, place(mark::mark_sU(w, s))?);
     Some(plural(w, t).unwrap_or(t.c.cursor))
 }
 
 // Possessives or sU, and a plural before it in the word (lines 368, 400, 412).
+#[inline(never)]
 #[tactic(auto, using(crate::proofs::Laws::Passing::steps))]
 fn owned(w: &[u8], s: Seen) -> Option<usize>
     requires { Sees w.now s }
@@ -71,7 +76,7 @@ fn near_ncA(w: &[u8], s: Seen) -> Option<usize>
     requires { Sees w.now s }
     ensures { result ≡ passes w.now s.c (near_ncA_of (behind w.now s.c)) }
 {
-    mark::mark_lArI(w, s)
+    place(mark::mark_lArI(w, s))
         .or_else(|| owned(w, s))
         .or_else(|| plural(w, s))
 }
@@ -82,7 +87,7 @@ fn after_ncA(w: &[u8], s: Seen) -> Option<usize>
     requires { Sees w.now s }
     ensures { result ≡ passes w.now s.c (after_ncA_of (behind w.now s.c)) }
 {
-    let t = step_to(w, s, mark::mark_ncA(w, s)?);
+    let t = step_to(w, s, place(mark::mark_ncA(w, s))?);
     Some(near_ncA(w, t).unwrap_or(t.c.cursor))
 }
 
@@ -92,7 +97,7 @@ fn pronominal(w: &[u8], s: Seen) -> Option<usize>
     requires { Sees w.now s }
     ensures { result ≡ passes w.now s.c (pronominal (behind w.now s.c)) }
 {
-    mark::mark_ndA(w, s).or_else(|| mark::mark_nA(w, s))
+    place(mark::mark_ndA(w, s)).or_else(|| place(mark::mark_nA(w, s)))
 }
 
 // What may stand before ndA or nA in the word (lines 376 and 378).
@@ -101,7 +106,7 @@ fn near_pronominal(w: &[u8], s: Seen) -> Option<usize>
     requires { Sees w.now s }
     ensures { result ≡ passes w.now s.c (near_pronominal_of (behind w.now s.c)) }
 {
-    mark::mark_lArI(w, s).or_else(|| owned_by_sU(w, s))
+    place(mark::mark_lArI(w, s)).or_else(|| owned_by_sU(w, s))
 }
 
 // Lines 374 to 380. On line 380 the chain cuts before ndA or nA, which stays.
@@ -127,7 +132,7 @@ fn ndAn_or_nU(w: &[u8], s: Seen) -> Option<usize>
     requires { Sees w.now s }
     ensures { result ≡ passes w.now s.c (ndAn_or_nU_of (behind w.now s.c)) }
 {
-    mark::mark_ndAn(w, s).or_else(|| mark::mark_nU(w, s))
+    place(mark::mark_ndAn(w, s)).or_else(|| place(mark::mark_nU(w, s)))
 }
 
 // Line 384.
@@ -157,7 +162,7 @@ fn after_DAn(w: &[u8], s: Seen) -> Option<usize>
     requires { Sees w.now s }
     ensures { result ≡ passes w.now s.c (after_DAn_of (behind w.now s.c)) }
 {
-    let t = step_to(w, s, mark::mark_DAn(w, s)?);
+    let t = step_to(w, s, place(mark::mark_DAn(w, s))?);
     Some(near_DAn(w, t).unwrap_or(t.c.cursor))
 }
 
@@ -167,7 +172,7 @@ fn nUn_or_ylA(w: &[u8], s: Seen) -> Option<usize>
     requires { Sees w.now s }
     ensures { result ≡ passes w.now s.c (nUn_or_ylA_of (behind w.now s.c)) }
 {
-    mark::mark_nUn(w, s).or_else(|| mark::mark_ylA(w, s))
+    place(mark::mark_nUn(w, s)).or_else(|| place(mark::mark_ylA(w, s)))
 }
 
 // Before lAr of line 398: the chain or, lAr being cut all the same, line 400.
@@ -185,7 +190,7 @@ fn lost_lAr(w: &[u8], s: Seen) -> Option<usize>
     requires { Sees w.now s }
     ensures { result ≡ passes w.now s.c (lost_lAr_of (behind w.now s.c)) }
 {
-    let t = step_to(w, s, mark::mark_lAr(w, s)?);
+    let t = step_to(w, s, place(mark_lAr(w, s))?);
     Some(near_lost_lAr(w, t).unwrap_or(t.c.cursor))
 }
 
@@ -215,9 +220,9 @@ fn DA_or_yU_or_yA(w: &[u8], s: Seen) -> Option<usize>
     requires { Sees w.now s }
     ensures { result ≡ passes w.now s.c (DA_or_yU_or_yA_of (behind w.now s.c)) }
 {
-    mark::mark_DA(w, s)
-        .or_else(|| mark::mark_yU(w, s))
-        .or_else(|| mark::mark_yA(w, s))
+    place(mark::mark_DA(w, s))
+        .or_else(|| place(mark::mark_yU(w, s)))
+        .or_else(|| place(mark::mark_yA(w, s)))
 }
 
 // Possessives, with lAr before it or not (line 410).
@@ -226,8 +231,8 @@ fn possessives_and_lAr(w: &[u8], s: Seen) -> Option<usize>
     requires { Sees w.now s }
     ensures { result ≡ passes w.now s.c (possessives_and_lAr_of (behind w.now s.c)) }
 {
-    let t = step_to(w, s, mark::mark_possessives(w, s)?);
-    Some(mark::mark_lAr(w, t).unwrap_or(t.c.cursor))
+    let t = step_to(w, s, place(mark::mark_possessives(w, s))?);
+    Some(place(mark_lAr(w, t)).unwrap_or(t.c.cursor))
 }
 
 // That, or lAr (line 410).
@@ -236,7 +241,7 @@ fn possessives_or_lAr(w: &[u8], s: Seen) -> Option<usize>
     requires { Sees w.now s }
     ensures { result ≡ passes w.now s.c (possessives_or_lAr_of (behind w.now s.c)) }
 {
-    possessives_and_lAr(w, s).or_else(|| mark::mark_lAr(w, s))
+    possessives_and_lAr(w, s).or_else(|| place(mark_lAr(w, s)))
 }
 
 // What may stand before DA, yU or yA in the word (line 410).
@@ -258,6 +263,15 @@ fn after_DA(w: &[u8], s: Seen) -> Option<usize>
     Some(near_DA(w, t).unwrap_or(t.c.cursor))
 }
 
+// The chain at the word's end (line 408). Few words end in `ki`, so that is asked of what is seen already.
+fn chain_alone(w: &[u8], s: Seen) -> Option<usize>
+    requires { Sees w.now s }
+    ensures { result ≡ passes w.now s.c (chain (behind w.now s.c)) }
+{
+    place(mark::mark_ki(w, s))?;
+    stem_suffix_chain_before_ki(w, s)
+}
+
 // Lines 384 to 412.
 #[tactic(auto, using(crate::proofs::Laws::Passing::steps), unfolding(crate::specs::Stage::later_lines_of))]
 fn later_lines(w: &[u8], s: Seen) -> Option<usize>
@@ -267,8 +281,8 @@ fn later_lines(w: &[u8], s: Seen) -> Option<usize>
     after_ndAn(w, s)
         .or_else(|| after_DAn(w, s))
         .or_else(|| after_nUn(w, s))
-        .or_else(|| mark::mark_lArI(w, s))
-        .or_else(|| stem_suffix_chain_before_ki(w, s))
+        .or_else(|| place(mark::mark_lArI(w, s)))
+        .or_else(|| chain_alone(w, s))
         .or_else(|| after_DA(w, s))
         .or_else(|| owned(w, s))
 }

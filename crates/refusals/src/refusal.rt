@@ -58,3 +58,15 @@ impl<'a> Word<'a> {
         Word::with_room(w, Refusal::OutputTooShort, need, room)
     }
 }
+
+// The number of the word's refusal, and the caller's own where the word is accepted and a buffer of `room` bytes is shorter than the
+// caller needs; 0 where neither applies.
+pub fn refusal_short(w: &[u8], number: u32, need: usize, room: usize) -> u32
+    ensures { result ≡ refusal_short_of number w.now need room }
+{
+    match Word::new(w) {
+        Err(refusal) => u32::from(refusal),
+        Ok(_) if room < need => number,
+        Ok(_) => 0,
+    }
+}

@@ -7,8 +7,7 @@ use Rattle.theorems.specs.Simple.Pieces.{Taken, Trace, none, keeps, total}
 use Rattle.vowels.specs.declared.harmony.Harmony.{Harmony}
 use Rattle.vowels.specs.Harmony.{heard_of}
 use Rattle.marks.specs.declared.marked.Mark.{Mark}
-use Rattle.marks.specs.declared.marked.Marked.{Marked}
-use Rattle.marks.specs.Reach.{mark_numbered}
+use Rattle.marks.specs.Reach.{Answer, mark_numbered}
 use Rattle.stages.specs.declared.trail.Stop.{Stop}
 use Rattle.stages.specs.declared.trail.Trail.{Trail}
 use Rattle.stages.specs.declared.trail.Way.{Way}
@@ -45,8 +44,8 @@ unfoldable pub no_way : Way
 no_way = record { trail = no_trail; heard = None }
 
 -- both behind one more mark and what that one found
-unfoldable pub behind_way : Marked → Way → Way
-behind_way m y = record { trail = behind_trail (stop_at m.kind m.before.cursor) y.trail; heard = option_or m.heard y.heard }
+unfoldable pub behind_way : Option Mark → ℕ → Option Harmony → Way → Way
+behind_way kind at told y = record { trail = behind_trail (stop_at kind at) y.trail; heard = option_or told y.heard }
 
 -- a branch's answer: the record moved back over all that it takes
 unfoldable pub along : List ℕ → Cursor → Trace → Option Branch
@@ -61,12 +60,12 @@ cut_to w c (keeps ts f) = Some (record { end = deleted (back_by w c (total ts));
 -- ---- an answer by its parts ----
 
 -- of one mark alone
-unfoldable pub one_mark : Marked → Branch
-one_mark m = record { end = m.before; way = behind_way m no_way }
+unfoldable pub one_mark : Answer → Branch
+one_mark m = record { end = m.before; way = behind_way m.kind m.before.cursor m.heard no_way }
 
 -- behind one more mark
-unfoldable pub behind_branch : Marked → Branch → Branch
-behind_branch m b = record { end = b.end; way = behind_way m b.way }
+unfoldable pub behind_branch : Answer → Branch → Branch
+behind_branch m b = record { end = b.end; way = behind_way m.kind m.before.cursor m.heard b.way }
 
 -- with all from its record on deleted
 unfoldable pub cut : Branch → Branch

@@ -1,6 +1,6 @@
 // The suffix stage (turkish.rs, `r_stem_nominal_verb_suffixes`): its six branches in the Rust's order. A branch answers the record
 // after its deletions, which lower the limit, with the marks that it keeps and what the first of them found that tests harmony; the text kept
-// ends at the limit. A branch that may not begin with the last letter seen fails by that alone.
+// ends at the limit.
 ghost use Rattle.std.specs.Prelude.{◌≡◌};
 ghost use Rattle.utf8.specs.Behind.{behind};
 ghost use Rattle.theorems.specs.Simple.Grammar.{mark, ◌then◌};
@@ -139,9 +139,6 @@ fn first_branch(w: &[u8], s: Seen) -> Option<Branch>
     requires { Sees w.now s }
     ensures { result ≡ cut_to w.now s.c (trace branch1 (behind w.now s.c)) }
 {
-    if !ends_first(s.ending.last) {
-        return None;
-    }
     let m = first_mark(w, s)?;
     Some(Branch::of(m).deleted())
 }
@@ -151,9 +148,6 @@ fn second_branch(w: &[u8], s: Seen) -> Option<Branch>
     requires { Sees w.now s }
     ensures { result ≡ cut_to w.now s.c (trace branch2 (behind w.now s.c)) }
 {
-    if !ends::is_A(s.ending.last) {
-        return None;
-    }
     let m = mark::mark_cAsInA(w, s)?;
     let rest = person_and_ymUs(w, seen::look_back(w, m.before))?;
     Some(rest.behind(m).deleted())
@@ -164,9 +158,6 @@ fn third_branch(w: &[u8], s: Seen) -> Option<Branch>
     requires { Sees w.now s }
     ensures { result ≡ cut_to w.now s.c (trace branch3 (behind w.now s.c)) }
 {
-    if s.ending.last != 0x72 {
-        return None;
-    }
     let m = mark::mark_lAr(w, s)?;
     let Some(n) = after_lAr(w, seen::look_back(w, m.before.deleted())) else {
         return Some(Branch::of(m).deleted());
@@ -179,9 +170,6 @@ fn fourth_branch(w: &[u8], s: Seen) -> Option<Branch>
     requires { Sees w.now s }
     ensures { result ≡ cut_to w.now s.c (trace branch4 (behind w.now s.c)) }
 {
-    if s.ending.last != 0x7A {
-        return None;
-    }
     let m = mark::mark_nUz(w, s)?;
     let n = after_nUz(w, seen::look_back(w, m.before))?;
     Some(Branch::of(n).behind(m).deleted())
@@ -192,9 +180,6 @@ fn fifth_branch(w: &[u8], s: Seen) -> Option<Branch>
     requires { Sees w.now s }
     ensures { result ≡ cut_to w.now s.c (trace branch5 (behind w.now s.c)) }
 {
-    if !ends_fifth(s.ending.last) {
-        return None;
-    }
     let m = person_alone(w, s)?;
     let Some(rest) = ymUs_alone(w, seen::look_back(w, m.before.deleted())) else {
         return Some(Branch::of(m).deleted());
@@ -207,9 +192,6 @@ fn sixth_branch(w: &[u8], s: Seen) -> Option<Branch>
     requires { Sees w.now s }
     ensures { result ≡ cut_to w.now s.c (trace branch6 (behind w.now s.c)) }
 {
-    if s.ending.last != 0x72 {
-        return None;
-    }
     let m = mark::mark_DUr(w, s)?;
     let Some(rest) = person_and_ymUs(w, seen::look_back(w, m.before.deleted())) else {
         return Some(Branch::of(m).deleted());
@@ -218,7 +200,7 @@ fn sixth_branch(w: &[u8], s: Seen) -> Option<Branch>
 }
 
 // The suffix stage of a word, entered at its end with limit_backward 0: the first branch that fits, with its flag, which a chain of closures
-// would have to find in each branch's answer.
+// would have to find in each branch's answer. Only branches that may begin with the word's last letter are tried.
 pub fn stem_nominal_verb_suffixes(w: &[u8]) -> Outcome
     ensures { result ≡ outcome_of w.now }
 {
@@ -231,23 +213,36 @@ pub fn stem_nominal_verb_suffixes(w: &[u8]) -> Outcome
             limit_backward: 0,
         },
     );
-    if let Some(b) = first_branch(w, s) {
-        return Outcome::of(b, true); // line 314
+    let last = s.ending.last;
+    if ends_first(last) {
+        if let Some(b) = first_branch(w, s) {
+            return Outcome::of(b, true); // line 314
+        }
     }
-    if let Some(b) = second_branch(w, s) {
-        return Outcome::of(b, true); // line 316
+    if ends::is_A(last) {
+        if let Some(b) = second_branch(w, s) {
+            return Outcome::of(b, true); // line 316
+        }
     }
-    if let Some(b) = third_branch(w, s) {
-        return Outcome::of(b, false); // line 318
+    if last == 0x72 {
+        if let Some(b) = third_branch(w, s) {
+            return Outcome::of(b, false); // line 318
+        }
     }
-    if let Some(b) = fourth_branch(w, s) {
-        return Outcome::of(b, true); // line 323
+    if last == 0x7A {
+        if let Some(b) = fourth_branch(w, s) {
+            return Outcome::of(b, true); // line 323
+        }
     }
-    if let Some(b) = fifth_branch(w, s) {
-        return Outcome::of(b, true); // line 325
+    if ends_fifth(last) {
+        if let Some(b) = fifth_branch(w, s) {
+            return Outcome::of(b, true); // line 325
+        }
     }
-    if let Some(b) = sixth_branch(w, s) {
-        return Outcome::of(b, true); // line 327
+    if last == 0x72 {
+        if let Some(b) = sixth_branch(w, s) {
+            return Outcome::of(b, true); // line 327
+        }
     }
     Outcome {
         kept: n,

@@ -17,14 +17,11 @@ pub struct Stop {
 impl Stop {
     // A mark's, if it is one of the suffix stage.
     #[tactic(auto, unfolding(crate::specs::Trail::stop_at))]
-    fn of(m: Marked) -> Option<Stop>
-        ensures { result ≡ stop_at m.kind m.before.cursor }
+    fn of(kind: Option<Mark>, at: usize) -> Option<Stop>
+        ensures { result ≡ stop_at kind at }
     {
-        let kind = m.kind?;
-        Some(Stop {
-            kind,
-            at: m.before.cursor,
-        })
+        let kind = kind?;
+        Some(Stop { kind, at })
     }
 }
 
@@ -36,6 +33,14 @@ pub struct Trail {
     pub third: Option<Stop>,
 }
 
+impl Trail {
+    pub const NONE: Trail = Trail {
+        first: None,
+        second: None,
+        third: None,
+    };
+}
+
 // What a branch keeps on its way: its marks, and what the first of them found that tests harmony.
 #[derive(Clone, Copy)]
 pub struct Way {
@@ -45,26 +50,22 @@ pub struct Way {
 
 impl Way {
     pub const NONE: Way = Way {
-        trail: Trail {
-            first: None,
-            second: None,
-            third: None,
-        },
+        trail: Trail::NONE,
         heard: None,
     };
 
-    // The same behind one mark that was kept before.
+    // The same behind one mark that was kept before, and what that one found.
     #[tactic(auto, unfolding(crate::specs::Trail::behind_way))]
-    fn behind(self, m: Marked) -> Way
-        ensures { result ≡ behind_way m self }
+    pub fn behind(self, kind: Option<Mark>, at: usize, told: Option<Harmony>) -> Way
+        ensures { result ≡ behind_way kind at told self }
     {
         Way {
             trail: Trail {
-                first: Stop::of(m),
+                first: Stop::of(kind, at),
                 second: self.trail.first,
                 third: self.trail.second,
             },
-            heard: m.heard.or(self.heard),
+            heard: told.or(self.heard),
         }
     }
 }
@@ -84,7 +85,7 @@ impl Branch {
     {
         Branch {
             end: m.before,
-            way: Way::NONE.behind(m),
+            way: Way::NONE.behind(m.kind, m.before.cursor, m.heard),
         }
     }
 
@@ -95,7 +96,7 @@ impl Branch {
     {
         Branch {
             end: self.end,
-            way: self.way.behind(m),
+            way: self.way.behind(m.kind, m.before.cursor, m.heard),
         }
     }
 

@@ -40,6 +40,10 @@ enum Stop {
     Writing(io::Error),
 }
 
+// A listing stopped since its output could not be written, and that was reported.
+#[derive(Clone, Copy)]
+struct Reported;
+
 // Whether folded forms are listed, and the fixed memory of a listing: a block of input, and one of output.
 #[derive(Drop)]
 struct Listing {
@@ -77,7 +81,7 @@ fn close<W: Write>(to: &mut W, folded: bool, held: &Held, out: &mut [u8]) -> io:
     ensures out_after { out.new ≡ put 0 (last_out folded held.now) out.old }
     ensures written { OnOk result (Appends (W.contents to.old) (W.contents to.new) (last_out folded held.now)) }
 {
-    let last = feed::finish(folded, held, out);
+    let last = feed::finish(folded, held.as_slice(), out);
     to.write_all(&out[..last])
 }
 
@@ -127,14 +131,14 @@ fn report(rt: &HostRuntime, what: &[u8], error: io::Error) {
     let _ = to.write_all(b"\n");
 }
 
-// Lists what a reader gives, up to its end or to an error. An error in reading is reported under the input's name, and a line that it
-// broke off is not listed; one in writing is handed on.
+// Lists what a reader gives, up to its end or to an error, which is reported here, while the input is still open: one in reading under the
+// input's name, and a line that it broke off is not listed; behind one in writing nothing more is listed.
 fn list<R: Read>(
     rt: &HostRuntime,
     from: &mut R,
     name: &[u8],
     listing: &mut Listing,
-) -> io::Result<()> {
+) -> Result<(), Reported> {
     match list_stream(
         from,
         &mut rt.stdout(),
@@ -147,17 +151,20 @@ fn list<R: Read>(
             report(rt, name, e);
             Ok(())
         }
-        Err(Stop::Writing(e)) => Err(e),
+        Err(Stop::Writing(e)) => {
+            report(rt, b"standard output", e);
+            Err(Reported)
+        }
     }
 }
 
 // Lists standard input.
-fn list_input(rt: &HostRuntime, listing: &mut Listing) -> io::Result<()> {
+fn list_input(rt: &HostRuntime, listing: &mut Listing) -> Result<(), Reported> {
     list(rt, &mut rt.stdin(), b"standard input", listing)
 }
 
 // Lists the file of a name; `-` is standard input. One that cannot be opened is reported.
-fn list_file(rt: &HostRuntime, name: &[u8], listing: &mut Listing) -> io::Result<()> {
+fn list_file(rt: &HostRuntime, name: &[u8], listing: &mut Listing) -> Result<(), Reported> {
     if name == b"-".as_slice() {
         return list_input(rt, listing);
     }
@@ -175,7 +182,7 @@ fn list_file(rt: &HostRuntime, name: &[u8], listing: &mut Listing) -> io::Result
 }
 
 // Lists the file that argument i names.
-fn list_argument(rt: &HostRuntime, i: usize, listing: &mut Listing) -> io::Result<()> {
+fn list_argument(rt: &HostRuntime, i: usize, listing: &mut Listing) -> Result<(), Reported> {
     let mut name = [0u8; NAME];
     match rt.arg(i, &mut name) {
         Ok(n) => list_file(rt, &name[..n], listing),
@@ -191,7 +198,7 @@ fn list_argument(rt: &HostRuntime, i: usize, listing: &mut Listing) -> io::Resul
 }
 
 // Lists the files that the arguments from `first` on name.
-fn list_arguments(rt: &HostRuntime, first: usize, listing: &mut Listing) -> io::Result<()> {
+fn list_arguments(rt: &HostRuntime, first: usize, listing: &mut Listing) -> Result<(), Reported> {
     for i in first..usize::MAX {
         if is_missing(rt, i) {
             return Ok(());
@@ -229,12 +236,9 @@ fn main(rt: HostRuntime) {
         block: [0; BLOCK],
         out: [0; BLOCK],
     };
-    let listed = if is_missing(&rt, i) {
+    let _ = if is_missing(&rt, i) {
         list_input(&rt, &mut listing)
     } else {
         list_arguments(&rt, i, &mut listing)
     };
-    if let Err(e) = listed {
-        report(&rt, b"standard output", e);
-    }
 }

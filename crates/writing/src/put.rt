@@ -27,6 +27,9 @@ pub fn put_bytes(out: &mut [u8], at: usize, s: &[u8], n: usize) -> usize
     ensures value { result ≡ at + n }
     ensures out_after { out.new ≡ put at (take n s.now) out.old }
 {
+    if n == 0 {
+        return at;
+    }
     out[at..at + n].copy_from_slice(&s[..n]);
     at + n
 }

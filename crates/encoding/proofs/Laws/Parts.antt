@@ -4,8 +4,8 @@ use mathlib.Core.Path.{◌≡◌, refl, sym, ap, ◌∙◌}
 use mathlib.Core.Bool.{Bool, true, false, ◌&&◌, and_assoc, false≢true}
 use mathlib.Core.List.{List, [], ◌∷◌, ◌++◌}
 use native.Mathlib.Omega.{arith}
-use lib.ListN.{length, drop, take, take-append-drop, drop_of_length-le}
-use lib.Seq.{drop-drop}
+use lib.ListN.{length, drop, take, get_or, take-append-drop, drop_of_length-le}
+use lib.Seq.{drop-drop, drop-cons}
 use lib.Dec.{ltb, leb, eqb}
 use borrow.Author.Tests.{le-leb, leb-true, ltb-true, eqb-true}
 use Rattle.std.specs.List.{prefix_len}
@@ -86,7 +86,12 @@ pub boundary_end : (w : List ℕ) (i : ℕ) → length w ≤ i → boundary (dro
 unfolding boundary
 boundary_end w i h = rw (drop_of_length-le w h)
 
--- so is the first byte that does not go on with a character
+-- so is a byte that does not go on with a character
+pub boundary-at : (w : List ℕ) (i : ℕ) {t : Bool} → i < length w → t ≡ continuation (get_or w i 0) → t ≡ false → boundary (drop i w) ≡ true
+unfolding boundary
+boundary-at w i h e f = rw (drop-cons w i 0 h, sym e, f)
+
+-- and the first such byte
 boundary-first : (w : List ℕ) → boundary (drop (prefix_len continuation w) w) ≡ true
 unfolding boundary
 boundary-first [] = refl

@@ -214,8 +214,12 @@ pub run_ends : (w : List ℕ) (i : ℕ) → plain_next word_bytes (drop i w) ≡
 unfolding run_end_of
 run_ends w i e = omega (arith, run_in-none (length (drop i w) / word_bytes) (drop i w) e)
 
+-- and where fewer than eight are left
+pub run_short : (w : List ℕ) (i : ℕ) → length w < i + word_bytes → run_end_of w i ≡ i
+run_short w i h = run_ends w i (plain-short word_bytes (drop i w) (omega (arith, length-drop i w)))
+
 -- where they are plain it goes on after them
-run_on : (w : List ℕ) (i : ℕ) → plain_next word_bytes (drop i w) ≡ true → run_end_of w (i + word_bytes) ≡ run_end_of w i
+pub run_on : (w : List ℕ) (i : ℕ) → plain_next word_bytes (drop i w) ≡ true → run_end_of w (i + word_bytes) ≡ run_end_of w i
 unfolding run_end_of run_in
 run_on w i e =
     let k : length (drop i w) / word_bytes ≡ suc (length (drop (i + word_bytes) w) / word_bytes) =
@@ -223,7 +227,7 @@ run_on w i e =
     rw (k, e, drop-drop word_bytes i w) (omega arith)
 
 -- and after any number of eights
-run-on-eights : (k : ℕ) (w : List ℕ) (i : ℕ) → plain_next (k * word_bytes) (drop i w) ≡ true → run_end_of w (i + k * word_bytes) ≡ run_end_of w i
+pub run-on-eights : (k : ℕ) (w : List ℕ) (i : ℕ) → plain_next (k * word_bytes) (drop i w) ≡ true → run_end_of w (i + k * word_bytes) ≡ run_end_of w i
 run-on-eights zero w i e = ap (run_end_of w) (add-zero i)
 run-on-eights (suc k) w i e =
     let n : suc k * word_bytes ≡ k * word_bytes + word_bytes = omega arith in

@@ -6,7 +6,7 @@ use mathlib.Core.List.{List, map}
 use native.Mathlib.Omega.{arith}
 use lib.ListN.{length, length-map}
 use lib.Dec.{ltb, leb}
-use borrow.Author.Tests.{lt-ltb, le-ltb, le-leb, leb-true, leb-false, ne_eqb, not-true, not-false}
+use borrow.Author.Tests.{lt-ltb, le-ltb, le-leb, leb-true, leb-false, eq-eqb, ne_eqb, not-true, not-false}
 use Rattle.encoding.proofs.Laws.Booleans.{and_right}
 use Rattle.turkish.specs.Calls.{limit, refusal, refusal_short_of, accepted, written, fold_text, fold_refusal, fold_call, fold_out}
 use Rattle.theorems.proofs.Laws.Accepted.{accepted-iff, accepted-text}
@@ -23,6 +23,11 @@ unfolding fold_call fold_out fold_refusal
 fold-refused w out n e h =
     let r = refusal_short_of-word 3 w (length (fold_text w)) (length out) n e h in
     (rw (← r, ne_eqb n 0 h), rw (← r, ne_eqb n 0 h))
+
+-- one with no number is accepted
+pub fold-accepted : (w : List ℕ) (n : ℕ) → n ≡ refusal w → n ≡ 0 → accepted w ≡ true
+unfolding accepted
+fold-accepted w n e z = eq-eqb (refusal w) 0 (sym e ∙ z)
 
 -- a word that the code folds as a plain one is plain
 pub long_plain-plain : (w : List ℕ) (t : Bool) → t ≡ long_plain w → t ≡ true → plain w ≡ true

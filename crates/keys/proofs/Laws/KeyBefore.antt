@@ -106,7 +106,7 @@ module _ (w : List ℕ) (s : Seen) (sees : Sees w s) where
 
       module _ (a-not : a ≡ 0 → ⊥) where
         -- a first letter other than the last character is not passed
-        first-differs : (a ≡ s.ending.last → ⊥) → None ≡ over w s.c (up_to_zero key)
+        pub first-differs : (a ≡ s.ending.last → ⊥) → None ≡ over w s.c (up_to_zero key)
         first-differs n = over_part-differs low part at 0 key 0 (λ e. a-not (a-is ∙ e)) (λ e. n (a-is ∙ e ∙ sym seen_last)) ∙ sym over-left
 
         module _ (a-same : a ≡ s.ending.last) where
@@ -115,12 +115,12 @@ module _ (w : List ℕ) (s : Seen) (sees : Sees w s) where
           left_one = over_part-next low part at 0 key 0 (λ e. a-not (a-is ∙ e)) (sym a-is ∙ a-same ∙ seen_last) ∙ sym over-left
 
           -- a key of one letter
-          second-ends : b ≡ 0 → Some s.ending.one ≡ over w s.c (up_to_zero key)
+          pub second-ends : b ≡ 0 → Some s.ending.one ≡ over w s.c (up_to_zero key)
           second-ends e = ap Some seen_one ∙ over_part-ends low part at 1 key 1 (sym b-is ∙ e) ∙ left_one
 
           module _ (b-not : b ≡ 0 → ⊥) where
             -- a second letter other than the second character is not passed
-            second-differs : (b ≡ s.ending.second → ⊥) → None ≡ over w s.c (up_to_zero key)
+            pub second-differs : (b ≡ s.ending.second → ⊥) → None ≡ over w s.c (up_to_zero key)
             second-differs n = over_part-differs low part at 1 key 1 (λ e. b-not (b-is ∙ e)) (λ e. n (b-is ∙ e ∙ sym seen-second)) ∙ left_one
 
             module _ (b-same : b ≡ s.ending.second) where
@@ -129,16 +129,16 @@ module _ (w : List ℕ) (s : Seen) (sees : Sees w s) where
               left-two = over_part-next low part at 1 key 1 (λ e. b-not (b-is ∙ e)) (sym b-is ∙ b-same ∙ seen-second) ∙ left_one
 
               -- a key of two letters
-              third-ends : d ≡ 0 → Some s.ending.two ≡ over w s.c (up_to_zero key)
+              pub third-ends : d ≡ 0 → Some s.ending.two ≡ over w s.c (up_to_zero key)
               third-ends e = ap Some seen-two ∙ over_part-ends low part at 2 key 2 (sym d-is ∙ e) ∙ left-two
 
               module _ (d-not : d ≡ 0 → ⊥) where
                 -- a third letter other than the third character is not passed
-                third-differs : (d ≡ s.ending.third → ⊥) → None ≡ over w s.c (up_to_zero key)
+                pub third-differs : (d ≡ s.ending.third → ⊥) → None ≡ over w s.c (up_to_zero key)
                 third-differs n = over_part-differs low part at 2 key 2 (λ e. d-not (d-is ∙ e)) (λ e. n (d-is ∙ e ∙ sym seen-third)) ∙ left-two
 
                 -- what is left after the third
-                third-passed : (d-same : d ≡ s.ending.third) → over w (move_to s.c s.ending.three) (up_to_zero (drop 3 key)) ≡ over w s.c (up_to_zero key)
+                pub third-passed : (d-same : d ≡ s.ending.third) → over w (move_to s.c s.ending.three) (up_to_zero (drop 3 key)) ≡ over w s.c (up_to_zero key)
                 third-passed d-same =
                     let rest = up_to_zero (drop 3 key) in
                     ap (λ (c : Cursor). over w c rest) seen-three ∙ over-back rest

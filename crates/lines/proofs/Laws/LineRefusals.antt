@@ -1,16 +1,18 @@
 -- Why a line is refused, each test's answer as a fact about the word, and the line that the number gives.
 -- Assumes nothing.
-use Prim.Native.Nat.{ℕ, zero, suc, ◌<◌}
+use Prim.Native.Nat.{ℕ, zero, suc, ◌<◌, ◌≤◌}
 use mathlib.Core.Path.{◌≡◌, refl, sym, ◌∙◌}
 use mathlib.Core.Bool.{Bool, true, false, cond}
 use mathlib.Core.List.{List}
 use native.Mathlib.Omega.{arith}
-use lib.Dec.{eqb, eqb-suc-zero}
+use lib.ListN.{length}
+use lib.Dec.{eqb, ltb, eqb-suc-zero}
 use borrow.Author.Tests.{eq-eqb, ne_eqb}
+use Rattle.encoding.specs.Validity.{is_text}
 use Rattle.turkish.specs.declared.refusal.Refusal.{Refusal}
 use Rattle.turkish.specs.declared.refusal.Refusal.TheVariants.{OverLimit, NotUtf8, OutputTooShort, HasTab, BufferTooShort, TailsRefused}
 use Rattle.turkish.specs.Letters.{tab, has}
-use Rattle.turkish.specs.Calls.{refusal, accepted}
+use Rattle.turkish.specs.Calls.{limit, refusal, accepted}
 use Rattle.turkish.specs.Refusals.{refusal_number}
 use Rattle.lines.specs.Line.{line_refusal_of, fields, refused_line, list_line}
 
@@ -33,6 +35,17 @@ module _ (w : List ℕ) (n : ℕ) (e : n ≡ refusal w) where
   line_refusal_of-none z t = rw (← e, z, ← t)
 
 -- ---- what the number says ----
+
+-- no line's number is more than 4
+pub line_refusal_of-most : (w : List ℕ) → line_refusal_of w ≤ 4
+unfolding line_refusal_of refusal
+line_refusal_of-most w = go (ltb limit (length w)) (is_text w) (has w tab)
+  where
+    go : (over valid t : Bool) → cond (eqb (cond over 1 (cond valid 0 2)) 0) (cond t 4 0) (cond over 1 (cond valid 0 2)) ≤ 4
+    go true valid t = omega arith
+    go false true true = omega arith
+    go false true false = omega arith
+    go false false t = omega arith
 
 -- a refusal's number is a digit
 pub refusal_number-few : (r : Refusal) → refusal_number r < 10

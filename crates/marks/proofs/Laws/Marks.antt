@@ -18,7 +18,6 @@ use Rattle.theorems.proofs.Laws.Traces.{trace_of-none}
 use Rattle.std.specs.Prelude.{Option, Some, None, is_some}
 use Rattle.std.specs.Option.{option_or}
 use Rattle.keys.specs.declared.among.Key.{Key}
-use Rattle.marks.specs.declared.marked.Marked.{Marked}
 use Rattle.keys.specs.declared.seen.Seen.{Seen}
 use Rattle.keys.specs.Passed.{passes}
 use Rattle.vowels.specs.declared.harmony.Harmony.{Harmony}
@@ -27,7 +26,7 @@ use Rattle.keys.specs.Search.{found_from, found}
 use Rattle.keys.specs.Seen.{Sees}
 use Rattle.vowels.proofs.Laws.Harmony.{harmony_at-some, harmony_at-heard}
 use Rattle.keys.proofs.Laws.Ends.{begins, asking-fail, mark_of-keyless, trace-unfit, last-seen}
-use Rattle.marks.specs.Reach.{mark_numbered, leading, leading_heard, reach, kept, kept_in_harmony_of, place_of}
+use Rattle.marks.specs.Reach.{Answer, mark_numbered, leading, leading_heard, reach, kept, kept_in_harmony_of, place_of}
 
 -- ---- the last letter ----
 
@@ -123,7 +122,7 @@ module _ (m : Mark) (w : List ℕ) (c : Cursor) {p : Option ℕ} (is : p ≡ pas
   keyed-discord h = sym (ap (reach w c) (trace_of-none m (behind w c) (rw h)))
 
   -- a mark that tests no harmony
-  pub mark-kept : m.harmonic ≡ false → {r : Option Marked} → r ≡ kept c (mark_numbered m.kind) p → r ≡ reach w c (trace_of m (behind w c))
+  pub mark-kept : m.harmonic ≡ false → {r : Option Answer} → r ≡ kept c (mark_numbered m.kind) p → r ≡ reach w c (trace_of m (behind w c))
   unfolding kept agrees
   mark-kept free e = e ∙ go p refl
     where
@@ -132,7 +131,7 @@ module _ (m : Mark) (w : List ℕ) (c : Cursor) {p : Option ℕ} (is : p ≡ pas
       go (Some at) y = keyed-took y (rw free) (rw free (unfold found_by heard_of in refl))
 
   -- a mark that tests it
-  pub mark-in-harmony : m.harmonic ≡ true → {r : Option Marked} → r ≡ kept_in_harmony_of w c (mark_numbered m.kind) p
+  pub mark-in-harmony : m.harmonic ≡ true → {r : Option Answer} → r ≡ kept_in_harmony_of w c (mark_numbered m.kind) p
       → r ≡ reach w c (trace_of m (behind w c))
   unfolding kept_in_harmony_of agrees
   mark-in-harmony bound e = e ∙ go p refl (harmony_at w c) refl
@@ -186,7 +185,7 @@ module _ (m : Mark) (w : List ℕ) (c : Cursor) (ks : List (List ℕ)) {a : Opti
 -- ---- answers ----
 
 -- a command that reaches nothing keeps nothing
-pub reach-fails : (w : List ℕ) (c : Cursor) (o : Trace) {r : Option Marked} → r ≡ reach w c o → r ≡ None → o ≡ none
+pub reach-fails : (w : List ℕ) (c : Cursor) (o : Trace) {r : Option Answer} → r ≡ reach w c o → r ≡ None → o ≡ none
 unfolding reach
 reach-fails w c none is fails = refl
 reach-fails w c (keeps ts f) is fails = cc
@@ -198,7 +197,7 @@ reach-or w c none q = refl
 reach-or w c (keeps ts f) q = refl
 
 -- how far a mark goes alone
-pub place-reach : (m : Mark) (w : List ℕ) (c : Cursor) {a : Option Marked} {p : Option ℕ} → a ≡ reach w c (trace_of m (behind w c)) → p ≡ place_of a
+pub place-reach : (m : Mark) (w : List ℕ) (c : Cursor) {a : Option Answer} {p : Option ℕ} → a ≡ reach w c (trace_of m (behind w c)) → p ≡ place_of a
     → p ≡ passes w c (mark_of m (behind w c))
 unfolding trace_of
 place-reach m w c e q = q ∙ ap place_of e ∙ go (mark_of m (behind w c))

@@ -24,7 +24,7 @@ use Rattle.utf8.proofs.Laws.Steps.{stands-within}
 use Rattle.utf8.proofs.Laws.Behind.{behind-back_by, back_by-add, open-back_by}
 use Rattle.utf8.proofs.Laws.BehindSteps.{CharBack, previous_char_of-behind, previous_char_of-moved, eq_s_b_of-behind}
 use Rattle.lent.specs.declared.Over.{Over}
-use Rattle.lent.specs.Over.{one_back, before_both, over}
+use Rattle.lent.specs.Over.{one_back, before_literal, over}
 use Rattle.turkish.specs.Letters.{text, from_end, any, has, starts}
 use Rattle.turkish.specs.Vowels.{vowels, vowel}
 use Rattle.theorems.specs.Simple.Grammar.{fail, took, more, after, asking, among, optional, joining, mark_of}
@@ -120,6 +120,11 @@ cond-none : {A : Type 0} (t : Bool) (x : A) → cond t (Some x) None ≡ None �
 cond-none true x e = absurd (none-some x (sym e))
 cond-none false x e = refl
 
+-- one is chosen exactly where the test holds
+some-cond : {A : Type 0} (t : Bool) (x : A) → is_some (cond t (Some x) None) ≡ t
+some-cond true x = refl
+some-cond false x = refl
+
 -- what is made of a step that a test gives
 map-cond : (t : Bool) (s : Step) → option_map (λ (p : Step). p.next) (cond t (Some s) None) ≡ cond t (Some s.next) None
 map-cond true s = refl
@@ -141,7 +146,8 @@ module _ (w : List ℕ) (c : Cursor) (o : Open w c) where
 
   -- what the steps tell where `ken` stands, with a y or without
   abbrev told : Bool → Over
-  told j = record { joined = j; here = back_by w c (taken j); next = cond (more_left j) (Some (back_by w c (taken j + 1))) None }
+  told j =
+      record { literal = true; joined = j; here = back_by w c (taken j); next = cond (more_left j) (Some (back_by w c (taken j + 1))) None }
 
   -- a step back from before them
   step-before : (j : Bool) → previous_char_of w (back_by w c (taken j))
@@ -156,48 +162,51 @@ module _ (w : List ℕ) (c : Cursor) (o : Open w c) where
   -- the y, and what is told, by the characters before `ken`
   after-ken : (j : Bool) → eq_s_b_of w y (back_by w c 3) ≡ cond j (Some (back_by w c 4)) None
       → record {
+        literal = true;
         joined = is_some (eq_s_b_of w y (back_by w c 3));
-        here = before_both w y (back_by w c 3);
-        next = one_back w (before_both w y (back_by w c 3));
+        here = before_literal w y (back_by w c 3);
+        next = one_back w (before_literal w y (back_by w c 3));
       }
       ≡ told j
-  after-ken true e = rw e (ap (λ (n : Option Cursor). record { joined = true; here = back_by w c 4; next = n }) (back-before true))
-  after-ken false e = rw e (ap (λ (n : Option Cursor). record { joined = false; here = back_by w c 3; next = n }) (back-before false))
+  after-ken true e = rw e (ap (λ (n : Option Cursor). record { literal = true; joined = true; here = back_by w c 4; next = n }) (back-before true))
+  after-ken false e = rw e (ap (λ (n : Option Cursor). record { literal = true; joined = false; here = back_by w c 3; next = n }) (back-before false))
 
   y-behind : eq_s_b_of w y (back_by w c 3) ≡ cond (starts y (drop 3 cs)) (Some (back_by w c 4)) None
   unfolding ascii
   y-behind = eq_s_b_of-starts w y (back_by w c 3) (open-back_by w c 3 o) refl ∙ rw (behind-back_by w c 3, back_by-add w c 3 1)
 
-  -- so all goes by the characters
-  over-behind : over w ken y c ≡ cond (starts (reverse ken) cs) (Some (told (starts y (drop 3 cs)))) None
-  unfolding over ascii
-  over-behind = rw (eq_s_b_of-starts w ken c o refl) (go (starts (reverse ken) cs))
-    where
-      go : (t : Bool)
-          → option_map (λ (n : Cursor). record { joined = is_some (eq_s_b_of w y n); here = before_both w y n; next = one_back w (before_both w y n) })
-          (cond t (Some (back_by w c 3)) None)
-          ≡ cond t (Some (told (starts y (drop 3 cs)))) None
-      go false = refl
-      go true = ap Some (after-ken (starts y (drop 3 cs)) y-behind)
+  ken-behind : eq_s_b_of w ken c ≡ cond (starts (reverse ken) cs) (Some (back_by w c 3)) None
+  unfolding ascii
+  ken-behind = eq_s_b_of-starts w ken c o refl
+
+  -- so where `ken` stands all goes by the characters
+  over-behind : starts (reverse ken) cs ≡ true → over w ken y c ≡ told (starts y (drop 3 cs))
+  unfolding over
+  over-behind e = rw (ken-behind, e) (after-ken (starts y (drop 3 cs)) y-behind)
+
+  -- `ken` stands where the characters begin with it, from its end
+  literal-behind : (over w ken y c).literal ≡ starts (reverse ken) cs
+  unfolding over
+  literal-behind = rw ken-behind (some-cond (starts (reverse ken) cs) (back_by w c 3))
 
   -- without `ken` the mark fails
-  pub yken-keyless : None ≡ over w ken y c → None ≡ passes w c (mark_of yken cs)
+  pub yken-keyless : {k : Over} → k ≡ over w ken y c → k.literal ≡ false → None ≡ passes w c (mark_of yken cs)
   unfolding passes
-  yken-keyless e =
-      let none : starts (reverse ken) cs ≡ false = cond-none (starts (reverse ken) cs) _ (sym over-behind ∙ sym e) in
+  yken-keyless is e =
+      let none : starts (reverse ken) cs ≡ false = sym literal-behind ∙ ap (λ (x : Over). x.literal) (sym is) ∙ e in
       rw (mark_of-yken cs, none)
 
   -- where it stands, k is told
-  module _ {k : Over} (is : Some k ≡ over w ken y c) where
-    ken-stands : (starts (reverse ken) cs ≡ true) × (told (starts y (drop 3 cs)) ≡ k)
-    ken-stands = cond_some (starts (reverse ken) cs) (told (starts y (drop 3 cs))) k (sym over-behind ∙ sym is)
+  module _ {k : Over} (is : k ≡ over w ken y c) (stood : k.literal ≡ true) where
+    ken-stands : starts (reverse ken) cs ≡ true
+    ken-stands = sym literal-behind ∙ ap (λ (x : Over). x.literal) (sym is) ∙ stood
 
     -- with a y where one stands before `ken`
     y-starts : k.joined ≡ starts y (drop 3 cs)
-    y-starts = ap (λ (x : Over). x.joined) (sym ken-stands.1)
+    y-starts = ap (λ (x : Over). x.joined) (is ∙ over-behind ken-stands)
 
     k-told : k ≡ told k.joined
-    k-told = sym ken-stands.1 ∙ ap told (sym y-starts)
+    k-told = is ∙ over-behind ken-stands ∙ ap told (sym y-starts)
 
     -- the record before both
     here-is : k.here ≡ back_by w c (taken k.joined)
@@ -211,7 +220,7 @@ module _ (w : List ℕ) (c : Cursor) (o : Open w c) where
     yken-key : passes w c (mark_of yken cs) ≡ cond (vowel (get_or cs 4 0)) (Some k.here.cursor) None
     unfolding more passes
     yken-key =
-        rw (mark_of-yken cs, ken-stands.0, optional-get_or 0x79 (drop 3 cs), ← starts-y, ← y-starts, get_or-drop 3 cs 1 0, here-is)
+        rw (mark_of-yken cs, ken-stands, optional-get_or 0x79 (drop 3 cs), ← starts-y, ← y-starts, get_or-drop 3 cs 1 0, here-is)
         (go (vowel (get_or cs 4 0)) (cond k.joined 1 0))
       where
         go : (t : Bool) (n : ℕ) → passes w c (more 3 true (cond t (took n true) fail)) ≡ cond t (Some (back_by w c (3 + n)).cursor) None

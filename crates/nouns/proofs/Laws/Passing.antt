@@ -13,12 +13,14 @@ use Rattle.utf8.specs.Steps.{move_to}
 use Rattle.utf8.specs.Behind.{behind, back_by, Open}
 use Rattle.utf8.proofs.Laws.Behind.{behind-back_by, back_by-add, move_to-back_by, open-back_by}
 use Rattle.theorems.specs.Simple.Grammar.{Out, fail, took, more, after, first, mark_of}
-use Rattle.theorems.specs.Simple.NounMarks.{possessives, sU}
-use Rattle.theorems.specs.Simple.Nouns.{Taking, both, either, perhaps, plural, possessed, owned, owned_by_sU_of}
+use Rattle.theorems.specs.Simple.NounMarks.{possessives, sU, ki}
+use Rattle.theorems.specs.Simple.Nouns.{Taking, both, either, perhaps, plural, possessed, owned, owned_by_sU_of, link, chain}
+use Rattle.theorems.proofs.Laws.Chain.{chain-text}
 use Rattle.keys.specs.declared.seen.Seen.{Seen}
 use Rattle.keys.specs.Passed.{passes}
 use Rattle.keys.specs.Seen.{seen_at, Sees}
 use Rattle.keys.proofs.Laws.Sees.{seen-c, sees-made}
+use Rattle.marks.proofs.Laws.Marks.{place-reach}
 
 -- ---- one answer ----
 
@@ -144,5 +146,12 @@ pub owned-either : (chain : Taking) (cs : List ℕ) → owned chain cs ≡ eithe
 unfolding owned possessed owned_by_sU_of
 owned-either chain cs = both-either (mark_of possessives) (mark_of sU) (plural chain) cs
 
--- what the check of a step and of what stands before it needs
-pub ruleset steps = (leads-open, step-sees, both-none, both-then, both-perhaps, passes-either, owned-either)
+-- ---- the chain ----
+
+-- it fails where no `ki` stands
+pub chain-kiless : (w : List ℕ) (c : Cursor) {p : Option ℕ} → p ≡ passes w c (mark_of ki (behind w c)) → p ≡ None → None ≡ passes w c (chain (behind w c))
+unfolding link
+chain-kiless w c is e = both-none w c (mark_of ki) _ is e ∙ sym (ap (passes w c) (chain-text (behind w c)))
+
+-- what the check of a mark's place, of a step and of what stands before it needs
+pub ruleset steps = (place-reach, leads-open, step-sees, both-none, both-then, both-perhaps, passes-either, owned-either)

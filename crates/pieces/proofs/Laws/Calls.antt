@@ -5,11 +5,11 @@ use mathlib.Core.Bool.{true}
 use mathlib.Core.List.{List, [], map, Permᴰ}
 use native.Mathlib.Omega.{arith}
 use lib.ListN.{length, take}
-use borrow.Author.Tests.{ne_eqb}
+use borrow.Author.Tests.{eq-eqb, ne_eqb}
 use Rattle.turkish.specs.declared.answer.PiecesAnswer.{PiecesAnswer}
 use Rattle.turkish.specs.declared.answer.LengthAnswer.{LengthAnswer}
 use Rattle.turkish.specs.declared.endings.Removed.{Removed}
-use Rattle.turkish.specs.Calls.{accepted, refusal_short_of, written, stage_call}
+use Rattle.turkish.specs.Calls.{refusal, accepted, refusal_short_of, written, stage_call}
 use Rattle.turkish.specs.PieceCalls.{Span, spans_of, InSomeOrder, piece_refusal, given, told, Lists, pieces_room, buffer, buffer_of, pieces_refusal, pieces_call, PiecesOut}
 use Rattle.turkish.specs.PieceCalls.{text_room, text_of, pieces_text_refusal, pieces_text_call, PiecesTextOut}
 use Rattle.theorems.proofs.PieceTheorems.{text-fits}
@@ -29,6 +29,11 @@ as-they-are : (form : List Span → List ℕ) (ps : List Span) {before after : L
 as-they-are form ps e = record { order = ps; rearranged = mathlib.Core.List.Permᴰ.refl ps; holds = e }
 
 -- ---- the list ----
+
+-- a word that has no number is accepted
+pub refusal-accepted : (w : List ℕ) → refusal w ≡ 0 → accepted w ≡ true
+unfolding accepted
+refusal-accepted w e = eq-eqb (refusal w) 0 e
 
 -- the list of an accepted word
 module _ (w : List ℕ) (a : accepted w ≡ true) {r : Removed} (m : r ≡ removed_of w) where

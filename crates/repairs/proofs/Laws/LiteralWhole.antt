@@ -60,7 +60,7 @@ same-stands_at_of-around w (b ∷ r) s (suc c) a l =
     ) (and-swap (eqb (get_or w c 0) b) (same (before w c) r) (stands_at_of w (suc c) s))
 
 -- the first n bytes are exactly an ASCII literal where the characters before place n are exactly the literal's, from its end
-same-stands_at_of : (w s : List ℕ) (n : ℕ) → ascii s ≡ true → n ≤ length w → same (before w n) (reverse s) ≡ (eqb n (length s) && stands_at_of w 0 s)
+pub same-stands_at_of : (w s : List ℕ) (n : ℕ) → ascii s ≡ true → n ≤ length w → same (before w n) (reverse s) ≡ (eqb n (length s) && stands_at_of w 0 s)
 unfolding ascii stands_at_of same
 same-stands_at_of w s n a l =
     let around = same-stands_at_of-around w (reverse s) [] n (ascii-reverse_aux s [] a refl) l in

@@ -1,9 +1,9 @@
 -- The postlude's pieces by the tests that decide them: the reserved words, the vowel gained, the consonant hardened, what is seen from
 -- the end, the repair. Assumes nothing.
 use Prim.Native.Nat.{ℕ, ◌≤◌, ◌<◌}
-use mathlib.Core.Path.{◌≡◌, refl}
-use mathlib.Core.Logic.{◌⊎◌, inl, inr}
-use mathlib.Core.Bool.{Bool, true, false, cond, ◌||◌, or-false}
+use mathlib.Core.Path.{◌≡◌, refl, sym, ap, ◌∙◌}
+use mathlib.Core.Logic.{◌⊎◌, inl, inr, ⊎_elim}
+use mathlib.Core.Bool.{Bool, true, false, cond, ◌||◌, or-false, false≢true}
 use mathlib.Core.List.{List, [], ◌∷◌}
 use native.Mathlib.Omega.{arith}
 use lib.ListN.{length, take, drop, get_or}
@@ -15,7 +15,7 @@ use Rattle.utf8.specs.Characters.{before}
 use Rattle.utf8.proofs.Laws.Characters.{back-le, before_back}
 use Rattle.utf8.proofs.Laws.Behind.{behind-before, back_by-back, open-start}
 use Rattle.turkish.specs.Letters.{text, from_end, any, has, starts}
-use Rattle.turkish.specs.Vowels.{last_vowel_of}
+use Rattle.turkish.specs.Vowels.{last_vowel_of, vowels, vowel}
 use Rattle.theorems.specs.Simple.Postlude.{reserved, gained, hardenings, hard_in, hard}
 use Rattle.theorems.proofs.PostludeRules.{gained-elim}
 use Rattle.keys.specs.declared.seen.Seen.{Seen}
@@ -64,6 +64,14 @@ gained-none v p q r s =
 -- the vowel gained is a character of two bytes at most
 gained-short : (v : ℕ) → gained v < 0x800
 gained-short v = gained-elim (λ n. n < 0x800) v (omega arith) (omega arith) (omega arith) (omega arith) (omega arith)
+
+-- nothing is gained after what is no vowel
+pub gained-vowelless : (v : ℕ) → vowel v ≡ false → 0 ≡ gained v
+unfolding vowel vowels has any text
+gained-vowelless v f =
+    let not-one : (a : ℕ) → vowel a ≡ true → v ≡ a → ⊥ = λ a t e. false≢true (sym f ∙ ap vowel e ∙ t) in
+    gained-none v (⊎_elim (not-one 0x61 refl) (not-one 0x131 refl)) (⊎_elim (not-one 0x65 refl) (not-one 0x69 refl))
+    (⊎_elim (not-one 0x6F refl) (not-one 0x75 refl)) (⊎_elim (not-one 0xF6 refl) (not-one 0xFC refl))
 
 -- the code gives none where the vowel gained is 0
 pub gain-zero : (v : ℕ) → v ≡ 0 → None ≡ gain v

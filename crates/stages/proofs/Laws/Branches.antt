@@ -26,10 +26,9 @@ use Rattle.keys.specs.Seen.{seen_at, Sees}
 use Rattle.theorems.proofs.Laws.Tests.{every}
 use Rattle.keys.specs.Ends.{is_U_of, is_a, is_kmn_of}
 use Rattle.keys.proofs.Laws.Ends.{last_passes, begins, trace-unfit, last-seen}
-use Rattle.keys.proofs.Laws.Sees.{seen-c}
+use Rattle.keys.proofs.Laws.Sees.{seen-c, sees-made}
 use Rattle.std.specs.Prelude.{MatchOption}
-use Rattle.marks.specs.declared.marked.Marked.{Marked}
-use Rattle.marks.specs.Reach.{reach}
+use Rattle.marks.specs.Reach.{Answer, reach}
 use Rattle.marks.proofs.Laws.Marks.{reach-fails}
 use Rattle.stages.specs.declared.trail.Branch.{Branch}
 use Rattle.stages.specs.Groups.{person_mark, first_ends_of, fifth_ends}
@@ -75,13 +74,13 @@ module _ (cs : List ℕ) where
       go (keeps us g) = unfold more_trace in refl
 
 -- a person's ending that fits is a step
-pub steps-person : (w : List ℕ) (c : Cursor) {r : Option Marked} {m : Marked} → r ≡ reach w c (trace person_mark (behind w c)) → r ≡ Some m
+pub steps-person : (w : List ℕ) (c : Cursor) {r : Option Answer} {m : Answer} → r ≡ reach w c (trace person_mark (behind w c)) → r ≡ Some m
     → Steps w c (trace person (behind w c)) m
 unfolding only_marks
 steps-person w c is to = rw (person-first (behind w c)) at (first_step w c (steps-group w c person_mark refl is to) (keeps [] true))
 
 -- the next of a group's marks, tried where those before it fail
-pub reach-else : (w : List ℕ) (c : Cursor) (o q : Trace) {a r : Option Marked} {P : Type 0} → a ≡ reach w c o → MatchOption a P (λ m. r ≡ Some m)
+pub reach-else : (w : List ℕ) (c : Cursor) (o q : Trace) {a r : Option Answer} {P : Type 0} → a ≡ reach w c o → MatchOption a P (λ m. r ≡ Some m)
     → (P → r ≡ reach w c q) → r ≡ reach w c (first_trace o q)
 unfolding first_trace
 reach-else w c o q {a = None} is tried next = next tried ∙ sym (ap (λ (x : Trace). reach w c (first_trace x q)) (reach-fails w c o is refl))
@@ -96,7 +95,7 @@ from-seen : {R : Type 0} (f : List ℕ → Cursor → Trace → R) (w : List ℕ
 from-seen f w c q e is = is ∙ ap (λ (x : Cursor). f w x (q (behind w x))) (seen-c w c e)
 
 -- a mark's or a group's
-pub reach-seen : (w : List ℕ) (c : Cursor) (q : List ℕ → Trace) {s : Seen} {r : Option Marked} → s ≡ seen_at w c → r ≡ reach w s.c (q (behind w s.c))
+pub reach-seen : (w : List ℕ) (c : Cursor) (q : List ℕ → Trace) {s : Seen} {r : Option Answer} → s ≡ seen_at w c → r ≡ reach w s.c (q (behind w s.c))
     → r ≡ reach w c (q (behind w c))
 reach-seen = from-seen reach
 
@@ -149,6 +148,11 @@ pub passed_over : (b q : Command) (cs : List ℕ) → trace b cs ≡ none → tr
 unfolding trace first_trace
 passed_over b q cs e = ap (λ (o : Trace). first_trace o (trace q cs)) e
 
+-- where the stage is a branch and others, and this one keeps nothing, it is the others
+pub next_guarded : (w : List ℕ) (b q : Command) → trace branches (chars w) ≡ trace (b or q) (chars w) → trace b (chars w) ≡ none
+    → trace branches (chars w) ≡ trace q (chars w)
+next_guarded w b q left out = left ∙ passed_over b q (chars w) out
+
 -- a branch that is cut keeps these marks, and its flag is f
 record Cut (w : List ℕ) (c : Cursor) (o : Trace) (f : Bool) (b : Branch) : Type 0 where
   marks : List Taken
@@ -192,6 +196,14 @@ pub open-whole : (w : List ℕ) → Open w (whole w)
 unfolding whole
 open-whole w = open-start w (length w) (length w) (omega arith) (omega arith)
 
+-- a branch that may not begin with the last letter seen there keeps nothing
+pub branch-out-end : (w : List ℕ) {s : Seen} → s ≡ seen_at w (whole w) → (p : ℕ → Bool) (b : Command) → begins p b ≡ true → p s.ending.last ≡ false
+    → trace b (chars w) ≡ none
+unfolding chars whole
+branch-out-end w {s = s} is p b e f =
+    let characters = ap (behind w) (seen-c w (whole w) is) ∙ behind-before w (length w) (length w) in
+    sym (ap (trace b) characters) ∙ branch-out p b e w s (sees-made w (whole w) is (open-whole w)) f
+
 module _ (w : List ℕ) {s : Seen} (is : s ≡ seen_at w (whole w)) (b : Command) {r : Option Branch} (e : r ≡ cut_to w s.c (trace b (behind w s.c))) where
   -- a branch from what is seen there is one on all the word's characters
   at-end : r ≡ cut_to w (whole w) (trace b (chars w))
@@ -218,4 +230,4 @@ module _ (w : List ℕ) {s : Seen} (is : s ≡ seen_at w (whole w)) (b : Command
 
   -- where the stage is this branch and others, and this one does not fit, it is the others
   pub next_branch : (q : Command) → trace branches (chars w) ≡ trace (b or q) (chars w) → r ≡ None → trace branches (chars w) ≡ trace q (chars w)
-  next_branch q left fails = left ∙ passed_over b q (chars w) (branch-unfit fails)
+  next_branch q left fails = next_guarded w b q left (branch-unfit fails)

@@ -17,10 +17,9 @@ use Rattle.theorems.specs.Simple.Pieces.{Taken, Trace, none, keeps, total, more_
 use Rattle.theorems.proofs.Laws.Traces.{total-append}
 use Rattle.std.specs.Prelude.{Option, Some, None, option_map}
 use Rattle.std.specs.Option.{option_or}
-use Rattle.marks.specs.declared.marked.Marked.{Marked}
 use Rattle.vowels.specs.declared.harmony.Harmony.{Harmony}
 use Rattle.vowels.specs.Harmony.{heard_of}
-use Rattle.marks.specs.Reach.{mark_numbered, leading, leading_heard, reach}
+use Rattle.marks.specs.Reach.{Answer, mark_numbered, leading, leading_heard, reach}
 use Rattle.stages.specs.declared.trail.Trail.{Trail}
 use Rattle.stages.specs.declared.trail.Way.{Way}
 use Rattle.stages.specs.declared.trail.Branch.{Branch}
@@ -66,15 +65,15 @@ one-group unset cs e = absurd (false≢true e)
 -- ---- a step ----
 
 -- an answer that takes record c to where a mark leads, behind which what is kept from there on stands
-pub record Steps (w : List ℕ) (c : Cursor) (o : Trace) (m : Marked) : Type 0 where
+pub record Steps (w : List ℕ) (c : Cursor) (o : Trace) (m : Answer) : Type 0 where
   marks : List Taken
   flag : Bool
   keeps-is : o ≡ keeps marks flag
   there : m.before ≡ back_by w c (total marks)
-  goes_on : (ts : List Taken) → behind_way m (way_of w m.before ts) ≡ way_of w c (marks ++ ts)
+  goes_on : (ts : List Taken) → behind_way m.kind m.before.cursor m.heard (way_of w m.before ts) ≡ way_of w c (marks ++ ts)
 
 -- one mark taken is a step
-steps-taken : (w : List ℕ) (c : Cursor) (t : Taken) (f : Bool) {m : Marked} → m.before ≡ back_by w c (total (t ∷ []))
+steps-taken : (w : List ℕ) (c : Cursor) (t : Taken) (f : Bool) {m : Answer} → m.before ≡ back_by w c (total (t ∷ []))
     → m.kind ≡ mark_numbered t.kind → m.heard ≡ heard_of w c t.found → Steps w c (keeps (t ∷ []) f) m
 unfolding total way_of trail_of heard_along behind_way
 steps-taken w c t f b k h =
@@ -82,21 +81,21 @@ steps-taken w c t f b k h =
     record { marks = t ∷ []; flag = f; keeps-is = refl; there = b; goes_on = λ ts. rw (there, k, h) }
 
 -- an answer of one mark that reaches a record is a step to it
-steps-one : (w : List ℕ) (c : Cursor) {o : Trace} {r : Option Marked} {m : Marked} → One o → r ≡ reach w c o → r ≡ Some m → Steps w c o m
+steps-one : (w : List ℕ) (c : Cursor) {o : Trace} {r : Option Answer} {m : Answer} → One o → r ≡ reach w c o → r ≡ Some m → Steps w c o m
 unfolding reach leading leading_heard
 steps-one w c failing is to = cc
 steps-one w c {m = m} (single t f) is to =
     let same : m ≡ record { before = back_by w c (total (t ∷ [])); kind = mark_numbered t.kind; heard = heard_of w c t.found } = cc in
-    steps-taken w c t f (ap (λ (x : Marked). x.before) same) (ap (λ (x : Marked). x.kind) same) (ap (λ (x : Marked). x.heard) same)
+    steps-taken w c t f (ap (λ (x : Answer). x.before) same) (ap (λ (x : Answer). x.kind) same) (ap (λ (x : Answer). x.heard) same)
 
 -- so is a mark that does
-pub steps-mark : (w : List ℕ) (c : Cursor) (k : Mark) {r : Option Marked} {m : Marked} → r ≡ reach w c (trace_of k (behind w c)) → r ≡ Some m
+pub steps-mark : (w : List ℕ) (c : Cursor) (k : Mark) {r : Option Answer} {m : Answer} → r ≡ reach w c (trace_of k (behind w c)) → r ≡ Some m
     → Steps w c (trace_of k (behind w c)) m
 unfolding trace_of
 steps-mark w c k = steps-one w c (one_out k (behind w c) (mark_of k (behind w c)))
 
 -- and a group
-pub steps-group : (w : List ℕ) (c : Cursor) (p : Command) → only_marks p ≡ true → {r : Option Marked} {m : Marked}
+pub steps-group : (w : List ℕ) (c : Cursor) (p : Command) → only_marks p ≡ true → {r : Option Answer} {m : Answer}
     → r ≡ reach w c (trace p (behind w c)) → r ≡ Some m → Steps w c (trace p (behind w c)) m
 steps-group w c p e = steps-one w c (one-group p (behind w c) e)
 
@@ -178,7 +177,7 @@ cut_to-deleted w c (keeps ts f) =
 -- ---- what it answers after a step ----
 
 -- the deletion may come before or after
-cut-behind : (m : Marked) (b : Option Branch) → option_map cut (option_map (behind_branch m) b) ≡ option_map (behind_branch m) (option_map cut b)
+cut-behind : (m : Answer) (b : Option Branch) → option_map cut (option_map (behind_branch m) b) ≡ option_map (behind_branch m) (option_map cut b)
 unfolding cut behind_branch
 cut-behind m None = refl
 cut-behind m (Some b) = refl
@@ -192,7 +191,7 @@ after_none o q e = ap (λ (x : Trace). after_trace x q) e
 abbrev pub then_try : List ℕ → Cursor → Trace → (List ℕ → Trace) → Trace
 then_try w c o q = after_trace o (λ k. first_trace (q (drop k (behind w c))) (keeps [] true))
 
-module _ (w : List ℕ) (c : Cursor) {o : Trace} {m : Marked} (s : Steps w c o m) where
+module _ (w : List ℕ) (c : Cursor) {o : Trace} {m : Answer} (s : Steps w c o m) where
   -- a step leaves an open record open
   pub open_step : Open w c → Open w m.before
   open_step opens = rw s.there (open-back_by w c (total s.marks) opens)
@@ -280,4 +279,4 @@ module _ (w : List ℕ) (c : Cursor) {o : Trace} {m : Marked} (s : Steps w c o m
     unfolding one_mark behind_branch cut deleted
     try-none opens fails {b} {d} one e =
         then-deleted (λ cs. first_trace (q cs) (keeps [] true)) gone (stays-along w f (q (behind w f)) (open-cut gone opens) fails) refl
-        (e ∙ ap cut one ∙ ap (λ (x : Cursor). record { end = x; way = behind_way m no_way }) (sym (ap deleted gone)))
+        (e ∙ ap cut one ∙ ap (λ (x : Cursor). record { end = x; way = behind_way m.kind m.before.cursor m.heard no_way }) (sym (ap deleted gone)))

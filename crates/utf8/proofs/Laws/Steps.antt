@@ -43,6 +43,21 @@ stands-within w r e =
       end = leb-true _ _ (and_right (l && h) (leb r.limit (length w)) e);
     }
 
+-- a cursor below limit_backward is not within
+pub stands-low : (w : List ℕ) (r : Cursor) → r.cursor < r.limit_backward → stands w r ≡ false
+unfolding stands
+stands-low w r h = rw (lt-leb r.limit_backward r.cursor h)
+
+-- nor is one past limit
+pub stands-high : (w : List ℕ) (r : Cursor) → r.limit < r.cursor → stands w r ≡ false
+unfolding stands
+stands-high w r h = rw (lt-leb r.cursor r.limit h, and-false (leb r.limit_backward r.cursor))
+
+-- with both in order, limit decides
+pub stands-end : (w : List ℕ) (r : Cursor) → r.limit_backward ≤ r.cursor → r.cursor ≤ r.limit → stands w r ≡ leb r.limit (length w)
+unfolding stands
+stands-end w r l h = rw (le-leb r.limit_backward r.cursor l, le-leb r.cursor r.limit h)
+
 -- a record whose places are in order lies within the word
 pub stands-ordered : (w : List ℕ) (r : Cursor) → r.limit_backward ≤ r.cursor → r.cursor ≤ r.limit → r.limit ≤ length w → stands w r ≡ true
 unfolding stands
@@ -135,6 +150,11 @@ module _ (w s : List ℕ) (i j : ℕ) (h : i ≤ j) (k : j ≤ length w) where
 
 -- ---- eq_s_b_of ----
 
+-- there is none on a record outside the word
+pub eq_s_b_of-out : (w s : List ℕ) (r : Cursor) → stands w r ≡ false → eq_s_b_of w s r ≡ None
+unfolding eq_s_b_of
+eq_s_b_of-out w s r e = rw e
+
 -- on a record within the word the bytes between limit_backward and the cursor decide
 pub eq_s_b_of-sliced : (w s : List ℕ) (r : Cursor) → stands w r ≡ true
     → eq_s_b_of w s r ≡ cond (ends_with eqb (take (r.cursor - r.limit_backward) (drop r.limit_backward w)) s) (Some (move_to r (r.cursor - length s))) None
@@ -148,6 +168,15 @@ pub eq_s_b_of-moves : (w s : List ℕ) (r : Cursor) → stands w r ≡ true → 
     → stands_at_of w (r.cursor - length s) s ≡ true → eq_s_b_of w s r ≡ Some (move_to r (r.cursor - length s))
 unfolding eq_s_b_of
 eq_s_b_of-moves w s r e h f = rw (e, le-leb (r.limit_backward + length s) r.cursor h, f)
+
+-- a literal for which limit_backward leaves room lies within the word
+pub within-back : (w s : List ℕ) (r : Cursor) → stands w r ≡ true → length s ≤ r.cursor - r.limit_backward → r.cursor - length s + length s ≤ length w
+within-back w s r e h =
+    let i = stands-within w r e in
+    let low = i.low in
+    let high = i.high in
+    let end = i.end in
+    omega arith
 
 -- what is known where a literal was passed back: the record moved by it and no further than limit_backward, and it stood before the cursor
 pub record MovedBack (w s : List ℕ) (r n : Cursor) : Type 0 where
@@ -173,7 +202,12 @@ eq_s_b_of-moved w s r n e =
 
 -- ---- eq_s_of ----
 
--- there is none at limit
+-- there is none on a record outside the word
+pub eq_s_of-out : (w s : List ℕ) (r : Cursor) → stands w r ≡ false → eq_s_of w s r ≡ None
+unfolding eq_s_of
+eq_s_of-out w s r e = rw e
+
+-- nor at limit
 pub eq_s_of-edge : (w s : List ℕ) (r : Cursor) → r.limit ≤ r.cursor → eq_s_of w s r ≡ None
 unfolding eq_s_of
 eq_s_of-edge w s r h = rw (le-ltb r.cursor r.limit h, and-false (stands w r))
@@ -191,6 +225,14 @@ pub eq_s_of-moves : (w s : List ℕ) (r : Cursor) → stands w r ≡ true → r.
     → stands_at_of w r.cursor s ≡ true → eq_s_of w s r ≡ Some (move_to r (r.cursor + length s))
 unfolding eq_s_of
 eq_s_of-moves w s r e l h f = rw (e, lt-ltb r.cursor r.limit l, le-leb (r.cursor + length s) r.limit h, f)
+
+-- a literal for which limit leaves room lies within the word
+pub within_on : (w s : List ℕ) (r : Cursor) → stands w r ≡ true → length s ≤ r.limit - r.cursor → r.cursor + length s ≤ length w
+within_on w s r e h =
+    let i = stands-within w r e in
+    let high = i.high in
+    let end = i.end in
+    omega arith
 
 -- what is known where a literal was passed on: the record moved by it and no further than limit, and it stood at the cursor
 pub record MovedOn (w s : List ℕ) (r n : Cursor) : Type 0 where

@@ -1,14 +1,17 @@
 -- The walk to the last vowel: what a turn does to its answer, and what stands before the place that it gives. Assumes nothing.
 use Prim.Native.Nat.{ℕ, ◌-◌, ◌≤◌}
 use mathlib.Core.Path.{◌≡◌, refl, sym, ap, ◌∙◌}
-use mathlib.Core.Bool.{Bool, true, false, cond, ◌||◌, true≢false}
+use mathlib.Core.Bool.{Bool, true, false, cond, not, ◌||◌, true≢false, false≢true}
 use mathlib.Core.List.{List, [], ◌∷◌}
+use lib.Dec.{eqb}
+use borrow.Author.Tests.{ne_eqb, eqb-true}
 use Rattle.std.specs.Prelude.{Option, Some, None, is_some}
 use Rattle.std.proofs.lemmas.Option.{cond_some}
+use Rattle.encoding.proofs.Laws.Booleans.{not-eq-true}
 use Rattle.utf8.specs.Characters.{last_width_of, before, back}
 use Rattle.utf8.proofs.Laws.Characters.{before-zero, before_back, back-le}
-use Rattle.turkish.specs.Letters.{any}
-use Rattle.turkish.specs.Vowels.{vowel, last_vowel_of, before_last_vowel}
+use Rattle.turkish.specs.Letters.{any, has, text}
+use Rattle.turkish.specs.Vowels.{vowels, vowel, last_vowel_of, before_last_vowel}
 use Rattle.theorems.specs.Simple.Harmony.{to_first, more_than_one_syllable}
 use Rattle.theorems.proofs.Laws.Harmony.{drop-to_vowel}
 use Rattle.vowels.specs.declared.walk.LastVowel.{LastVowel}
@@ -52,16 +55,20 @@ neither : (a b : Bool) → a || b ≡ false → (a ≡ false) × (b ≡ false)
 neither true b e = absurd (true≢false e)
 neither false b e = (refl, e)
 
--- where it finds none the last vowel is 0
-any-last_vowel_of : (cs : List ℕ) → any vowel cs ≡ false → last_vowel_of cs ≡ 0
-unfolding any last_vowel_of
-any-last_vowel_of [] e = refl
-any-last_vowel_of (c ∷ cs) e =
-    let none = neither (vowel c) (any vowel cs) e in
-    rw none.0 (any-last_vowel_of cs none.1)
+-- the last vowel is not 0 where one of the characters is a vowel
+any-last_vowel_of : (cs : List ℕ) → not (eqb (last_vowel_of cs) 0) ≡ any vowel cs
+unfolding last_vowel_of any
+any-last_vowel_of [] = refl
+any-last_vowel_of (c ∷ cs) = go (vowel c) refl (any-last_vowel_of cs)
+  where
+    go : (t : Bool) → vowel c ≡ t → not (eqb (last_vowel_of cs) 0) ≡ any vowel cs → not (eqb (cond t c (last_vowel_of cs)) 0) ≡ t || any vowel cs
+    go true e h = ap not (ne_eqb c 0 (λ z. false≢true (unfold vowel vowels has text in sym (ap vowel z) ∙ e)))
+    go false e h = h
 
+-- so it is 0 where the walk finds none
 pub last_vowel_answer-zero : (w : List ℕ) (c : ℕ) → last_vowel_answer w c ≡ None → last_vowel_of (before w c) ≡ 0
-last_vowel_answer-zero w c e = any-last_vowel_of (before w c) (sym (last_vowel_answer-any w c) ∙ ap is_some e)
+last_vowel_answer-zero w c e =
+    eqb-true _ 0 (not-eq-true _ (any-last_vowel_of (before w c) ∙ sym (last_vowel_answer-any w c) ∙ ap is_some e))
 
 -- an answer l of the walk from place c
 module _ (w : List ℕ) (c : ℕ) (l : LastVowel) (e : last_vowel_answer w c ≡ Some l) where

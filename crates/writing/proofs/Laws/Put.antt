@@ -6,8 +6,8 @@ use mathlib.Core.List.{List, [], ◌∷◌, ◌++◌, append_assoc}
 use native.Mathlib.Omega.{arith}
 use native.Mathlib.Nat.{add-zero, add_assoc}
 use native.Mathlib.Numerals.{add-one}
-use lib.ListN.{length, take, drop, set, length-append, length-take, length-drop, take-append-drop}
-use lib.Seq.{length-take-le, take_all, take-length, take_at, take-append_seam, drop-append-add, take-take, drop-drop, take-add, set_split}
+use lib.ListN.{length, take, drop, get_or, set, length-append, length-take, length-drop, take-append-drop}
+use lib.Seq.{length-take-le, take_all, take-length, take_at, take-append_seam, drop-append-add, take-take, drop-drop, take-add, set_split, paste, paste-suc}
 use borrow.Rule.Slice.PartMut.{put_mid}
 use Rattle.writing.specs.Put.{put}
 
@@ -22,6 +22,17 @@ put-nothing at out = rw (add-zero, take-append-drop)
 pub set-put : (at b : ℕ) (out : List ℕ) → at < length out → set out at b ≡ put at (b ∷ []) out
 unfolding put
 set-put at b out h = set_split out at b h ∙ rw add-one
+
+-- a text written is a copy
+put-paste : (at n : ℕ) (s out : List ℕ) → n ≤ length s → put at (take n s) out ≡ paste out at s n
+unfolding put
+put-paste at n s out h = rw (length-take-le n s h, append_assoc)
+
+-- the byte at place i of a text, stored after the bytes before it
+pub set_next : (at i : ℕ) (s out o : List ℕ) → at + i < length out → i < length s → o ≡ put at (take i s) out
+    → set o (at + i) (get_or s i 0) ≡ put at (take (i + 1) s) out
+set_next at i s out o h l e =
+    rw (e, put-paste at i s out (omega arith), paste-suc out at s i 0, put-paste at (i + 1) s out (omega arith), add-one)
 
 -- the first n bytes of a text, copied over the n bytes from place `at` on, are written there
 pub put-copied : (at n : ℕ) (s out : List ℕ) {t : List ℕ} → n ≤ length s → t ≡ take n s → put_mid at (at + n - at) out t ≡ put at (take n s) out

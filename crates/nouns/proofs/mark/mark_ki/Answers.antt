@@ -4,14 +4,16 @@ use Rattle.turkish.specs.Letters.{text, from_end}
 use Rattle.theorems.specs.Simple.Marks.{marked, unjoined}
 use Rattle.theorems.specs.Simple.NounMarks.{ki}
 use Rattle.keys.specs.Keys.{up_to_zero, rows}
-use Rattle.marks.proofs.Laws.Marks.{key-alone}
-use Rattle.nouns.proofs.Laws.Marks.{mark-none, mark-free}
+use Rattle.marks.specs.Reach.{mark_numbered}
+use Rattle.marks.proofs.Laws.Marks.{mark-nothing, mark-kept, key-alone}
 use Rattle.nouns.proofs.mark.mark_ki.Goals as goal
 
 pub returns-in_default : goal.returns-in_default
 unfolding ki marked rows up_to_zero from_end text
-returns-in_default c = mark-none ki _ _ c.find_among_b.ensures c.in_default.is
+returns-in_default c = mark-nothing ki _ _ _ c.find_among_b.ensures refl c.in_default.is
 
 pub returns : goal.returns
-unfolding unjoined ki marked rows up_to_zero from_end text
-returns c = mark-free ki _ _ (key-alone ki _ _ _ c.find_among_b.ensures refl c.in-Some.is refl) refl
+unfolding unjoined mark_numbered ki marked rows up_to_zero from_end text
+returns c =
+    let p = key-alone ki _ _ _ c.find_among_b.ensures refl c.in-Some.is refl in
+    mark-kept ki _ _ p refl c.kept.ensures

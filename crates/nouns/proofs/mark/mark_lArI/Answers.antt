@@ -4,14 +4,16 @@ use Rattle.turkish.specs.Letters.{text, from_end}
 use Rattle.theorems.specs.Simple.Marks.{marked, unjoined}
 use Rattle.theorems.specs.Simple.NounMarks.{lArI}
 use Rattle.keys.specs.Keys.{up_to_zero, rows}
-use Rattle.marks.proofs.Laws.Marks.{key-alone}
-use Rattle.nouns.proofs.Laws.Marks.{mark-none, mark-free}
+use Rattle.marks.specs.Reach.{mark_numbered}
+use Rattle.marks.proofs.Laws.Marks.{mark-nothing, mark-kept, key-alone}
 use Rattle.nouns.proofs.mark.mark_lArI.Goals as goal
 
 pub returns-in_default : goal.returns-in_default
 unfolding lArI marked rows up_to_zero from_end text
-returns-in_default c = mark-none lArI _ _ c.find_among_b.ensures c.in_default.is
+returns-in_default c = mark-nothing lArI _ _ _ c.find_among_b.ensures refl c.in_default.is
 
 pub returns : goal.returns
-unfolding unjoined lArI marked rows up_to_zero from_end text
-returns c = mark-free lArI _ _ (key-alone lArI _ _ _ c.find_among_b.ensures refl c.in-Some.is refl) refl
+unfolding unjoined mark_numbered lArI marked rows up_to_zero from_end text
+returns c =
+    let p = key-alone lArI _ _ _ c.find_among_b.ensures refl c.in-Some.is refl in
+    mark-kept lArI _ _ p refl c.kept.ensures

@@ -5,18 +5,20 @@ use Rattle.theorems.specs.Simple.Grammar.{joining}
 use Rattle.theorems.specs.Simple.Marks.{marked, by_y}
 use Rattle.theorems.specs.Simple.NounMarks.{yA}
 use Rattle.keys.specs.Keys.{up_to_zero, rows}
-use Rattle.marks.proofs.Laws.Marks.{key-open, key-joined}
-use Rattle.nouns.proofs.Laws.Marks.{mark-none, mark-bound}
+use Rattle.marks.specs.Reach.{mark_numbered}
+use Rattle.marks.proofs.Laws.Marks.{mark-nothing, mark-in-harmony, key-open, key-joined}
 use Rattle.nouns.proofs.mark.mark_yA.Goals as goal
 
 pub returns-in_default : goal.returns-in_default
 unfolding yA marked rows up_to_zero from_end text
-returns-in_default c = mark-none yA _ _ c.find_among_b.ensures c.in_default.is
+returns-in_default c = mark-nothing yA _ _ _ c.find_among_b.ensures refl c.in_default.is
 
-pub mark_suffix_with_optional_consonant-requires : goal.mark_suffix_with_optional_consonant-requires
+pub mark_suffix_with_optional_consonant-p-requires : goal.mark_suffix_with_optional_consonant-p-requires
 unfolding yA marked rows up_to_zero from_end text
-mark_suffix_with_optional_consonant-requires c = key-open yA _ _ _ c.find_among_b.ensures refl c.in-Some.is c.requires.opens
+mark_suffix_with_optional_consonant-p-requires c = key-open yA _ _ _ c.find_among_b.ensures refl c.in-Some.is c.requires.opens
 
 pub returns : goal.returns
-unfolding joining by_y yA marked rows up_to_zero from_end text
-returns c = mark-bound yA _ _ (key-joined yA _ _ _ c.find_among_b.ensures refl c.in-Some.is c.mark_suffix_with_optional_consonant.ensures) refl c.in_harmony.ensures
+unfolding joining by_y mark_numbered yA marked rows up_to_zero from_end text
+returns c =
+    let p = key-joined yA _ _ _ c.find_among_b.ensures refl c.in-Some.is c.mark_suffix_with_optional_consonant-p.ensures in
+    mark-in-harmony yA _ _ p refl c.kept_in_harmony.ensures

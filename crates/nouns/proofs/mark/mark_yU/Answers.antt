@@ -5,18 +5,20 @@ use Rattle.theorems.specs.Simple.Grammar.{joining}
 use Rattle.theorems.specs.Simple.Marks.{marked, by_y}
 use Rattle.theorems.specs.Simple.NounMarks.{yU, letters_U}
 use Rattle.keys.specs.Keys.{up_to_zero, rows}
-use Rattle.marks.proofs.Laws.Marks.{key-open, key-joined}
-use Rattle.nouns.proofs.Laws.Marks.{mark-none, mark-bound}
+use Rattle.marks.specs.Reach.{mark_numbered}
+use Rattle.marks.proofs.Laws.Marks.{mark-nothing, mark-in-harmony, key-open, key-joined}
 use Rattle.nouns.proofs.mark.mark_yU.Goals as goal
 
 pub returns-in_default : goal.returns-in_default
 unfolding yU letters_U marked rows up_to_zero from_end text
-returns-in_default c = mark-none yU _ _ c.find_among_b.ensures c.in_default.is
+returns-in_default c = mark-nothing yU _ _ _ c.find_among_b.ensures refl c.in_default.is
 
-pub mark_suffix_with_optional_consonant-requires : goal.mark_suffix_with_optional_consonant-requires
+pub mark_suffix_with_optional_consonant-p-requires : goal.mark_suffix_with_optional_consonant-p-requires
 unfolding yU letters_U marked rows up_to_zero from_end text
-mark_suffix_with_optional_consonant-requires c = key-open yU _ _ _ c.find_among_b.ensures refl c.in-Some.is c.requires.opens
+mark_suffix_with_optional_consonant-p-requires c = key-open yU _ _ _ c.find_among_b.ensures refl c.in-Some.is c.requires.opens
 
 pub returns : goal.returns
-unfolding joining by_y yU letters_U marked rows up_to_zero from_end text
-returns c = mark-bound yU _ _ (key-joined yU _ _ _ c.find_among_b.ensures refl c.in-Some.is c.mark_suffix_with_optional_consonant.ensures) refl c.in_harmony.ensures
+unfolding joining by_y mark_numbered yU letters_U marked rows up_to_zero from_end text
+returns c =
+    let p = key-joined yU _ _ _ c.find_among_b.ensures refl c.in-Some.is c.mark_suffix_with_optional_consonant-p.ensures in
+    mark-in-harmony yU _ _ p refl c.kept_in_harmony.ensures

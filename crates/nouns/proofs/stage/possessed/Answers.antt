@@ -2,15 +2,18 @@
 use Rattle.theorems.specs.Simple.Grammar.{mark_of}
 use Rattle.theorems.specs.Simple.NounMarks.{possessives}
 use Rattle.theorems.specs.Simple.Nouns.{chain, plural, possessed}
+use Rattle.marks.proofs.Laws.Marks.{place-reach}
 use Rattle.nouns.proofs.Laws.Passing.{leads-open, step-sees, both-perhaps}
 use Rattle.nouns.proofs.stage.possessed.Goals as goal
 
 pub step_to-t-requires : goal.step_to-t-requires
-step_to-t-requires c = leads-open _ _ _ c.mark_possessives.ensures c.requires.opens c.in_ok-mark_possessives.was
+step_to-t-requires c = leads-open _ _ _ (place-reach possessives _ _ c.mark_possessives.ensures c.place.ensures) c.requires.opens c.in_ok-place.was
 
 pub plural-requires : goal.plural-requires
-plural-requires c = step-sees _ _ _ c.mark_possessives.ensures c.requires c.in_ok-mark_possessives.was c.step_to-t.ensures
+plural-requires c = step-sees _ _ _ (place-reach possessives _ _ c.mark_possessives.ensures c.place.ensures) c.requires c.in_ok-place.was c.step_to-t.ensures
 
 pub returns : goal.returns
 unfolding possessed
-returns c = both-perhaps _ _ (mark_of possessives) (plural chain) c.mark_possessives.ensures c.in_ok-mark_possessives.was c.step_to-t.ensures c.plural.ensures c.unwrap_or.ensures
+returns c =
+    let p = place-reach possessives _ _ c.mark_possessives.ensures c.place.ensures in
+    both-perhaps _ _ (mark_of possessives) (plural chain) p c.in_ok-place.was c.step_to-t.ensures c.plural.ensures c.unwrap_or.ensures

@@ -6,14 +6,10 @@ use Rattle.theorems.specs.Simple.Pieces.{trace_of, trace}
 use Rattle.theorems.specs.Simple.Stage.{branch5}
 use Rattle.keys.proofs.Laws.Sees.{sees-made}
 use Rattle.marks.proofs.Laws.Marks.{reach-fails}
-use Rattle.stages.specs.Groups.{person_alone_of, fifth_ends}
+use Rattle.stages.specs.Groups.{person_alone_of}
 use Rattle.stages.proofs.Laws.Trails.{only_marks, steps-group, along-unfit, cut-none, after_none, open-cut, try-cut, try-none}
-use Rattle.stages.proofs.Laws.Branches.{fifth-begins, cut-unbegun, along-seen}
+use Rattle.stages.proofs.Laws.Branches.{along-seen}
 use Rattle.stages.proofs.stage.fifth_branch.Goals as goal
-
-pub returns-then-not-ends_fifth : goal.returns-then-not-ends_fifth
-returns-then-not-ends_fifth c =
-    cut-unbegun fifth_ends branch5 fifth-begins _ c.args.s c.requires (sym c.ends_fifth.ensures ∙ c.if-not-ends_fifth.true)
 
 pub returns-in_err-m : goal.returns-in_err-m
 unfolding trace branch5

@@ -1,8 +1,5 @@
 -- `stages::stage::fourth_branch` meets its contract: what must follow nUz goes on from where that leads. Assumes nothing.
-use Prim.Native.Char.{code}
 use mathlib.Core.Path.{refl, ◌∙◌}
-use lib.Dec.{eqb}
-use borrow.Author.Tests.{ne_eqb}
 use Rattle.theorems.specs.Simple.Marks.{nUz}
 use Rattle.theorems.specs.Simple.Pieces.{trace}
 use Rattle.theorems.specs.Simple.Stage.{branch4}
@@ -10,11 +7,8 @@ use Rattle.keys.proofs.Laws.Sees.{sees-made}
 use Rattle.marks.proofs.Laws.Marks.{reach-fails}
 use Rattle.stages.specs.Groups.{after_nUz_of}
 use Rattle.stages.proofs.Laws.Trails.{only_marks, steps-mark, steps-group, cut-none, after_none, open_step, along-step, then-none, then-cut}
-use Rattle.stages.proofs.Laws.Branches.{fourth-begins, cut-unbegun, reach-seen}
+use Rattle.stages.proofs.Laws.Branches.{reach-seen}
 use Rattle.stages.proofs.stage.fourth_branch.Goals as goal
-
-pub returns-then-s-ne122 : goal.returns-then-s-ne122
-returns-then-s-ne122 c = cut-unbegun (λ a. eqb a (code "z")) branch4 fourth-begins _ c.args.s c.requires (ne_eqb _ (code "z") c.if-s-ne122.true)
 
 pub returns-in_err-m : goal.returns-in_err-m
 unfolding trace branch4

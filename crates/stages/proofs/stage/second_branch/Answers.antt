@@ -4,15 +4,11 @@ use Rattle.theorems.specs.Simple.Grammar.{mark, ◌then◌}
 use Rattle.theorems.specs.Simple.Marks.{cAsInA, ymUs}
 use Rattle.theorems.specs.Simple.Pieces.{trace}
 use Rattle.theorems.specs.Simple.Stage.{person, branch2}
-use Rattle.keys.specs.Ends.{is_a}
 use Rattle.keys.proofs.Laws.Sees.{sees-made}
 use Rattle.marks.proofs.Laws.Marks.{reach-fails}
 use Rattle.stages.proofs.Laws.Trails.{steps-mark, along-unfit, cut-none, after_none, open_step, then-none, then-cut}
-use Rattle.stages.proofs.Laws.Branches.{second-begins, cut-unbegun, along-seen}
+use Rattle.stages.proofs.Laws.Branches.{along-seen}
 use Rattle.stages.proofs.stage.second_branch.Goals as goal
-
-pub returns-then-not-is_A : goal.returns-then-not-is_A
-returns-then-not-is_A c = cut-unbegun is_a branch2 second-begins _ c.args.s c.requires (sym c.is_A.ensures ∙ c.if-not-is_A.true)
 
 pub returns-in_err-m : goal.returns-in_err-m
 unfolding trace branch2

@@ -1,9 +1,6 @@
 -- `stages::stage::sixth_branch` meets its contract: a person's ending or nothing and ymUs_ are tried whole from where DUr leads, after its deletion.
 -- Assumes nothing.
-use Prim.Native.Char.{code}
 use mathlib.Core.Path.{sym, ◌∙◌}
-use lib.Dec.{eqb}
-use borrow.Author.Tests.{ne_eqb}
 use Rattle.theorems.specs.Simple.Grammar.{mark, ◌then◌, try}
 use Rattle.theorems.specs.Simple.Marks.{DUr, ymUs}
 use Rattle.theorems.specs.Simple.Pieces.{trace}
@@ -11,11 +8,8 @@ use Rattle.theorems.specs.Simple.Stage.{person, branch6}
 use Rattle.keys.proofs.Laws.Sees.{sees-made}
 use Rattle.marks.proofs.Laws.Marks.{reach-fails}
 use Rattle.stages.proofs.Laws.Trails.{steps-mark, along-unfit, cut-none, after_none, open-cut, try-cut, try-none}
-use Rattle.stages.proofs.Laws.Branches.{sixth-begins, cut-unbegun, along-seen}
+use Rattle.stages.proofs.Laws.Branches.{along-seen}
 use Rattle.stages.proofs.stage.sixth_branch.Goals as goal
-
-pub returns-then-s-ne114 : goal.returns-then-s-ne114
-returns-then-s-ne114 c = cut-unbegun (λ a. eqb a (code "r")) branch6 sixth-begins _ c.args.s c.requires (ne_eqb _ (code "r") c.if-s-ne114.true)
 
 pub returns-in_err-m : goal.returns-in_err-m
 unfolding trace branch6

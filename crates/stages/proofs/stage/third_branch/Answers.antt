@@ -1,8 +1,5 @@
 -- `stages::stage::third_branch` meets its contract: what may follow lAr is tried from where that leads, after its deletion. Assumes nothing.
-use Prim.Native.Char.{code}
 use mathlib.Core.Path.{refl, ◌∙◌}
-use lib.Dec.{eqb}
-use borrow.Author.Tests.{ne_eqb}
 use Rattle.theorems.specs.Simple.Grammar.{try}
 use Rattle.theorems.specs.Simple.Marks.{lAr}
 use Rattle.theorems.specs.Simple.Pieces.{trace}
@@ -11,11 +8,8 @@ use Rattle.keys.proofs.Laws.Sees.{sees-made}
 use Rattle.marks.proofs.Laws.Marks.{reach-fails}
 use Rattle.stages.specs.Groups.{after_lAr_of}
 use Rattle.stages.proofs.Laws.Trails.{only_marks, steps-mark, steps-group, cut-none, after_none, open-cut, along-step, try-cut, try-none}
-use Rattle.stages.proofs.Laws.Branches.{cut-unset, third-begins, cut-unbegun, reach-seen}
+use Rattle.stages.proofs.Laws.Branches.{cut-unset, reach-seen}
 use Rattle.stages.proofs.stage.third_branch.Goals as goal
-
-pub returns-then-s-ne114 : goal.returns-then-s-ne114
-returns-then-s-ne114 c = cut-unbegun (λ a. eqb a (code "r")) branch3 third-begins _ c.args.s c.requires (ne_eqb _ (code "r") c.if-s-ne114.true)
 
 pub returns-in_err-m : goal.returns-in_err-m
 unfolding trace branch3
