@@ -4,8 +4,6 @@
 // fails: `unwrap_or(t.c.cursor)`. That is written out, a step and what stands before it being two calls that no third function makes plainer.
 ghost use Rattle.std.specs.Prelude.{◌≡◌, ◌≤◌, length};
 ghost use Rattle.utf8.specs.Behind.{behind};
-ghost use Rattle.theorems.specs.Simple.Grammar.{mark_of};
-ghost use Rattle.theorems.specs.Simple.Marks.{lAr};
 ghost use Rattle.theorems.specs.Simple.Nouns.{chain, plural, possessed, owned, owned_by_sU_of, after_ncA_of, pronominal, after_ndAn_of, after_DAn_of, after_nUn_of, after_DA_of, noun_rest};
 ghost use Rattle.keys.specs.Seen.{Sees};
 ghost use Rattle.keys.specs.Passed.{passes};
@@ -38,7 +36,7 @@ fn plural(w: &[u8], s: Seen) -> Option<usize>
     Some(stem_suffix_chain_before_ki(w, t).unwrap_or(t.c.cursor))
 }
 
-// Possessives, and a plural before it in the word (line 388, and within 368, 400, 412).
+// Possessives, and a plural before it in the word (line 388, and within 368, 400, 412). Inlined here and below, so that only `owned` is called.
 #[inline(always)]
 #[tactic(auto, using(crate::proofs::Laws::Passing::steps), unfolding(theorems::specs::Simple::Nouns::possessed))]
 fn possessed(w: &[u8], s: Seen) -> Option<usize>
@@ -60,7 +58,7 @@ fn owned_by_sU(w: &[u8], s: Seen) -> Option<usize>
     Some(plural(w, t).unwrap_or(t.c.cursor))
 }
 
-// Possessives or sU, and a plural before it in the word (lines 368, 400, 412).
+// Possessives or sU, and a plural before it in the word (lines 368, 400, 412). Left out of line, since it is called from several lines.
 #[inline(never)]
 #[tactic(auto, using(crate::proofs::Laws::Passing::steps))]
 fn owned(w: &[u8], s: Seen) -> Option<usize>

@@ -60,7 +60,7 @@ impl<'a> Word<'a> {
 }
 
 // The number of the word's refusal, and the caller's own where the word is accepted and a buffer of `room` bytes is shorter than the
-// caller needs; 0 where neither applies.
+// caller needs; 0 where neither applies. It stands beside `with_room` since it takes any number of a caller's own.
 pub fn refusal_short(w: &[u8], number: u32, need: usize, room: usize) -> u32
     ensures { result ≡ refusal_short_of number w.now need room }
 {
