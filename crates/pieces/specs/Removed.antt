@@ -26,25 +26,25 @@ number_of YmUs = 11
 number_of Yken = 12
 
 -- a mark kept stands in the word, before place `end`
-pub record Stands (w : List ℕ) (s : Option Stop) (end : ℕ) : Type 0 where
-  pub before : (x : Stop) → s ≡ Some x → x.at < end
+pub record Stands (w : List ℕ) (s : Option (Stop Mark)) (end : ℕ) : Type 0 where
+  pub before : (x : Stop Mark) → s ≡ Some x → x.at < end
   pub within : end ≤ length w
 
-unfoldable pub piece_of : List ℕ → Option Stop → ℕ → Piece
+unfoldable pub piece_of : List ℕ → Option (Stop Mark) → ℕ → Piece
 piece_of w None end = unused
 piece_of w (Some s) end =
     record { kind = kind_at (number_of s.kind) (eqb (get_or w s.at 0) 0x79); first = s.at; last = end - 1 }
 
 -- where a mark kept begins, 0 where there is none
-unfoldable pub start_of : Option Stop → ℕ
+unfoldable pub start_of : Option (Stop Mark) → ℕ
 start_of None = 0
 start_of (Some s) = s.at
 
-unfoldable pub count_of : Trail → ℕ
+unfoldable pub count_of : Trail Mark → ℕ
 count_of t = cond (is_some t.first) (cond (is_some t.second) (cond (is_some t.third) 3 2) 1) 0
 
 -- from the word's end inward
-unfoldable pub entries_of : List ℕ → Trail → List Piece
+unfoldable pub entries_of : List ℕ → Trail Mark → List Piece
 entries_of w t =
     piece_of w t.first (length w) ∷ piece_of w t.second (start_of t.first) ∷ piece_of w t.third (start_of t.second) ∷ []
 

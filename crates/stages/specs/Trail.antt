@@ -13,20 +13,24 @@ use Rattle.stages.specs.declared.trail.Trail.{Trail}
 use Rattle.stages.specs.declared.trail.Way.{Way}
 use Rattle.stages.specs.declared.trail.Branch.{Branch}
 
+-- what a branch of the suffix stage keeps: its marks are of the twelve
+abbrev pub Kept : Type 0
+Kept = Way Mark
+
 -- a mark that begins at a place
-unfoldable pub stop_at : Option Mark → ℕ → Option Stop
+unfoldable pub stop_at : {K : Type 0} → Option K → ℕ → Option (Stop K)
 stop_at kind at = option_map (λ k. record { kind = k; at = at }) kind
 
 -- no mark kept
-unfoldable pub no_trail : Trail
+unfoldable pub no_trail : {K : Type 0} → Trail K
 no_trail = record { first = None; second = None; third = None }
 
 -- marks kept behind one more
-unfoldable pub behind_trail : Option Stop → Trail → Trail
+unfoldable pub behind_trail : {K : Type 0} → Option (Stop K) → Trail K → Trail K
 behind_trail s t = record { first = s; second = t.first; third = t.second }
 
 -- the marks taken from a record on, one behind the other
-unfoldable pub trail_of : List ℕ → Cursor → List Taken → Trail
+unfoldable pub trail_of : List ℕ → Cursor → List Taken → Trail Mark
 trail_of w c [] = no_trail
 trail_of w c (t ∷ ts) = behind_trail (stop_at (mark_numbered t.kind) (back_by w c t.size).cursor) (trail_of w (back_by w c t.size) ts)
 
@@ -36,15 +40,15 @@ heard_along w c [] = None
 heard_along w c (t ∷ ts) = option_or (heard_of w c t.found) (heard_along w (back_by w c t.size) ts)
 
 -- both
-unfoldable pub way_of : List ℕ → Cursor → List Taken → Way
+unfoldable pub way_of : List ℕ → Cursor → List Taken → Kept
 way_of w c ts = record { trail = trail_of w c ts; heard = heard_along w c ts }
 
 -- neither
-unfoldable pub no_way : Way
+unfoldable pub no_way : {K : Type 0} → Way K
 no_way = record { trail = no_trail; heard = None }
 
 -- both behind one more mark and what that one found
-unfoldable pub behind_way : Option Mark → ℕ → Option Harmony → Way → Way
+unfoldable pub behind_way : {K : Type 0} → Option K → ℕ → Option Harmony → Way K → Way K
 behind_way kind at told y = record { trail = behind_trail (stop_at kind at) y.trail; heard = option_or told y.heard }
 
 -- a branch's answer: the record moved back over all that it takes

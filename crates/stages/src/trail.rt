@@ -7,17 +7,17 @@ use marks::marked::{Mark, Marked};
 use utf8::cursor::Cursor;
 use vowels::harmony::Harmony;
 
-// A mark kept: which it is, and the place at which it begins.
+// A mark kept: which it is, and the place at which it begins. A caller may tell its marks apart by a kind of its own.
 #[derive(Clone, Copy)]
-pub struct Stop {
-    pub kind: Mark,
+pub struct Stop<K = Mark> {
+    pub kind: K,
     pub at: usize,
 }
 
-impl Stop {
-    // A mark's, if it is one of the suffix stage.
+impl<K: Copy> Stop<K> {
+    // A mark's, if it has a kind, as those of the suffix stage do.
     #[tactic(auto, unfolding(crate::specs::Trail::stop_at))]
-    fn of(kind: Option<Mark>, at: usize) -> Option<Stop>
+    fn of(kind: Option<K>, at: usize) -> Option<Stop<K>>
         ensures { result ≡ stop_at kind at }
     {
         let kind = kind?;
@@ -27,10 +27,10 @@ impl Stop {
 
 // The first of them ends at the word's end, each further one where the one before it begins.
 #[derive(Clone, Copy)]
-pub struct Trail {
-    pub first: Option<Stop>,
-    pub second: Option<Stop>,
-    pub third: Option<Stop>,
+pub struct Trail<K = Mark> {
+    pub first: Option<Stop<K>>,
+    pub second: Option<Stop<K>>,
+    pub third: Option<Stop<K>>,
 }
 
 impl Trail {
@@ -43,20 +43,22 @@ impl Trail {
 
 // What a branch keeps on its way: its marks, and what the first of them found that tests harmony.
 #[derive(Clone, Copy)]
-pub struct Way {
-    pub trail: Trail,
+pub struct Way<K = Mark> {
+    pub trail: Trail<K>,
     pub heard: Option<Harmony>,
 }
 
 impl Way {
     pub const NONE: Way = Way {
-        trail: Trail::NONE,
+        trail: Trail::<Mark>::NONE,
         heard: None,
     };
+}
 
+impl<K: Copy> Way<K> {
     // The same behind one mark that was kept before, and what that one found.
     #[tactic(auto, unfolding(crate::specs::Trail::behind_way))]
-    pub fn behind(self, kind: Option<Mark>, at: usize, told: Option<Harmony>) -> Way
+    pub fn behind(self, kind: Option<K>, at: usize, told: Option<Harmony>) -> Way<K>
         ensures { result ≡ behind_way kind at told self }
     {
         Way {

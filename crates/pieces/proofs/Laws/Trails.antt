@@ -50,7 +50,7 @@ held t s =
     record { mark = found.0; is = found.1.0; number = found.1.1 }
 
 -- a mark that took some characters from a record on, as the trail holds it
-abbrev pub stop_of : List ℕ → Cursor → Mark → ℕ → Stop
+abbrev pub stop_of : List ℕ → Cursor → Mark → ℕ → Stop Mark
 stop_of w c m n = record { kind = m; at = (back_by w c n).cursor }
 
 -- the pieces of marks taken from a record on
@@ -66,11 +66,11 @@ spare (suc n) = unused ∷ spare n
 -- ---- the marks of a trail ----
 
 -- a trail of these three
-abbrev pub three : Option Stop → Option Stop → Option Stop → Trail
+abbrev pub three : Option (Stop Mark) → Option (Stop Mark) → Option (Stop Mark) → Trail Mark
 three a b d = record { first = a; second = b; third = d }
 
 -- what stands in the trail of at most three marks: each mark, and none after them
-pub data Marks (w : List ℕ) (c : Cursor) : List Taken → Trail → Type 0 where
+pub data Marks (w : List ℕ) (c : Cursor) : List Taken → Trail Mark → Type 0 where
   none : Marks w c [] (three None None None)
   one : (t : Taken) (a : Held t) → Marks w c (t ∷ []) (three (Some (stop_of w c a.mark t.size)) None None)
   two : (t u : Taken) (a : Held t) (b : Held u)
@@ -100,7 +100,7 @@ marks-trail w c (t ∷ u ∷ v ∷ x ∷ ts) s h = absurd (omega arith)
 
 module _ (w : List ℕ) (c : Cursor) where
   -- as many as there are marks
-  pub count-marks : {ts : List Taken} {t : Trail} → Marks w c ts t → count_of t ≡ length ts
+  pub count-marks : {ts : List Taken} {t : Trail Mark} → Marks w c ts t → count_of t ≡ length ts
   unfolding count_of
   count-marks none = refl
   count-marks (one t a) = refl
@@ -108,7 +108,7 @@ module _ (w : List ℕ) (c : Cursor) where
   count-marks (all t u v a b d) = refl
 
   -- one for each, and then entries that are not used
-  pub entries-marks : {ts : List Taken} {t : Trail} → c.cursor ≡ length w → Marks w c ts t
+  pub entries-marks : {ts : List Taken} {t : Trail Mark} → c.cursor ≡ length w → Marks w c ts t
       → entries_of w t ≡ listed w c ts ++ spare (most_pieces - length ts)
   unfolding entries_of piece_of start_of listed spare most_pieces stop_at
   entries-marks e none = refl
@@ -131,7 +131,7 @@ spare-unused (suc n) = ap (λ (ps : List Piece). unused ∷ ps) (spare-unused n)
 -- ---- where the marks stand ----
 
 -- a mark begins where its piece does, before the piece's end
-stop-falls : (w : List ℕ) (s : Stop) (end : ℕ) {m n : ℕ} {ps : List Span} → EndToEnd n (told (piece_of w (Some s) end) ∷ ps) m
+stop-falls : (w : List ℕ) (s : Stop Mark) (end : ℕ) {m n : ℕ} {ps : List Span} → EndToEnd n (told (piece_of w (Some s) end) ∷ ps) m
     → (s.at < n) × EndToEnd s.at ps m
 unfolding told piece_of
 stop-falls w s end r = go refl r
@@ -140,7 +140,7 @@ stop-falls w s end r = go refl r
     go is (onward p x y r) = (omega arith, rw is at r)
 
 -- the marks of a trail stand in the word, each before the one that was kept before it
-pub record StandAll (w : List ℕ) (t : Trail) : Type 0 where
+pub record StandAll (w : List ℕ) (t : Trail Mark) : Type 0 where
   pub first : Stands w t.first (length w)
   pub second : Stands w t.second (start_of t.first)
   pub third : Stands w t.third (start_of t.second)
@@ -150,11 +150,11 @@ no_stop : (w : List ℕ) (end : ℕ) → end ≤ length w → Stands w None end
 no_stop w end h = record { before = λ x e. cc; within = h }
 
 -- one that stands before a place of the word
-a-stop : (w : List ℕ) (s : Stop) (end : ℕ) → s.at < end → end ≤ length w → Stands w (Some s) end
+a-stop : (w : List ℕ) (s : Stop Mark) (end : ℕ) → s.at < end → end ≤ length w → Stands w (Some s) end
 a-stop w s end h l = record { before = λ x e. (let same : s ≡ x = cc in rw (← same) h); within = l }
 
 -- so do the marks whose pieces lie end to end from the word's end
-pub stands-marks : (w : List ℕ) (c : Cursor) {m : ℕ} {ts : List Taken} {t : Trail} → Marks w c ts t
+pub stands-marks : (w : List ℕ) (c : Cursor) {m : ℕ} {ts : List Taken} {t : Trail Mark} → Marks w c ts t
     → EndToEnd (length w) (map told (listed w c ts)) m → StandAll w t
 unfolding listed stop_at start_of
 stands-marks w c none r =

@@ -20,10 +20,8 @@ use Rattle.std.specs.Option.{option_or}
 use Rattle.vowels.specs.declared.harmony.Harmony.{Harmony}
 use Rattle.vowels.specs.Harmony.{heard_of}
 use Rattle.marks.specs.Reach.{Answer, mark_numbered, leading, leading_heard, reach}
-use Rattle.stages.specs.declared.trail.Trail.{Trail}
-use Rattle.stages.specs.declared.trail.Way.{Way}
 use Rattle.stages.specs.declared.trail.Branch.{Branch}
-use Rattle.stages.specs.Trail.{stop_at, behind_trail, trail_of, heard_along, way_of, no_way, behind_way, along, cut_to, one_mark, behind_branch, cut}
+use Rattle.stages.specs.Trail.{Kept, stop_at, behind_trail, trail_of, heard_along, way_of, no_way, behind_way, along, cut_to, one_mark, behind_branch, cut}
 
 -- ---- one mark ----
 
@@ -102,7 +100,7 @@ steps-group w c p e = steps-one w c (one-group p (behind w c) e)
 -- ---- what a command answers ----
 
 -- equal records and marks make equal answers
-fits-same : {d e : Cursor} {t u : Way} → d ≡ e → t ≡ u → ◌≡◌ {A = Option Branch} (Some (record { end = d; way = t })) (Some (record { end = e; way = u }))
+fits-same : {d e : Cursor} {t u : Kept} → d ≡ e → t ≡ u → ◌≡◌ {A = Option Branch} (Some (record { end = d; way = t })) (Some (record { end = e; way = u }))
 fits-same d t = rw (d, t)
 
 -- one that does not fit keeps nothing
@@ -171,8 +169,7 @@ cut_to-deleted : (w : List ℕ) (c : Cursor) (o : Trace) → cut_to w (deleted c
 unfolding cut_to deleted back_by move_to way_of
 cut_to-deleted w c none = refl
 cut_to-deleted w c (keeps ts f) =
-    ap₂ (λ (t : Trail) (h : Option Harmony). Some (record { end = deleted (back_by w c (total ts)); way = record { trail = t; heard = h } }))
-    (trail_of-limit w c c.cursor ts) (heard_along-limit w c c.cursor ts)
+    rw (trail_of-limit w c c.cursor ts, heard_along-limit w c c.cursor ts)
 
 -- ---- what it answers after a step ----
 

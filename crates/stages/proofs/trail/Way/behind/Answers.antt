@@ -4,4 +4,4 @@ use Rattle.stages.proofs.trail.Way.behind.Goals as goal
 
 pub returns : goal.returns
 unfolding behind_trail behind_way
-returns c = rw (c.of.ensures, c.or.ensures)
+returns g c = rw (c.of.ensures, c.or.ensures)
